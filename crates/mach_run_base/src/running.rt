@@ -247,11 +247,8 @@ fn prepare<'a, R: Wait>(
     ensures tied { IfOk result (λ ready. ready.pass.table ≡ shared.now.table) }
     ensures ready { IfOk result (λ ready. IsReady held.old.kernel.log block ready.pass ready.calls.items) }
 {
-    let Enrolled {
-        number: _,
-        mut pass,
-        calls,
-    } = block;
+    let mut pass = block.pass;
+    let calls = block.calls;
     held.show(shared.board(), &mut pass);
     let gate = hall.enter(rt, alloc)?;
     Ok(Block { pass, calls, gate })
@@ -285,20 +282,12 @@ fn write_blocks<W: Write>(
     Ok(())
 }
 
-/// Writes a block's number, and how its calls were answered.
+/// Writes a block's number, and how its calls were answered, one a line.
 fn write_block<W: Write>(number: u32, answers: &[Answer], out: &mut W) -> Result<(), Fault<'static>>
     ensures written { OnOk result (Appends (W.contents out.old) (W.contents out.new) (thread_line number ++ flat_map answer_line answers.now)) }
     ensures recorded { OnOk result (All IsRecorded answers.now) }
 {
     write_thread_line(number, out)?;
-    write_answers(answers, out)
-}
-
-/// Writes how the calls of a block were answered, one a line.
-fn write_answers<W: Write>(answers: &[Answer], out: &mut W) -> Result<(), Fault<'static>>
-    ensures written { OnOk result (Appends (W.contents out.old) (W.contents out.new) (flat_map answer_line answers.now)) }
-    ensures recorded { OnOk result (All IsRecorded answers.now) }
-{
     for answer in answers {
         write_answer(answer, out)?;
     }
