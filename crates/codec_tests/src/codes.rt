@@ -2,7 +2,8 @@
 use mach_types::{Disposition, KernReturn, MsgReturn, Right};
 use std::alloc::Global;
 use std::fmt;
-use tracer_base::{ScriptFault, TextFault};
+use text_reader::ScriptFault;
+use tracer_base::TextFault;
 
 fn is_printed<T: fmt::Display>(alloc: Global, value: &T, text: &str) -> bool {
     match value.to_string(alloc) {

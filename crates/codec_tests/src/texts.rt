@@ -3,9 +3,8 @@ use mach_types::{
     Bytes, Event, Name, NameList, NameTypes, PortId, Reply, SetId, Status, TaskId, Waited,
 };
 use std::alloc::Global;
-use tracer_base::{
-    ScriptFault, TextFault, read_call, read_reply, read_script, write_call, write_reply,
-};
+use text_reader::{ScriptFault, read_call, read_reply, read_script};
+use tracer_base::{TextFault, write_call, write_reply};
 
 fn reads_as(alloc: Global, line: &str, call: Event) -> bool {
     match read_call(alloc, line.as_bytes()) {

@@ -6,7 +6,8 @@ use std::alloc::Global;
 use std::fmt::Write;
 use std::sync::Wait;
 use std::thread::Threads;
-use tracer_base::{read_script, write_reply_line};
+use text_reader::read_script;
+use tracer_base::write_reply_line;
 
 // The smallest message, and the status that it leaves.
 const SMALLEST_MESSAGE: (&str, &str) = (

@@ -12,7 +12,7 @@ use Rattle.std.proofs.lemmas.List.Elements.{All-nil}
 use Rattle.tracer_base.specs.declared.blocks.ScriptLine.{ScriptLine}
 use Rattle.tracer_base.specs.Blocks.{FitsSaid, said_text, said_line}
 use Rattle.tracer_base.specs.Words.{Lacks, line}
-use Rattle.tracer_base.proofs.BlockLemmas.{said_word, said_arguments, said_parts, plain-said}
+use Rattle.text_reader.proofs.BlockLemmas.{said_word, said_arguments, said_parts, plain-said}
 use Rattle.tracer_base.proofs.WordLemmas.{Lacks-line, texts_push}
 use Rattle.mach_run_base.specs.Scripts.{IsScript, IsFirstBadLine}
 use Rattle.mach_run_base.proofs.ScriptLemmas.{last-fits}

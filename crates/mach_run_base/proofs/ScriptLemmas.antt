@@ -13,7 +13,7 @@ use Rattle.tracer_base.specs.declared.blocks.ScriptLine.{ScriptLine}
 use Rattle.mach_run_base.specs.declared.script.ThreadCalls.{ThreadCalls}
 use Rattle.tracer_base.specs.Blocks.{FitsSaid, said_text, said_line}
 use Rattle.tracer_base.specs.Words.{Lacks, line}
-use Rattle.tracer_base.proofs.BlockLemmas.{said_word, said_arguments, said_parts, said_split, plain-said, is_thread, same_number}
+use Rattle.text_reader.proofs.BlockLemmas.{said_word, said_arguments, said_parts, said_split, plain-said, is_thread, same_number}
 use Rattle.tracer_base.proofs.WordLemmas.{Lacks-line, same_parts}
 use Rattle.mach_run_base.specs.Scripts.{begun, has_number, said_call, said_block, IsScript, IsFirstBadLine}
 

@@ -8,7 +8,8 @@ ghost use Rattle.mach_run_base.specs.Scripts.{IsScript, has_number, said_call, s
 use mach_msg_threads::Call;
 use mach_types::Event;
 use std::alloc::Global;
-use tracer_base::{MessageCall, ScriptLine, TextFault, read_script_line};
+use text_reader::read_script_line;
+use tracer_base::{MessageCall, ScriptLine, TextFault};
 
 /// How many places a full list of calls gets at least, beside a quarter of its length.
 const LEAST_GROWTH: usize = 16;

@@ -1,7 +1,7 @@
 //! Where want of memory may refuse a call: what the rules of `docs/CALLS.md` say, whatever memory there is.
 use kernel_core::{Kernel, run};
 use std::alloc::Global;
-use tracer_base::read_script;
+use text_reader::read_script;
 
 // The codes for want of memory of a kernel call, of a send and of a receipt.
 const SHORTAGE: Option<u32> = Some(6);

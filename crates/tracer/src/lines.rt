@@ -11,9 +11,8 @@ use mach_types::Reply;
 use std::alloc::Global;
 use std::io;
 use std::io::Write;
-use tracer_base::{
-    TextFault, Words, next_call, next_reply, split_once, write_call, write_reply_line,
-};
+use text_reader::{next_call, next_reply};
+use tracer_base::{TextFault, Words, split_once, write_call, write_reply_line};
 
 /// Writes the entry as a line of a history: its caller, its call, `->` and its reply, each after one space,
 /// and a line feed.

@@ -1,4 +1,3 @@
-pub mod BlockLemmas
 pub mod NumberLemmas
 pub mod HexLemmas
 pub mod WordLemmas
@@ -7,4 +6,3 @@ pub mod CallLemmas
 pub mod SameWords
 pub mod SameCalls
 pub mod SameReplies
-pub mod NotifyLemmas

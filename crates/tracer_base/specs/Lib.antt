@@ -1,6 +1,5 @@
 pub mod Blocks
 pub mod Calls
-pub mod Keywords
 pub mod Numbers
 pub mod Replies
 pub mod Text

@@ -1,226 +1,15 @@
-//! The text of calls.
-ghost use Rattle.std.specs.Prelude.{◌≡◌, ◌<◌, ◌^◌, ℕ, ℤ, Bool, List, [], ◌∷◌, ◌++◌, All, IfOk, IsOkUnless, OnOk, codes, decimal};
+//! Calls are written.
+ghost use Rattle.std.specs.Prelude.{[], ◌∷◌, ◌++◌, OnOk, codes, decimal};
 ghost use Rattle.std.specs.Fmt.{signed_decimal};
 ghost use Rattle.std.specs.Io.KnownBytes.{Appends};
-ghost use Rattle.mach_types.specs.declared.calls.Event.{Event as AnyEvent};
-ghost use Rattle.tracer_base.specs.Calls.{Fits, call_word, call_arguments, call_words, call_text};
-ghost use Rattle.mach_types.specs.declared.calls.Waited.{Waited as AnyWaited};
-ghost use Rattle.tracer_base.specs.Numbers.{FitsDelta};
-ghost use Rattle.tracer_base.specs.Text.{bytes_text, flag_text, waited_words, FitsWaited};
-ghost use Rattle.tracer_base.specs.Words.{line, IsRead};
-ghost use Rattle.tracer_base.specs.Keywords.{IsNoRightWord, IsNoNameWord};
+ghost use Rattle.tracer_base.specs.Calls.{call_text};
+ghost use Rattle.tracer_base.specs.Text.{bytes_text, flag_text, waited_words};
+ghost use Rattle.tracer_base.specs.Words.{line};
 
-use crate::fault::TextFault;
 use crate::hexadecimal::write_bytes;
-use crate::words::Words;
 use mach_types::{Event, Name, TaskId, Waited};
-use std::alloc::Global;
 use std::io;
 use std::io::Write;
-
-/// The call that the text says: the call's keyword, and its arguments, each after one space.
-///
-/// `Bad` comes where the text is that of no call, `OutOfMemory` where memory for a message is
-/// refused. Time and memory grow with the length of the text.
-pub fn read_call(alloc: Global, text: &[u8]) -> Result<Event, TextFault>
-    ensures ok { IfOk result (λ event. call_text event ≡ text.now) }
-    ensures fits { IfOk result Fits }
-    ensures each { (event : AnyEvent) → Fits event → call_text event ≡ text.now → IsOkUnless result TextFault.OutOfMemory }
-{
-    let mut words = Words::of(text);
-    let event = next_call(alloc, &mut words)?;
-    words.end()?;
-    Ok(event)
-}
-
-/// The call that the next words say: its keyword and arguments. Faults and cost are as for [`read_call`].
-pub fn next_call(alloc: Global, words: &mut Words<'_>) -> Result<Event, TextFault>
-    ensures ok { IfOk result (λ event. call_words event ++ words.new ≡ words.old) }
-    ensures fits { IfOk result Fits }
-    ensures read { (event : AnyEvent) (behind : List (List ℕ)) → Fits event → call_words event ++ behind ≡ words.old → IsRead result words.new behind }
-{
-    let keyword = words.keyword()?;
-    read_arguments(alloc, keyword, words)
-}
-
-/// The call of this keyword, with its arguments from `words`. Faults are as for [`read_call`].
-pub(crate) fn read_arguments(
-    alloc: Global,
-    keyword: &str,
-    words: &mut Words<'_>,
-) -> Result<Event, TextFault>
-    ensures word { IfOk result (λ event. call_word event ≡ keyword.now) }
-    ensures arguments { IfOk result (λ event. call_arguments event ++ words.new ≡ words.old) }
-    ensures fits { IfOk result Fits }
-    ensures read { (event : AnyEvent) (behind : List (List ℕ)) → Fits event → call_word event ≡ keyword.now
-        → call_arguments event ++ behind ≡ words.old → IsRead result words.new behind }
-{
-    match keyword {
-        "send" => read_send(alloc, words),
-        "recv" => read_recv(words),
-        "task" => Ok(Event::TaskCreate),
-        "alloc" => Ok(Event::Allocate(words.task()?, words.number()?)),
-        "allocname" => Ok(Event::AllocateName(words.task()?, words.number()?, words.name()?)),
-        "insert" => read_insert(words),
-        "extract" => read_extract(words),
-        "again" => read_again(words),
-        _ => read_name_call(keyword, words),
-    }
-}
-
-/// The call on names, or on a port or a port set, of this keyword. Faults are as for [`read_call`].
-fn read_name_call(keyword: &str, words: &mut Words<'_>) -> Result<Event, TextFault>
-    requires { IsNoRightWord keyword.now }
-    ensures word { IfOk result (λ event. call_word event ≡ keyword.now) }
-    ensures arguments { IfOk result (λ event. call_arguments event ++ words.new ≡ words.old) }
-    ensures fits { IfOk result Fits }
-    ensures read { (event : AnyEvent) (behind : List (List ℕ)) → Fits event → call_word event ≡ keyword.now
-        → call_arguments event ++ behind ≡ words.old → IsRead result words.new behind }
-{
-    match keyword {
-        "dealloc" => Ok(Event::Deallocate(words.task()?, words.name()?)),
-        "destroy" => Ok(Event::Destroy(words.task()?, words.name()?)),
-        "modrefs" => read_modrefs(words),
-        "refs" => {
-            let (task, name, right) = words.task_name_and_number()?;
-            Ok(Event::GetRefs(task, name, right))
-        }
-        "type" => Ok(Event::NameType(words.task()?, words.name()?)),
-        "names" => Ok(Event::Names(words.task()?)),
-        "end" => Ok(Event::TaskTerminate(words.task()?)),
-        "notify" => read_notify(words),
-        "rename" => {
-            let (task, old) = words.task_and_name()?;
-            Ok(Event::Rename(task, old, words.name()?))
-        }
-        _ => read_port_call(keyword, words),
-    }
-}
-
-/// The call on a port or a port set of this keyword. Faults are as for [`read_call`].
-fn read_port_call(keyword: &str, words: &mut Words<'_>) -> Result<Event, TextFault>
-    requires right { IsNoRightWord keyword.now }
-    requires name { IsNoNameWord keyword.now }
-    ensures word { IfOk result (λ event. call_word event ≡ keyword.now) }
-    ensures arguments { IfOk result (λ event. call_arguments event ++ words.new ≡ words.old) }
-    ensures fits { IfOk result Fits }
-    ensures read { (event : AnyEvent) (behind : List (List ℕ)) → Fits event → call_word event ≡ keyword.now
-        → call_arguments event ++ behind ≡ words.old → IsRead result words.new behind }
-{
-    match keyword {
-        "status" => Ok(Event::ReceiveStatus(words.task()?, words.name()?)),
-        "qlimit" => {
-            let (task, name, limit) = words.task_name_and_number()?;
-            Ok(Event::SetQlimit(task, name, limit))
-        }
-        "mscount" => {
-            let (task, name, count) = words.task_name_and_number()?;
-            Ok(Event::SetMscount(task, name, count))
-        }
-        "seqno" => {
-            let (task, name, sequence) = words.task_name_and_number()?;
-            Ok(Event::SetSeqno(task, name, sequence))
-        }
-        "move" => {
-            let (task, member) = words.task_and_name()?;
-            Ok(Event::MoveMember(task, member, words.name()?))
-        }
-        "members" => Ok(Event::SetStatus(words.task()?, words.name()?)),
-        _ => Err(TextFault::Bad),
-    }
-}
-
-/// The arguments of `modrefs`: a task, a name, the number of a right, and how many references more.
-fn read_modrefs(words: &mut Words<'_>) -> Result<Event, TextFault>
-    ensures word { IfOk result (λ event. call_word event ≡ codes "modrefs") }
-    ensures arguments { IfOk result (λ event. call_arguments event ++ words.new ≡ words.old) }
-    ensures fits { IfOk result Fits }
-    ensures read { (task name right : ℕ) (delta : ℤ) (behind : List (List ℕ)) → task < 2 ^ 32 → name < 2 ^ 32 → right < 2 ^ 32 → FitsDelta delta → decimal task ∷ decimal name ∷ decimal right ∷ signed_decimal delta ∷ behind ≡ words.old
-        → IsRead result words.new behind }
-{
-    let (task, name, right) = words.task_name_and_number()?;
-    Ok(Event::ModRefs(task, name, right, words.delta()?))
-}
-
-/// The arguments of `notify`: a task, a name, the number of a notice, a number that says when it is sent at
-/// once, the name of the right that pays, and the number of a disposition.
-fn read_notify(words: &mut Words<'_>) -> Result<Event, TextFault>
-    ensures word { IfOk result (λ event. call_word event ≡ codes "notify") }
-    ensures arguments { IfOk result (λ event. call_arguments event ++ words.new ≡ words.old) }
-    ensures fits { IfOk result Fits }
-    ensures read { (task name variant sync notify disposition : ℕ) (behind : List (List ℕ)) → task < 2 ^ 32 → name < 2 ^ 32 → variant < 2 ^ 32 → sync < 2 ^ 32 → notify < 2 ^ 32 → disposition < 2 ^ 32
-        → decimal task ∷ decimal name ∷ decimal variant ∷ decimal sync ∷ decimal notify ∷ decimal disposition ∷ behind ≡ words.old
-        → IsRead result words.new behind }
-{
-    let (task, name, variant) = words.task_name_and_number()?;
-    let sync = words.number()?;
-    let notify = words.name()?;
-    Ok(Event::RequestNotification(task, name, variant, sync, notify, words.number()?))
-}
-
-/// The arguments of `insert`: a task, its name to be, a task with the right, its name, a disposition.
-fn read_insert(words: &mut Words<'_>) -> Result<Event, TextFault>
-    ensures word { IfOk result (λ event. call_word event ≡ codes "insert") }
-    ensures arguments { IfOk result (λ event. call_arguments event ++ words.new ≡ words.old) }
-    ensures fits { IfOk result Fits }
-    ensures read { (task name from poly disposition : ℕ) (behind : List (List ℕ)) → task < 2 ^ 32 → name < 2 ^ 32 → from < 2 ^ 32 → poly < 2 ^ 32 → disposition < 2 ^ 32
-        → decimal task ∷ decimal name ∷ decimal from ∷ decimal poly ∷ decimal disposition ∷ behind ≡ words.old
-        → IsRead result words.new behind }
-{
-    let (task, name) = words.task_and_name()?;
-    let (from, poly) = words.task_and_name()?;
-    Ok(Event::InsertRight(task, name, from, poly, words.number()?))
-}
-
-/// The arguments of `extract`: a task with a right, its name, a disposition, and who is to have it.
-fn read_extract(words: &mut Words<'_>) -> Result<Event, TextFault>
-    ensures word { IfOk result (λ event. call_word event ≡ codes "extract") }
-    ensures arguments { IfOk result (λ event. call_arguments event ++ words.new ≡ words.old) }
-    ensures fits { IfOk result Fits }
-    ensures read { (task name disposition to : ℕ) (behind : List (List ℕ)) → task < 2 ^ 32 → name < 2 ^ 32 → disposition < 2 ^ 32 → to < 2 ^ 32
-        → decimal task ∷ decimal name ∷ decimal disposition ∷ decimal to ∷ behind ≡ words.old
-        → IsRead result words.new behind }
-{
-    let (task, name, disposition) = words.task_name_and_number()?;
-    Ok(Event::ExtractRight(task, name, disposition, words.task()?))
-}
-
-/// The arguments of `send`: a task and a message's bytes.
-#[inline(always)]
-pub(crate) fn read_send(alloc: Global, words: &mut Words<'_>) -> Result<Event, TextFault>
-    ensures word { IfOk result (λ event. call_word event ≡ codes "send") }
-    ensures arguments { IfOk result (λ event. call_arguments event ++ words.new ≡ words.old) }
-    ensures fits { IfOk result Fits }
-    ensures read { (task : ℕ) (bytes : List ℕ) (behind : List (List ℕ)) → task < 2 ^ 32 → All (λ byte. byte < 256) bytes → decimal task ∷ bytes_text bytes ∷ behind ≡ words.old
-        → IsRead result words.new behind }
-{
-    Ok(Event::Send(words.task()?, words.bytes(alloc)?))
-}
-
-/// The arguments of `recv`: a task, a name, the room in bytes, and whether a longer message stays.
-#[inline(always)]
-pub(crate) fn read_recv(words: &mut Words<'_>) -> Result<Event, TextFault>
-    ensures word { IfOk result (λ event. call_word event ≡ codes "recv") }
-    ensures arguments { IfOk result (λ event. call_arguments event ++ words.new ≡ words.old) }
-    ensures fits { IfOk result Fits }
-    ensures read { (task name room : ℕ) (large : Bool) (behind : List (List ℕ)) → task < 2 ^ 32 → name < 2 ^ 32 → room < 2 ^ 32 → decimal task ∷ decimal name ∷ decimal room ∷ flag_text large ∷ behind ≡ words.old
-        → IsRead result words.new behind }
-{
-    let (task, name, room) = words.task_name_and_number()?;
-    Ok(Event::Receive(task, name, room, words.flag()?))
-}
-
-/// The arguments of `again`: a task, what it waits for, the room, and whether a longer message stays.
-fn read_again(words: &mut Words<'_>) -> Result<Event, TextFault>
-    ensures word { IfOk result (λ event. call_word event ≡ codes "again") }
-    ensures arguments { IfOk result (λ event. call_arguments event ++ words.new ≡ words.old) }
-    ensures fits { IfOk result Fits }
-    ensures read { (task : ℕ) (waited : AnyWaited) (room : ℕ) (large : Bool) (behind : List (List ℕ)) → task < 2 ^ 32 → FitsWaited waited → room < 2 ^ 32 → decimal task ∷ (waited_words waited ++ decimal room ∷ flag_text large ∷ behind) ≡ words.old
-        → IsRead result words.new behind }
-{
-    let (task, waited) = (words.task()?, words.waited()?);
-    Ok(Event::ReceiveAgain(task, waited, words.number()?, words.flag()?))
-}
 
 /// Writes the call, without a line feed.
 ///
@@ -233,15 +22,10 @@ pub fn write_call<W: Write>(event: &Event, out: &mut W) -> io::Result<()>
         Event::TaskCreate => write!(out, "task"),
         Event::TaskTerminate(task) => write!(out, "end {}", task.number()),
         Event::Allocate(task, right) => write!(out, "alloc {} {right}", task.number()),
-        Event::AllocateName(task, right, name) => {
-            write!(out, "allocname {} {right} {}", task.number(), name.number())
-        }
+        Event::AllocateName(task, right, name) => write_allocate_name(*task, *right, *name, out),
         Event::Deallocate(task, name) => write_name("dealloc", *task, *name, out),
         Event::Destroy(task, name) => write_name("destroy", *task, *name, out),
-        Event::ModRefs(task, name, right, delta) => {
-            write_number("modrefs", *task, *name, *right, out)?;
-            write!(out, " {delta}")
-        }
+        Event::ModRefs(task, name, right, delta) => write_delta(*task, *name, *right, *delta, out),
         Event::GetRefs(task, name, right) => write_number("refs", *task, *name, *right, out),
         Event::NameType(task, name) => write_name("type", *task, *name, out),
         Event::Names(task) => write!(out, "names {}", task.number()),
@@ -264,14 +48,8 @@ pub fn write_call<W: Write>(event: &Event, out: &mut W) -> io::Result<()>
         }
         Event::MoveMember(task, name, set) => write_number("move", *task, *name, set.number(), out),
         Event::SetStatus(task, name) => write_name("members", *task, *name, out),
-        Event::Send(task, bytes) => {
-            write!(out, "send {} ", task.number())?;
-            write_bytes(bytes.as_slice(), out)
-        }
-        Event::Receive(task, name, room, large) => {
-            write_number("recv", *task, *name, *room, out)?;
-            write_flag(*large, out)
-        }
+        Event::Send(task, bytes) => write_send(*task, bytes.as_slice(), out),
+        Event::Receive(task, name, room, large) => write_receive(*task, *name, *room, *large, out),
         Event::ReceiveAgain(task, waited, room, large) => {
             write_again(*task, waited, *room, out)?;
             write_flag(*large, out)
@@ -299,6 +77,59 @@ fn write_number<W: Write>(
 {
     let (task, name) = (task.number(), name.number());
     write!(out, "{keyword} {task} {name} {number}")
+}
+
+/// Writes `allocname`, a task, the number of a right and a name. Errors are as for [`write_call`].
+fn write_allocate_name<W: Write>(
+    task: TaskId,
+    right: u32,
+    name: Name,
+    out: &mut W,
+) -> io::Result<()>
+    ensures { OnOk result (Appends (W.contents out.old) (W.contents out.new)
+        (line (codes "allocname" ∷ decimal task ∷ decimal right ∷ decimal name ∷ []))) }
+{
+    write!(out, "allocname {} {right} {}", task.number(), name.number())
+}
+
+/// Writes `modrefs`, a task, a name, the number of a right, and how many references more. Errors are as for
+/// [`write_call`].
+fn write_delta<W: Write>(
+    task: TaskId,
+    name: Name,
+    right: u32,
+    delta: i32,
+    out: &mut W,
+) -> io::Result<()>
+    ensures { OnOk result (Appends (W.contents out.old) (W.contents out.new)
+        (line (codes "modrefs" ∷ decimal task ∷ decimal name ∷ decimal right ∷ signed_decimal delta ∷ []))) }
+{
+    write_number("modrefs", task, name, right, out)?;
+    write!(out, " {delta}")
+}
+
+/// Writes `send`, a task and a message's bytes. Errors are as for [`write_call`].
+fn write_send<W: Write>(task: TaskId, bytes: &[u8], out: &mut W) -> io::Result<()>
+    ensures { OnOk result (Appends (W.contents out.old) (W.contents out.new)
+        (line (codes "send" ∷ decimal task ∷ bytes_text bytes.now ∷ []))) }
+{
+    write!(out, "send {} ", task.number())?;
+    write_bytes(bytes, out)
+}
+
+/// Writes `recv`, a task, a name, the room, and whether a longer message stays. Errors are as for [`write_call`].
+fn write_receive<W: Write>(
+    task: TaskId,
+    name: Name,
+    room: u32,
+    large: bool,
+    out: &mut W,
+) -> io::Result<()>
+    ensures { OnOk result (Appends (W.contents out.old) (W.contents out.new)
+        (line (codes "recv" ∷ decimal task ∷ decimal name ∷ decimal room ∷ flag_text large ∷ []))) }
+{
+    write_number("recv", task, name, room, out)?;
+    write_flag(large, out)
 }
 
 /// Writes `again`, a task, what it waits for, and the room. Errors are as for [`write_call`].

@@ -5,7 +5,8 @@ use mach_types::{Event, Reply};
 use std::alloc::Global;
 use std::sync::Wait;
 use std::thread::Threads;
-use tracer_base::{read_script, write_reply_line};
+use text_reader::read_script;
+use tracer_base::write_reply_line;
 
 /// Returns what the program prints, where it does the job on the text with status 0 and no word of a fault.
 fn printed<R: AllocGlobal + Threads + Wait + Sync>(

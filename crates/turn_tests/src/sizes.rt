@@ -5,7 +5,7 @@ use crate::playing::prints;
 use mach_run_base::Job;
 use std::alloc::Global;
 use std::fmt::Write;
-use tracer_base::read_script;
+use text_reader::read_script;
 
 /// A script and the replies to it, as far as they are written.
 #[derive(Drop)]

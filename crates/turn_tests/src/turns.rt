@@ -3,7 +3,7 @@ use kernel_core::run;
 use mach_types::Event;
 use std::alloc::Global;
 use std::fmt::Write;
-use tracer_base::read_script;
+use text_reader::read_script;
 
 /// Returns in how many turns the last step of a whole run of the script ended; `None` where it is no script or memory
 /// is refused.
