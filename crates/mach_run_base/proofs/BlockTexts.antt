@@ -12,7 +12,8 @@ use Rattle.tracer_base.specs.Blocks.{thread_line}
 use Rattle.tracer_base.proofs.WordLemmas.{texts_push as push_text}
 use Rattle.mach_run_base.specs.declared.script.ThreadCalls.{ThreadCalls}
 use Rattle.mach_run_base.specs.declared.running.Enrolled.{Enrolled}
-use Rattle.mach_run_base.specs.Callers.{IsRecorded, AreEnrolled, IsReady}
+use Rattle.mach_run_base.specs.Callers.{IsRecorded}
+use Rattle.mach_run_base.specs.Enrolling.{AreEnrolled, IsReady}
 use Rattle.mach_run_base.specs.Output.{AreBlocks, answer_line, block_texts}
 
 pub zip_map : {A C : Type 0} (f : A → C → Type 0) (g : A → C → Type 0) → ((a : A) (b : C) → f a b → g a b) → (xs : List A) (ys : List C) → AllZip f xs ys → AllZip g xs ys
@@ -98,10 +99,6 @@ blocks_of pass calls w answers start c (b ∷ bs) (o ∷ os) (x ∷ xs) (y ∷ y
   },
   blocks_of pass calls w answers start (c + 1) bs os xs ys enrolled.1 ready.1 ran.1 (All-tail (λ y. All IsRecorded (answers y)) y ys all),
 )
-
-pub numbers_length : (ones : List Enrolled) → length (map number_of ones) ≡ length ones
-numbers_length [] = refl
-numbers_length (o ∷ os) = let rest = numbers_length os in omega (arith, rest)
 
 -- nothing stands for a place that is there
 pub any_default : (xs : List ℕ) (i a b : ℕ) → i < length xs → get_or xs i a ≡ get_or xs i b

@@ -8,7 +8,8 @@ use Rattle.mach_msg_threads.specs.declared.block.Call.{Call}
 use Rattle.mach_msg_threads.proofs.Rows.{ran_append}
 use Rattle.mach_run_base.specs.declared.script.Script.{Script}
 use Rattle.mach_run_base.specs.declared.script.ThreadCalls.{ThreadCalls}
-use Rattle.mach_run_base.specs.Callers.{IsRecorded, SeesAll, AreMadeBy, block_calls, IsOfScript, AreWhole}
+use Rattle.mach_run_base.specs.Callers.{IsRecorded, SeesAll, AreMadeBy, block_calls, IsOfScript}
+use Rattle.mach_run_base.specs.Enrolling.{AreWhole}
 use Rattle.mach_run_base.specs.Output.{AreBlocks, IsAnswered}
 
 -- a history in which no caller has a call is empty
@@ -25,10 +26,6 @@ sees_through v w log same first next = record {
   begins = (first.begins.0 ++ next.begins.0, next.begins.1 ∙ ap (λ l. l ++ next.begins.0) first.begins.1 ∙ append_assoc v.seen first.begins.0 next.begins.0);
   own = subst (λ (c : ℕ). calls_by c log ≡ calls_by c w.seen) same next.own ∙ first.own;
 }
-
-pub length_map : {A C : Type 0} (f : A → C) (xs : List A) → length (map f xs) ≡ length xs
-length_map f [] = refl
-length_map f (x ∷ xs) = let rest = length_map f xs in omega (arith, rest)
 
 made_by : (log start : List Entry) (c : ℕ) (blocks : List ThreadCalls) (text : List ℕ) (ws : List Known) → AreBlocks start c blocks text ws → All (λ w. SeesAll w log) ws
     → ((d : ℕ) → length ws + c ≤ d → calls_by d log ≡ []) → AreMadeBy log start c (map block_calls blocks)

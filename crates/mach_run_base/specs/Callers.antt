@@ -1,16 +1,13 @@
 -- A script's callers: the main thread, which is caller 0, and the blocks, which are callers 1, 2 and so on, in the order of the script.
-use Rattle.std.specs.Prelude.{◌≡◌, ◌≢◌, ℕ, ◌+◌, ◌≤◌, List, [], ◌∷◌, ◌++◌, All, map, length}
+use Rattle.std.specs.Prelude.{◌≡◌, ◌≢◌, ℕ, ◌+◌, ◌≤◌, List, [], ◌∷◌, ◌++◌, All, map}
 use Rattle.mach_types.specs.declared.calls.Reply.{Reply}
 use Rattle.kernel_lock.specs.declared.entry.Entry.{Entry}
 use Rattle.kernel_lock.specs.History.{Known, StartsWith, calls_by}
 use Rattle.mach_msg_threads.specs.declared.block.Answer.{Answer}
 use Rattle.mach_msg_threads.specs.declared.block.Call.{Call}
 use Rattle.mach_msg_threads.specs.Blocks.{Ran}
-use Rattle.mach_run_base.specs.declared.running.Enrolled.{Enrolled}
 use Rattle.mach_run_base.specs.declared.script.Script.{Script}
 use Rattle.mach_run_base.specs.declared.script.ThreadCalls.{ThreadCalls}
-
--- ---- a whole history
 
 -- The call was recorded. Of a message call that is what its code says: a try that isn't recorded ends it.
 abbrev pub IsRecorded : Answer → Type 0
@@ -52,25 +49,3 @@ pub record IsOfScript (log : List Entry) (script : Script) : Type 0 where
   pub start : List Entry
   pub behind : StartsWith start main.seen
   pub blocks : AreMadeBy log start 1 (map block_calls script.blocks.items)
-
--- ---- how far the program has come
-
-abbrev pub pass_of : {X : Type 0} → Known × X → Known
-pass_of one = one.0
-
--- Each block has a new pass, which is the next caller.
-abbrev pub AreEnrolled : (caller : ℕ) → List ThreadCalls → List Enrolled → Type 0
-AreEnrolled c [] [] = Unit {0}
-AreEnrolled c (block ∷ blocks) (one ∷ more) =
-    ((one.number ≡ block.number) × (one.calls ≡ block.calls) × (one.pass.caller ≡ c) × (one.pass.seen ≡ [])) × AreEnrolled (c + 1) blocks more
-AreEnrolled c blocks ones = ⊥
-
--- The block stands ready with its pass, which has seen this history, and its calls.
-abbrev pub IsReady : (start : List Entry) → Enrolled → Known → List Call → Type 0
-IsReady start one pass calls = (calls ≡ one.calls.items) × (pass.caller ≡ one.pass.caller) × (pass.seen ≡ start) × SeesAll one.pass start
-
--- The history is all of what these passes have seen, of the main thread and of the blocks, and nobody else has a call in it.
-pub record AreWhole (log : List Entry) (main : Known) (blocks : List Known) : Type 0 where
-  pub first : SeesAll main log
-  pub all : All (λ w. SeesAll w log) blocks
-  pub others : (c : ℕ) → length blocks + 1 ≤ c → calls_by c log ≡ []

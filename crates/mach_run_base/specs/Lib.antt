@@ -3,3 +3,4 @@ pub mod Output
 pub mod Scripts
 pub mod Verdicts
 pub mod Callers
+pub mod Enrolling

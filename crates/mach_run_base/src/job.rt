@@ -3,7 +3,7 @@ ghost use Rattle.std.specs.Prelude.{◌≡◌, ◌≢◌, ◌≤◌, ℕ, true, 
 ghost use Rattle.std.specs.Io.KnownBytes.{Appends, Keeps};
 ghost use Rattle.kernel_lock.specs.declared.entry.Entry.{Entry as AnyEntry};
 ghost use Rattle.kernel_lock.specs.History.{Legal};
-ghost use Rattle.mach_run_base.specs.Callers.{AreWhole, pass_of};
+ghost use Rattle.mach_run_base.specs.Enrolling.{AreWhole, pass_of};
 ghost use Rattle.mach_run_base.specs.Jobs.{IsBad, IsDone, IsMade, IsMadeOf, IsHistory, history_shown, head_shown, entry_shown};
 ghost use Rattle.mach_run_base.specs.Scripts.{IsFirstBadLine};
 

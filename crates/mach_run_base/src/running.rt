@@ -7,7 +7,8 @@ ghost use Rattle.mach_msg_threads.specs.declared.block.Answer.{Answer as AnyAnsw
 ghost use Rattle.mach_msg_threads.specs.Blocks.{Answered};
 ghost use Rattle.tracer_base.specs.Blocks.{thread_line};
 ghost use Rattle.tracer_base.specs.Replies.{reply_line};
-ghost use Rattle.mach_run_base.specs.Callers.{AreEnrolled, IsReady, SeesAll, IsRecorded, pass_of};
+ghost use Rattle.mach_run_base.specs.Callers.{SeesAll, IsRecorded};
+ghost use Rattle.mach_run_base.specs.Enrolling.{AreEnrolled, IsReady, pass_of};
 ghost use Rattle.mach_run_base.specs.Output.{AreReplies, AreAnswers, AreBlocks, IsAnswered, answer_line, block_texts};
 
 use crate::fault::Fault;

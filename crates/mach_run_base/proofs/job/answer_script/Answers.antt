@@ -1,5 +1,5 @@
 use Rattle.std.proofs.Common.{map}
-use Rattle.mach_run_base.specs.Callers.{pass_of}
+use Rattle.mach_run_base.specs.Enrolling.{pass_of}
 use Rattle.mach_run_base.proofs.job.answer_script.Goals as goal
 
 pub returns : goal.returns

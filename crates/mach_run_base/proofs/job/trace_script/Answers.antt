@@ -1,5 +1,5 @@
 use Rattle.std.proofs.Common.{refl, map}
-use Rattle.mach_run_base.specs.Callers.{pass_of}
+use Rattle.mach_run_base.specs.Enrolling.{pass_of}
 use Rattle.mach_run_base.specs.Jobs.{history_shown}
 use Rattle.mach_run_base.proofs.OutputLemmas.{on-ok}
 use Rattle.mach_run_base.proofs.OfScript.{of_script}

@@ -1,12 +1,13 @@
 use Rattle.std.proofs.Common.{◌≡◌, List, All, map, ap, ◌∙◌, subst, arith}
+use Rattle.std.proofs.lemmas.List.{length-map}
 use Rattle.std.proofs.lemmas.List.Elements.{All-map}
 use Rattle.std.specs.Io.KnownBytes.{Appends}
 use Rattle.kernel_lock.specs.declared.entry.Entry.{Entry}
 use Rattle.kernel_lock.specs.History.{Known, Legal}
 use Rattle.kernel_lock.specs.Replays.{kept_of}
-use Rattle.mach_run_base.specs.Callers.{AreWhole, SeesAll, pass_of}
+use Rattle.mach_run_base.specs.Callers.{SeesAll}
+use Rattle.mach_run_base.specs.Enrolling.{AreWhole, pass_of}
 use Rattle.mach_run_base.specs.Jobs.{history_shown}
-use Rattle.mach_run_base.proofs.OfScript.{length_map}
 use Rattle.mach_run_base.proofs.job.write_whole.Goals as goal
 
 pub returns : goal.returns
@@ -22,7 +23,7 @@ returns g c keeps =
     let whole : AreWhole kernel.log c.args.callers.main (map pass_of blocks) = record {
       first = record { begins = c.show.ensures.begins; own = c.show.ensures.own };
       all = All-map (λ (w : Known). SeesAll w kernel.log) pass_of blocks all;
-      others = λ d above. held.ensures.others d (let many = length_map pass_of blocks in let len = c.len.ensures in omega (arith, above, many, len));
+      others = λ d above. held.ensures.others d (let many = length-map blocks pass_of in let len = c.len.ensures in omega (arith, above, many, len));
     } in (
       kernel.log,
       subst (λ k. Legal k.log) same legal,

@@ -5,7 +5,7 @@ use Rattle.std.proofs.lemmas.List.{length_push}
 use Rattle.std.proofs.lemmas.List.Elements.{All-push}
 use Rattle.mach_run_base.specs.declared.running.Enrolled.{Enrolled}
 use Rattle.mach_run_base.specs.declared.script.ThreadCalls.{ThreadCalls}
-use Rattle.mach_run_base.specs.Callers.{AreEnrolled}
+use Rattle.mach_run_base.specs.Enrolling.{AreEnrolled}
 use Rattle.mach_run_base.proofs.BlockTexts.{enrolled_push}
 use Rattle.mach_run_base.proofs.running.enroll.Goals as goal
 

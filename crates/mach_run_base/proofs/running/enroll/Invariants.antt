@@ -1,5 +1,5 @@
 use Rattle.std.proofs.Common.{◌≡◌, ◌+◌, All, length}
-use Rattle.mach_run_base.specs.Callers.{AreEnrolled}
+use Rattle.mach_run_base.specs.Enrolling.{AreEnrolled}
 use Rattle.mach_run_base.proofs.running.enroll.Given as goal
 
 -- each block so far has a new pass, which is the next caller

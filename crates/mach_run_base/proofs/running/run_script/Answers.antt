@@ -1,6 +1,6 @@
 use Rattle.std.proofs.Common.{ℕ, ◌+◌, ◌++◌, map, ap, ◌∙◌, refl, subst, arith}
 use Rattle.tracer_base.proofs.ReplyLemmas.{appends-more}
-use Rattle.mach_run_base.specs.Callers.{AreEnrolled, pass_of}
+use Rattle.mach_run_base.specs.Enrolling.{AreEnrolled, pass_of}
 use Rattle.mach_run_base.specs.Output.{IsAnswered}
 use Rattle.mach_run_base.proofs.OfScript.{no_calls}
 use Rattle.mach_run_base.proofs.running.run_script.Goals as goal

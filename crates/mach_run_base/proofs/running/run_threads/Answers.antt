@@ -2,6 +2,7 @@ use Rattle.std.proofs.Common.{rules, ◌≡◌, ℕ, List, [], ◌∷◌, ◌++�
 use mathlib.Core.List.{map-append}
 use Rattle.std.proofs.lemmas.Iterator.Adapters.{YieldsList-from_vec}
 use Rattle.std.proofs.lemmas.Iterator.Consumers.{YieldsList-end}
+use Rattle.std.proofs.lemmas.List.{length-map}
 use Rattle.std.proofs.lemmas.List.Elements.{All-push}
 use Rattle.std.specs.Io.KnownBytes.{Appends}
 use Rattle.kernel_lock.specs.declared.entry.Entry.{Entry}
@@ -10,9 +11,10 @@ use Rattle.mach_msg_threads.specs.declared.block.Answer.{Answer}
 use Rattle.mach_msg_threads.specs.declared.block.Block.{Block}
 use Rattle.mach_msg_threads.proofs.Rows.{zip_push}
 use Rattle.mach_run_base.specs.declared.gate.BlockGate.{BlockGate}
-use Rattle.mach_run_base.specs.Callers.{IsReady, IsRecorded, AreEnrolled, pass_of}
+use Rattle.mach_run_base.specs.Callers.{IsRecorded}
+use Rattle.mach_run_base.specs.Enrolling.{IsReady, AreEnrolled, pass_of}
 use Rattle.mach_run_base.specs.Output.{AreBlocks, block_texts}
-use Rattle.mach_run_base.proofs.BlockTexts.{zip_length, number_of, numbers_length, blocks_of}
+use Rattle.mach_run_base.proofs.BlockTexts.{zip_length, number_of, blocks_of}
 use Rattle.mach_run_base.proofs.running.run_threads.Goals as goal
 
 abbrev answers_of : Pass × Vec Answer Global → List Answer
@@ -41,7 +43,7 @@ write_blocks-requires g c =
     let l = c.loop-block in
     let ready = zip_length _ l.yielded l.ready.items l.invariant.3 in
     let ran = zip_length _ l.ready.items c.in_ok-ran.ran.items c.in_ok-ran.ensures.ran in
-    ap length (c.as_slice.ensures.value ∙ l.invariant.2) ∙ numbers_length l.yielded ∙ ready ∙ ran ∙ sym (ap length c.as_slice-2.ensures.value)
+    ap length (c.as_slice.ensures.value ∙ l.invariant.2) ∙ length-map l.yielded number_of ∙ ready ∙ ran ∙ sym (ap length c.as_slice-2.ensures.value)
 
 pub returns-clause-ran : goal.returns-clause-ran
 returns-clause-ran g c caller given enrolled =

@@ -1,6 +1,6 @@
 use Rattle.std.proofs.Common.{◌≡◌, All, map}
 use Rattle.std.specs.List.{AllZip}
-use Rattle.mach_run_base.specs.Callers.{IsReady}
+use Rattle.mach_run_base.specs.Enrolling.{IsReady}
 use Rattle.mach_run_base.proofs.BlockTexts.{number_of}
 use Rattle.mach_run_base.proofs.running.run_threads.Given as goal
 
