@@ -62,6 +62,7 @@ const LINES: &str = "\
     modrefs 1 2 3 2147483647|modrefs 1 2 3 -2147483648|refs 1 4294967295 3|\
     type 4294967295 0|names 3|rename 1 2 3|status 1 2|qlimit 1 2 17|mscount 1 2 4294967295|\
     seqno 1 2 0|insert 1 2 3 4 4294967295|extract 1 2 21 3|move 1 2 0|members 1 3|send 0 -|\
+    insmember 1 2 4294967295|exmember 4294967295 2 0|\
     send 4294967295 00ff9a|recv 1 2 65536 1|recv 1 2 0 0|\
     again 1 p 18446744073709551615 24 0|again 1 s 0 65536 1|end 4294967295|\
     notify 1 2 70 3 4 21|notify 0 1 72 4294967295 0 0";
@@ -95,6 +96,8 @@ const BAD_LINES: &str = "\
     extract 0 1 20 0 0|extract 0 1 0x14 0|extract 0 1 20 4294967296|refs 0 1|\
     refs 0 1 4294967296|refs 0 1 0 0|refs 0 1 00|ref 0 1 0|type 0|type 0 1 0|type 0 1 |\
     types 0 1|move 0 1|move 0 1 -|move 0 1 2 3|members 0|members 0 1 2|again 0 p 0 24|\
+    insmember 0 1|insmember 0 1 -|insmember 0 1 2 3|insmember 0 1 4294967296|insmembers 0 1 2|\
+    exmember 0 1|exmember 0 1 02|exmember 0 1 2 3|exmember 0 4294967296 1|exmembers 0 1 2|\
     again 0 q 0 24 0|again 0 port 0 24 0|again 0 p 18446744073709551616 24 0|\
     again 0 s 00 24 0|again 0 0 24 0|again 0 s 0 24 0 0|end|end 00|end 0 0|end -|notify 0 1 69 0 0|\
     notify 0 1 69 0 0 18 0|notify 0 1 069 0 0 18|notify 0 1 -69 0 0 18|notify 0 -2 69 0 0 18|\

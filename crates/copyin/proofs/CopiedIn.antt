@@ -12,7 +12,7 @@ use Rattle.mach_types.specs.Tokens.{Kind, receive, send, send_once, Request, in_
 use Rattle.mach_model.specs.State.{State, queue, Target, lookup, held, at, without_name, with_name}
 use Rattle.mach_model.proofs.Moving.{shape, IsMoving}
 use Rattle.mach_model.specs.Death.{same_place}
-use Rattle.mach_model.specs.ReceiveRight.{one_if}
+use Rattle.mach_model.specs.Telling.{one_if}
 use Rattle.mach_model.specs.CopyIn.{CopyRight, name_kept}
 use Rattle.mach_model.proofs.Names.{both_test, pos_or_zero, at_own, at_other, length-weigh}
 use Rattle.mach_model.proofs.Copying.{alive_held, not_held, other_port, own_right, once_held}

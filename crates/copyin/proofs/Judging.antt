@@ -16,7 +16,8 @@ use Rattle.arrayvec.specs.ArrayVec.{ArrayVec, array_vec_len}
 use Rattle.std.proofs.lemmas.List.{take_more, take-append-drop, drop_more}
 use Rattle.mach_types.specs.declared.rights.Disposition.{Disposition}
 use Rattle.mach_types.specs.declared.rights.Disposition.TheVariants.{MoveReceive, MoveSend, MoveSendOnce, CopySend, MakeSend, MakeSendOnce}
-use Rattle.mach_types.specs.Numbers.{disposition, disposition_number, kind_sent, null_word, dead_word}
+use Rattle.mach_types.specs.Numbers.{disposition, kind_sent, null_word, dead_word}
+use Rattle.mach_types.specs.Rights.{disposition_number}
 use Rattle.mach_types.specs.Tokens.{send}
 use Rattle.mach_types.specs.Grammar.{NamesPorts}
 use Rattle.mach_model.proofs.Names.{get_own, get_other, removed_own}

@@ -10,9 +10,10 @@ use Rattle.std.proofs.lemmas.Bool.{true_from_ne_false}
 use Rattle.mach_types.specs.Tokens.{receive, in_task, in_message}
 use Rattle.mach_types.specs.Messages.{Entry}
 use Rattle.mach_model.specs.State.{State, queue, held}
-use Rattle.mach_model.specs.Death.{LiesAt, CarriedAt, Reaches}
+use Rattle.mach_model.specs.Death.{LiesAt, CarriedAt}
+use Rattle.mach_model.specs.SendRefusals.{Reaches, ClosesLoop}
 use Rattle.mach_model.specs.Carried.{lying}
-use Rattle.mach_model.specs.Send.{ClosesLoop, place_at}
+use Rattle.mach_model.specs.Send.{place_at}
 use Rattle.mach_model.proofs.Names.{slice_get_drop}
 use Rattle.mach_model.proofs.Grounded.{Where, with_task, nowhere, queued, where_is, unmade}
 use Rattle.mach_model.proofs.Midway.{mid_lawful}

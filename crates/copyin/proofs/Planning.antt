@@ -7,7 +7,8 @@ use Rattle.std.specs.FinMap as map
 use Rattle.std.proofs.lemmas.Bool.{eqb-true, ne_eqb}
 use Rattle.std.proofs.lemmas.List.Elements.{All-append, All-map}
 use Rattle.smallvec.specs.SmallVec.{small_vec_len}
-use Rattle.mach_types.specs.Numbers.{null_word, most_bytes, disposition, kind_sent, dead_word, msg_number}
+use Rattle.mach_types.specs.Numbers.{null_word, most_bytes, disposition, kind_sent, dead_word}
+use Rattle.mach_types.specs.Codes.{msg_number}
 use Rattle.mach_types.specs.Grammar.{text, WireBody, Header, Wire, data_item, port_item, raw, items, IsWire, IsWireBody, NamesPorts}
 use Rattle.mach_types.specs.Guards.{Guards, FirstIs, NoneHolds}
 use Rattle.mach_types.specs.TextGuards.{header_guards, word_at, BadHeader, TextRefuses, IsSendable}

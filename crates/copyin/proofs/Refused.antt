@@ -7,15 +7,17 @@ use Rattle.mach_types.specs.declared.rights.Disposition.{Disposition}
 use Rattle.mach_types.specs.declared.rights.Disposition.TheVariants.{MoveReceive, MoveSend, MoveSendOnce, CopySend, MakeSend, MakeSendOnce}
 use Rattle.mach_types.specs.Tokens.{receive, send, in_message}
 use Rattle.mach_types.specs.declared.codes.MsgReturn.TheVariants.{SendNoBuffer}
-use Rattle.mach_types.specs.Numbers.{msg_number}
+use Rattle.mach_types.specs.Codes.{msg_number}
 use Rattle.mach_types.specs.Messages.{to_port, dead, Mark as MachineMark}
 use Rattle.mach_types.specs.Bodies.{OneFails}
 use Rattle.mach_types.specs.Guards.{FirstIs}
 use Rattle.mach_model.specs.State.{State, Target, lookup, held}
-use Rattle.mach_model.specs.ReceiveRight.{one_if}
+use Rattle.mach_model.specs.Telling.{one_if}
 use Rattle.mach_model.specs.SentMeans.{target_mark}
 use Rattle.mach_model.specs.CopyIn.{IsLegal, CopyRight, CopyWord, CopyReply}
-use Rattle.mach_model.specs.Send.{IsLegalName, IsDeadName, IsBadWord, IsRefused, DestinationRefuses, ReplyRefuses, BodyRefuses, WholeRefuses, RightsRefuse, sent_guards, place_at}
+use Rattle.mach_model.specs.Send.{place_at}
+use Rattle.mach_model.specs.SendRefusals.{RightsRefuse, WholeRefuses, BodyRefuses, ReplyRefuses, DestinationRefuses, IsRefused, IsBadWord, sent_guards}
+use Rattle.mach_model.specs.NameGuards.{IsDeadName, IsLegalName}
 use Rattle.mach_model.proofs.Moving.{moving}
 use Rattle.message_codec.specs.declared.text.Parsed.{Parsed}
 use Rattle.message_codec.specs.declared.words.PortWord.{PortWord}

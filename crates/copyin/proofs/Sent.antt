@@ -4,13 +4,15 @@ use Rattle.std.specs.Prelude.{◌^◌, ◌↔◌, is_some, if◌then◌else◌, 
 use Rattle.std.specs.FinMap as map
 use Rattle.std.specs.Ordering.{nat_cmp}
 use Rattle.std.proofs.lemmas.List.{drop-append-le}
-use Rattle.mach_types.specs.Numbers.{most_rights, msg_number, kind_sent}
+use Rattle.mach_types.specs.Numbers.{most_rights, kind_sent}
+use Rattle.mach_types.specs.Codes.{msg_number}
 use Rattle.mach_types.specs.declared.codes.MsgReturn.TheVariants.{SendTimedOut, SendInvalidRight, SendNoBuffer}
 use Rattle.mach_types.specs.Tokens.{receive, send, send_once, same_kind, count, is_of}
 use Rattle.mach_types.specs.Messages.{Message, Entry}
 use Rattle.mach_types.specs.Guards.{FirstIs, NoneHolds}
 use Rattle.mach_model.specs.State.{State, at, queue}
-use Rattle.mach_model.specs.Send.{Sends, ClosesLoop, sent_guards, place_at}
+use Rattle.mach_model.specs.Send.{Sends, place_at}
+use Rattle.mach_model.specs.SendRefusals.{sent_guards, ClosesLoop}
 use Rattle.mach_model.specs.Send.{entry as logged}
 use Rattle.mach_model.specs.Carried.{lying, message_count}
 use Rattle.mach_model.specs.Death.{LiesAt}
@@ -222,7 +224,6 @@ module _ (w : WorldView) (s : State) (sh : Shows w s) (now task : ℕ) (bytes : 
     m = m;
     copied_state = copied_state;
     copied = copied w s sh task bytes parsed text j;
-    unrefused = unrefused none slot few;
     rest = refl;
   }
 

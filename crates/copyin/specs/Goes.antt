@@ -2,7 +2,6 @@
 use Rattle.std.specs.Prelude.{◌≡◌, ℕ, ◌+◌, ◌<◌, ◌≤◌, ◌⊎◌, false, List, [], ◌∷◌, length, Option, None, IsSome, IfSome, All}
 use Rattle.std.specs.Option.{option_to_list}
 use Rattle.mach_types.specs.Numbers.{disposition, kind_sent, most_rights}
-use Rattle.mach_types.specs.declared.rights.Disposition.{Disposition}
 use Rattle.mach_types.specs.declared.codes.MsgReturn.{MsgReturn}
 use Rattle.mach_types.specs.declared.codes.MsgReturn.TheVariants.{SendInvalidDest, SendTimedOut, SendInvalidReply, SendInvalidRight, SendNoBuffer}
 use Rattle.mach_types.specs.Tokens.{send_once, same_kind}

@@ -1,7 +1,8 @@
 -- What is decided of a message before anything changes, and what is then done.
 use Rattle.std.specs.Prelude.{◌≡◌, ℕ, ◌+◌, ◌-◌, ◌<◌, ◌≤◌, ◌⊎◌, false, List, [], ◌∷◌, ◌++◌, length, Option, Some, None, if◌then◌else◌, ◌==◌, MatchBool}
 use Rattle.mach_types.specs.declared.codes.MsgReturn.TheVariants.{SendInvalidDest, SendTimedOut, SendInvalidReply, SendInvalidRight, SendNoBuffer}
-use Rattle.mach_types.specs.Numbers.{kind_sent, msg_number, most_rights, null_word, dead_word}
+use Rattle.mach_types.specs.Numbers.{kind_sent, most_rights, null_word, dead_word}
+use Rattle.mach_types.specs.Codes.{msg_number}
 use Rattle.mach_types.specs.Tokens.{send, send_once, same_kind}
 use Rattle.mach_types.specs.Bodies.{Through}
 use Rattle.mach_types.specs.Grammar.{WireBody}

@@ -1,10 +1,10 @@
 -- When memory is wanted to send a message.
 use Rattle.std.specs.Prelude.{◌≡◌, ℕ, ◌≤◌, List, length}
 use Rattle.mach_types.specs.declared.codes.MsgReturn.TheVariants.{SendNoBuffer}
-use Rattle.mach_types.specs.Numbers.{msg_number}
+use Rattle.mach_types.specs.Codes.{msg_number}
 use Rattle.mach_types.specs.Grammar.{Header, WireBody, Spells}
 use Rattle.mach_model.specs.State.{State}
-use Rattle.mach_model.specs.Send.{RightsRefuse}
+use Rattle.mach_model.specs.SendRefusals.{RightsRefuse}
 use Rattle.message_codec.specs.Spans.{body_spans, inline_spans}
 use Rattle.message_codec.specs.Words.{body_words, inline_words}
 use Rattle.copyin_base.specs.Worlds.{WorldView}

@@ -1,7 +1,8 @@
 //! Judging a message whose body is one right and nothing else.
 ghost use Rattle.std.specs.Prelude.{◌≡◌, ◌≢◌, IfOk, IfErr, [], ◌∷◌, true, None, Some};
 ghost use Rattle.mach_types.specs.declared.codes.MsgReturn.TheVariants.{SendNoBuffer};
-ghost use Rattle.mach_types.specs.Numbers.{kind_sent, msg_number};
+ghost use Rattle.mach_types.specs.Numbers.{kind_sent};
+ghost use Rattle.mach_types.specs.Codes.{msg_number};
 ghost use Rattle.mach_types.specs.Tokens.{receive};
 ghost use Rattle.port.specs.Ports.{IsLive};
 ghost use Rattle.message_codec.specs.Parses.{Parses};

@@ -1,6 +1,6 @@
 //! Judging a message that has a body of raw bytes, as most do.
 ghost use Rattle.std.specs.Prelude.{◌≢◌, IfOk, IfErr};
-ghost use Rattle.mach_types.specs.Numbers.{msg_number};
+ghost use Rattle.mach_types.specs.Codes.{msg_number};
 ghost use Rattle.message_codec.specs.Parses.{Parses};
 ghost use Rattle.message_codec.specs.Plain.{parsed_plain, parsed_request};
 ghost use Rattle.copyin.specs.Planned.{IsPlan};

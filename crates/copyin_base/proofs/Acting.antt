@@ -7,7 +7,8 @@ use Rattle.mach_model.specs.Death.{IsOrphan}
 use Rattle.mach_model.specs.State.{State}
 use Rattle.mach_model.specs.Notices.{Owed}
 use Rattle.mach_model.specs.Refusals.{Refuses, RefusesLater, IsOneDead, guards, call_guards, tasks_of}
-use Rattle.mach_model.specs.Machine.{Does}
+use Rattle.mach_model.specs.Acts.{Does}
+use Rattle.mach_model.specs.Machine.{Judged}
 use Rattle.mach_model.proofs.Midway.{LosesNone}
 use Rattle.mach_model.proofs.StepLawful.{Does-mid}
 use Rattle.mach_model.proofs.StepReceives.{Does-receives}
@@ -15,7 +16,7 @@ use Rattle.copyin_base.specs.Changes.{NotesSenders, MakesNoSends}
 use Rattle.copyin_base.specs.Posted.{with_posted, IsLeft}
 use Rattle.copyin_base.specs.Worlds.{WorldView, NoneLost}
 use Rattle.copyin_base.specs.Shows.{Agrees, HoldersAgree, CarriersAgree, SlotsSuffice, RequestsStand, Shows}
-use Rattle.copyin_base.specs.Acts.{Acts, Declines, AreTasks, HasTasks, IsRefused, IsAllowed}
+use Rattle.copyin_base.specs.Serving.{Completes, Declines, AreTasks, HasTasks, IsRefused, IsAllowed}
 use Rattle.copyin_base.proofs.Listed.{none_listed}
 use Rattle.copyin_base.proofs.SendersNoted.{senders_same}
 use Rattle.copyin_base.proofs.Told.{among_tasks}
@@ -53,6 +54,7 @@ pub record Leaves-so (old : WorldView) (event : Event) (reply : Reply) (new : Wo
   pub mid : State
   pub owed : Owed
   pub does : Does now s event reply mid owed
+  pub judged : Judged now s event reply mid owed does
   pub agrees : Agrees new (with_posted now mid owed)
   pub holders : HoldersAgree new
   pub carriers : CarriersAgree new
@@ -63,7 +65,7 @@ pub record Leaves-so (old : WorldView) (event : Event) (reply : Reply) (new : Wo
   pub left : IsLeft new mid
 
 pub done_leaving : (old : WorldView) (event : Event) (reply : Reply) (new : WorldView) → HasTasks old event → IsAllowed old (λ s. call_guards s event) →
-    ((now : ℕ) (s : State) → Shows old s → Leaves-so old event reply new now s) → Acts old event reply new
+    ((now : ℕ) (s : State) → Shows old s → Leaves-so old event reply new now s) → Completes old event reply new
 done_leaving old event reply new tasks good does = record {
   acts = λ now s sh.
       let unrefused : NoneHolds (guards s event) = (tasks_live old s sh.agrees event tasks, good.allowed s sh) in
@@ -73,6 +75,7 @@ done_leaving old event reply new tasks good does = record {
         mid = d.mid;
         owed = d.owed;
         does = d.does;
+        judged = d.judged;
         shows = record {
           agrees = d.agrees;
           holders = d.holders;
@@ -82,7 +85,7 @@ done_leaving old event reply new tasks good does = record {
           notes = d.notes;
           makes = d.makes;
           left = d.left;
-          lawful = Does-mid now s event reply d.mid d.owed unrefused d.does sh.lawful;
+          lawful = Does-mid now s event reply d.mid d.owed unrefused d.does d.judged sh.lawful;
         };
       };
 }
@@ -92,6 +95,7 @@ pub record Does-so (old : WorldView) (event : Event) (reply : Reply) (new : Worl
   pub mid : State
   pub owed : Owed
   pub does : Does now s event reply mid owed
+  pub judged : Judged now s event reply mid owed does
   pub loses_none : LosesNone s event reply
   pub none_owed : owed ≡ []
   pub agrees : Agrees new mid
@@ -116,7 +120,7 @@ none_left w mid none unlost = record {
 }
 
 pub done : (old : WorldView) (event : Event) (reply : Reply) (new : WorldView) → HasTasks old event → IsAllowed old (λ s. call_guards s event) →
-    ((now : ℕ) (s : State) → Shows old s → Does-so old event reply new now s) → Acts old event reply new
+    ((now : ℕ) (s : State) → Shows old s → Does-so old event reply new now s) → Completes old event reply new
 done old event reply new tasks good does = done_leaving old event reply new tasks good (λ now s sh.
     let unrefused : NoneHolds (guards s event) = (tasks_live old s sh.agrees event tasks, good.allowed s sh) in
     let d = does now s sh in
@@ -124,6 +128,7 @@ done old event reply new tasks good does = done_leaving old event reply new task
       mid = d.mid;
       owed = d.owed;
       does = d.does;
+      judged = d.judged;
       agrees = subst (λ (o : Owed). Agrees new (with_posted now d.mid o)) (sym d.none_owed) d.agrees;
       holders = d.holders;
       carriers = d.carriers;
@@ -135,11 +140,13 @@ done old event reply new tasks good does = done_leaving old event reply new task
     })
 
 -- a look: the tables are as they were, and what is done leaves the state
-pub looked : (w : WorldView) (event : Event) (reply : Reply) (now : ℕ) (s : State) → Shows w s → LosesNone s event reply → Does now s event reply s [] → Does-so w event reply w now s
-looked w event reply now s sh none does = record {
+pub looked : (w : WorldView) (event : Event) (reply : Reply) (now : ℕ) (s : State) → Shows w s → LosesNone s event reply →
+    (does : Does now s event reply s []) → Judged now s event reply s [] does → Does-so w event reply w now s
+looked w event reply now s sh none does judged = record {
   mid = s;
   owed = [];
   does = does;
+  judged = judged;
   loses_none = none;
   none_owed = refl;
   agrees = sh.agrees;

@@ -8,7 +8,7 @@ use Rattle.std.specs.Ordering.{nat_cmp}
 use Rattle.std.proofs.lemmas.Bool.Decides.{eqb_tells}
 use Rattle.mach_types.specs.Tokens.{Kind, receive, send, Request, in_request, Token, count, is_held}
 use Rattle.mach_model.specs.State.{State, Target, Names, lookup, held}
-use Rattle.mach_model.specs.ReceiveRight.{one_if}
+use Rattle.mach_model.specs.Telling.{one_if}
 use Rattle.mach_model.specs.Carried.{lying}
 use Rattle.mach_model.proofs.Moving.{shape}
 use Rattle.name_space.specs.declared.Entry.{Entry}
@@ -25,6 +25,7 @@ use Rattle.copyin_base.proofs.Requesting.{requests_stay}
 use Rattle.copyin_base.proofs.Gets.{length-set, of_some, same_found}
 use Rattle.copyin_base.proofs.Putting.{each_put, put_own, put_other, same_len}
 use Rattle.copyin_base.proofs.Spaces.{each-space-set}
+use Rattle.mach_types.specs.declared.profiles.Profile.{Profile}
 
 -- ---- the names of one task
 
@@ -75,8 +76,8 @@ put_rights m task tokens c name o own n e p is named =
 -- ---- the groups
 
 module _ (spaces : List (Option SpaceView)) (task : ℕ) (space space2 : SpaceView) (there : space_in spaces task ≡ Some space) where
-  pub spaces_agree : (live : ℕ → Bool) (number : ℕ) (names names2 : ℕ → Names) → SpacesAgree spaces live number names → NamesAgree space2.names (names2 task) →
-      ((u : ℕ) → (u ≡ task → ⊥) → names2 u ≡ names u) → SpacesAgree (slice_set spaces task (Some space2)) live number names2
+  pub spaces_agree : {profile : Profile} (live : ℕ → Bool) (number : ℕ) (names names2 : ℕ → Names) → SpacesAgree spaces live number names profile → NamesAgree space2.names (names2 task) →
+      ((u : ℕ) → (u ≡ task → ⊥) → names2 u ≡ names u) → SpacesAgree (slice_set spaces task (Some space2)) live number names2 profile
   spaces_agree live number names names2 a own others =
       let each = each-space-set spaces task space2 space there in
       record {
@@ -87,6 +88,7 @@ module _ (spaces : List (Option SpaceView)) (task : ℕ) (space space2 : SpaceVi
             (λ y is. ap (λ (z : SpaceView). map.len z.names) (same_found (Some space2) y space2 is refl) ∙ own.kept)
             (λ u not y is. a.names_kept u y is ∙ ap (λ (z : Names). map.len z) (sym (others u not)));
         counted = each (λ u x. (n : ℕ) (e : Entry) → entry_in x n ≡ Some e → HasCount e) own.counted (λ u not. a.counted u);
+        is_first = a.is_first;
       }
 
   pub references_agree : (tokens tokens2 : List Token) → ReferencesAgree spaces tokens → CountRights space2.names task tokens2 →
@@ -168,7 +170,7 @@ pub record Near (w w2 : WorldView) (s t : State) (task : ℕ) (space2 : SpaceVie
 module _ (w w2 : WorldView) (s t : State) (a : Agrees w s) (task : ℕ) (space space2 : SpaceView) (there : space_at w task ≡ Some space)
     (near : NearBy w w2 s t task space2) where
   -- the groups, before what they stand over is that of the tables and of the state now
-  tasks_agree : SpacesAgree (slice_set w.spaces task (Some space2)) s.live_task s.tasks_made t.naming
+  tasks_agree : SpacesAgree (slice_set w.spaces task (Some space2)) s.live_task s.tasks_made t.naming s.profile
   tasks_agree = spaces_agree w.spaces task space space2 there s.live_task s.tasks_made s.naming t.naming a.spaces near.names near.naming_others
 
   rights_agree : ReferencesAgree (slice_set w.spaces task (Some space2)) t.ledger
@@ -179,8 +181,8 @@ module _ (w w2 : WorldView) (s t : State) (a : Agrees w s) (task : ℕ) (space s
 
   pub near_by_agrees : RequestsAgree (notify_of w2.requests) w2.requests.names.went w2.ports.made t.stands t.live_port t.ledger → Agrees w2 t
   near_by_agrees of_requests = record {
-    spaces = subst (λ (x : List (Option SpaceView)). SpacesAgree x t.live_task t.tasks_made t.naming) (sym near.spaces)
-        (subst (λ (x : State). SpacesAgree (slice_set w.spaces task (Some space2)) x.live_task x.tasks_made t.naming) (sym near.rest) tasks_agree);
+    spaces = subst (λ (x : List (Option SpaceView)). SpacesAgree x t.live_task t.tasks_made t.naming t.profile) (sym near.spaces)
+        (subst (λ (x : State). SpacesAgree (slice_set w.spaces task (Some space2)) x.live_task x.tasks_made t.naming x.profile) (sym near.rest) tasks_agree);
     rights = subst (λ (x : List (Option SpaceView)). ReferencesAgree x t.ledger) (sym near.spaces) rights_agree;
     live_port = λ p. near.live p ∙ a.live_port p ∙ sym (ap (λ (x : State). x.live_port p) near.rest);
     ports_made = near.made ∙ a.ports_made ∙ sym (ap (λ (x : State). x.ports_made) near.rest);

@@ -6,7 +6,7 @@ use Rattle.std.specs.FinMap as map
 use Rattle.std.proofs.lemmas.Bool.Decides.{eqb_tells}
 use Rattle.mach_types.specs.Tokens.{Kind, receive, send, Request, in_request}
 use Rattle.mach_model.specs.State.{State, Target, Names, lookup, held}
-use Rattle.mach_model.specs.ReceiveRight.{one_if}
+use Rattle.mach_model.specs.Telling.{one_if}
 use Rattle.mach_model.specs.Carried.{lying}
 use Rattle.mach_model.proofs.Moving.{shape, TaskNaming}
 use Rattle.name_space.specs.declared.Entry.{Entry}

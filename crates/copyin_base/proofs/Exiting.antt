@@ -5,12 +5,12 @@ use Rattle.std.proofs.lemmas.Result.{err_from_is_err_and}
 use Rattle.mach_types.specs.declared.calls.Event.{Event}
 use Rattle.mach_types.specs.declared.calls.Reply.{Reply}
 use Rattle.mach_types.specs.declared.codes.KernReturn.{KernReturn}
-use Rattle.mach_types.specs.Numbers.{kern_number}
+use Rattle.mach_types.specs.Codes.{kern_number}
 use Rattle.mach_model.specs.Refusals.{call_guards}
 use Rattle.copyin_base.specs.declared.code.Code.{Code}
 use Rattle.copyin_base.specs.declared.code.Code.TheVariants.{Kern}
 use Rattle.copyin_base.specs.Worlds.{WorldView}
-use Rattle.copyin_base.specs.Acts.{HasTasks, IsRefused, Serves}
+use Rattle.copyin_base.specs.Serving.{HasTasks, IsRefused, Serves}
 use Rattle.copyin_base.proofs.Acting.{refused}
 
 pub exits : (w : WorldView) (event : Event) (r : Result Reply Code) (code : KernReturn) → IsErrAnd r (λ given. given ≡ Kern code) → HasTasks w event →

@@ -3,13 +3,13 @@ use Rattle.std.proofs.Common.{◌≡◌, ℕ, true, Some, None, ◌∙◌}
 use Rattle.std.specs.Prelude.{is_some}
 use Rattle.mach_types.specs.Tokens.{receive}
 use Rattle.mach_model.specs.State.{State, Target, lookup, Holds}
-use Rattle.mach_model.specs.ReceiveRight.{NamesReceive}
+use Rattle.mach_model.specs.NameGuards.{NamesReceive}
 use Rattle.mach_model.specs.Refusals.{receive_guards}
 use Rattle.copyin_base.specs.Worlds.{WorldView, port_at}
 use Rattle.copyin_base.specs.Shows.{Agrees, Shows}
 use Rattle.copyin_base.specs.Stands.{Stands}
 use Rattle.copyin_base.specs.Finds.{FindsReceive}
-use Rattle.copyin_base.specs.Acts.{IsAllowed}
+use Rattle.copyin_base.specs.Serving.{IsAllowed}
 use Rattle.copyin_base.proofs.Told.{used, names_port, holds_receive, receive_lives}
 
 module _ (w : WorldView) (task name p : ℕ) (f : FindsReceive w task name p) where

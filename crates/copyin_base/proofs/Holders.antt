@@ -6,7 +6,7 @@ use Rattle.std.specs.Ordering.{nat_cmp}
 use Rattle.std.proofs.lemmas.Bool.Decides.{eqb_tells}
 use Rattle.mach_types.specs.Tokens.{receive, in_message, token, count, is_of, is_held}
 use Rattle.mach_model.specs.State.{State, held}
-use Rattle.mach_model.specs.ReceiveRight.{one_if}
+use Rattle.mach_model.specs.Telling.{one_if}
 use Rattle.mach_model.specs.Carried.{lying}
 use Rattle.mach_model.proofs.Names.{both_test, held_le_of}
 use Rattle.name_space.specs.declared.Entry.{Entry}

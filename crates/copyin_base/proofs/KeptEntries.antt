@@ -6,7 +6,8 @@ use Rattle.std.proofs.lemmas.Bool.{eq-eqb}
 use Rattle.std.proofs.lemmas.Bool.Decides.{eqb_tells}
 use Rattle.mach_types.specs.declared.rights.Disposition.{Disposition}
 use Rattle.mach_types.specs.declared.rights.Disposition.TheVariants.{MoveReceive, MoveSend, MoveSendOnce, CopySend, MakeSend, MakeSendOnce}
-use Rattle.mach_types.specs.Numbers.{kind_sent, disposition_number}
+use Rattle.mach_types.specs.Numbers.{kind_sent}
+use Rattle.mach_types.specs.Rights.{disposition_number}
 use Rattle.mach_types.specs.Tokens.{Kind, receive, send, send_once, in_message}
 use Rattle.mach_types.specs.Messages.{Entry, to_port, Message}
 use Rattle.mach_types.specs.Messages.{Mark as MachineMark}

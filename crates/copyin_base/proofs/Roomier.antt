@@ -52,6 +52,7 @@ room_spaces w v s same a =
             let y = same_names (space_at v task) (space_at w task) x (same.names task) is in
             ap (λ (m : Names). map.len m) y.2 ∙ a.names_kept task y.0 y.1;
         counted = λ task name x is. a.counted task name x (sym (entries task name) ∙ is);
+        is_first = a.is_first;
       };
       rights = record { references = λ task name x p is. a.references task name x p (sym (entries task name) ∙ is) };
       live_port = a.live_port;

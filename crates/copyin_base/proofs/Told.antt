@@ -8,9 +8,8 @@ use Rattle.std.proofs.lemmas.Bool.Decides.{eqb_tells}
 use Rattle.mach_types.specs.Numbers.{null_word, dead_word}
 use Rattle.mach_types.specs.Tokens.{receive}
 use Rattle.mach_model.specs.State.{State, Target, lookup, held, Holds}
-use Rattle.mach_model.specs.Tasks.{IsNoTask}
-use Rattle.mach_model.specs.ReceiveRight.{NamesReceive, one_if}
-use Rattle.mach_model.specs.Refusals.{IsNoName}
+use Rattle.mach_model.specs.NameGuards.{IsNoTask, IsNoName, NamesReceive}
+use Rattle.mach_model.specs.Telling.{one_if}
 use Rattle.mach_model.specs.Lawful.{IsLawful}
 use Rattle.mach_model.proofs.Settling.{named_lives}
 use Rattle.name_space.specs.declared.Entry.{Entry}

@@ -1,7 +1,7 @@
 -- What a message's body carries beside its bytes: one right that lies in its envelope, a list of them, or none.
 use Rattle.std.specs.Prelude.{Bool, true, false, List, [], ◌∷◌, Option, Some, None}
 use Rattle.std.specs.Global.{Box}
-use Rattle.mach_types.specs.Numbers.{disposition_number}
+use Rattle.mach_types.specs.Rights.{disposition_number}
 use Rattle.message_codec.specs.declared.spans.Span.{Span}
 use Rattle.message_codec.specs.Plain.{lone_span}
 use Rattle.copyin_base.specs.declared.message.BodyRights.{BodyRights}

@@ -4,7 +4,8 @@ use Rattle.std.specs.Coded.{Coded, code_by, coded×, coded_ℕ, coded_bool, code
 use Rattle.std.specs.Option.{option_map, unwrap_or}
 use Rattle.mach_types.specs.declared.rights.Disposition.{Disposition}
 use Rattle.mach_types.specs.declared.rights.Disposition.TheVariants.{MoveReceive}
-use Rattle.mach_types.specs.Numbers.{disposition, disposition_number, kind_sent}
+use Rattle.mach_types.specs.Numbers.{disposition, kind_sent}
+use Rattle.mach_types.specs.Rights.{disposition_number}
 use Rattle.mach_types.specs.Tokens.{Kind, send, send_once}
 use Rattle.mach_types.specs.Messages.{to_port, null, dead, ReplyRight, absent, present, Item, plain, rights, Body, Message}
 use Rattle.mach_types.specs.Messages.{Mark as MachineMark}

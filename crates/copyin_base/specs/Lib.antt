@@ -8,7 +8,7 @@ pub mod Worlds
 pub mod Shows
 pub mod Stands
 pub mod Posted
-pub mod Acts
+pub mod Serving
 pub mod Finds
 pub mod Changes
 pub mod Wanted

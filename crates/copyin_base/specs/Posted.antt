@@ -1,5 +1,5 @@
 -- What a step's own part leaves to its end: the notices that it owes stand in the logs already, and ports that were lost wait to be judged.
-use Rattle.std.specs.Prelude.{◌≡◌, ℕ, List, [], ◌∷◌, ◌++◌, length, Contains}
+use Rattle.std.specs.Prelude.{◌≡◌, ℕ, [], ◌∷◌, ◌++◌, length, Contains}
 use Rattle.mach_types.specs.Tokens.{Token}
 use Rattle.mach_model.specs.State.{State, at}
 use Rattle.mach_model.specs.Death.{IsOrphan}

@@ -1,5 +1,5 @@
 -- What lies in a queue: a message that was sent, or a notice, kept as the message that is made of it.
-use Rattle.std.specs.Prelude.{ℕ, Bool, true, false, List, [], ◌∷◌, ◌++◌, replicate, Option, Some, None}
+use Rattle.std.specs.Prelude.{ℕ, Bool, true, false, List, [], ◌++◌, replicate, Option, Some, None}
 use Rattle.mach_types.specs.declared.rights.Disposition.TheVariants.{MoveReceive}
 use Rattle.mach_types.specs.Grammar.{word}
 use Rattle.mach_model.specs.Notices.{port_deleted, port_sent, no_more_senders, right_unused, name_died, notice_id}

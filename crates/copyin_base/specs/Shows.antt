@@ -2,12 +2,13 @@
 use Rattle.std.specs.Prelude.{◌≡◌, ℕ, ◌+◌, ◌<◌, ◌≤◌, ◌^◌, Bool, true, List, [], ◌∷◌, length, Option, Some, is_some, Contains}
 use Rattle.std.specs.Option.{option_map, option_to_list}
 use Rattle.std.specs.FinMap as map
+use Rattle.mach_types.specs.declared.profiles.Profile.{Profile}
+use Rattle.mach_types.specs.declared.profiles.Profile.TheVariants.{One}
 use Rattle.mach_types.specs.declared.rights.Disposition.TheVariants.{MoveReceive}
-use Rattle.mach_types.specs.Tokens.{Kind, receive, send, send_once, Request, in_request, Token, count, is_of, is_held}
+use Rattle.mach_types.specs.Tokens.{receive, send, send_once, Token, count, is_of, is_held}
 use Rattle.mach_types.specs.Messages.{Entry}
 use Rattle.mach_model.specs.State.{State, Target, Names, queue}
-use Rattle.mach_model.specs.ReceiveRight.{one_if}
-use Rattle.mach_model.specs.Carried.{lying}
+use Rattle.mach_model.specs.Telling.{one_if}
 pub use Rattle.mach_model.specs.Unused.{came_by_once, onces_queued}
 use Rattle.mach_model.specs.Lawful.{IsLawful}
 use Rattle.name_space.specs.declared.Entry.{Entry as Named}
@@ -49,13 +50,14 @@ AllKept p (m ∷ ms) [] = ⊥
 
 -- ---- the parts of a state that the tables tell of, each over what it speaks of alone
 
--- Tasks and their names are those of the machine.
-pub record SpacesAgree (spaces : List (Option SpaceView)) (live : ℕ → Bool) (number : ℕ) (names : ℕ → Names) : Type 0 where
+-- Tasks and their names are those of the machine, which goes by the first profile.
+pub record SpacesAgree (spaces : List (Option SpaceView)) (live : ℕ → Bool) (number : ℕ) (names : ℕ → Names) (profile : Profile) : Type 0 where
   pub live_task : (task : ℕ) → is_some (space_in spaces task) ≡ live task
   pub tasks_made : length spaces ≡ number
   pub naming : (task name : ℕ) → map.get (names task) name ≡ option_map target_of (entry_in (space_in spaces task) name)
   pub names_kept : (task : ℕ) (space : SpaceView) → space_in spaces task ≡ Some space → map.len space.names ≡ map.len (names task)
   pub counted : (task name : ℕ) (entry : Named) → entry_in (space_in spaces task) name ≡ Some entry → HasCount entry
+  pub is_first : profile ≡ One
 
 -- A port's name counts the task's rights for it.
 pub record ReferencesAgree (spaces : List (Option SpaceView)) (tokens : List Token) : Type 0 where
@@ -95,7 +97,7 @@ pub record SetsAgree (sets : SetsView) (owner : ℕ → Option ℕ) (number : �
 
 -- The tables tell of the whole state, but for what was received and where entries came from.
 pub record Agrees (w : WorldView) (s : State) : Type 0 where
-  pub spaces : SpacesAgree w.spaces s.live_task s.tasks_made s.naming
+  pub spaces : SpacesAgree w.spaces s.live_task s.tasks_made s.naming s.profile
   pub open spaces use *
   pub rights : ReferencesAgree w.spaces s.ledger
   pub open rights use *

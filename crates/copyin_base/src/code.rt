@@ -1,6 +1,6 @@
 //! Codes of refusals.
 ghost use Rattle.std.specs.Prelude.{◌≡◌};
-ghost use Rattle.copyin_base.specs.Acts.{code_number};
+ghost use Rattle.copyin_base.specs.Serving.{code_number};
 ghost use Rattle.copyin_base.specs.declared.code.Code.TheVariants as AnyCode;
 
 use mach_types::{KernReturn, MsgReturn};

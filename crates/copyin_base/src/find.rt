@@ -1,9 +1,9 @@
 //! What stands under a name, and which refusal it is that it doesn't.
 ghost use Rattle.std.specs.Prelude.{◌≡◌, ℕ, Some, IfOk, IfErr};
-ghost use Rattle.mach_types.specs.Numbers.{kern_number};
+ghost use Rattle.mach_types.specs.Codes.{kern_number};
 ghost use Rattle.mach_model.specs.Refusals.{used_guards, receive_guards, set_guards};
 ghost use Rattle.name_space.specs.declared.Entry.TheVariants as AnyEntry;
-ghost use Rattle.copyin_base.specs.Acts.{IsRefused};
+ghost use Rattle.copyin_base.specs.Serving.{IsRefused};
 ghost use Rattle.copyin_base.specs.Finds.{FindsReceive};
 ghost use Rattle.copyin_base.specs.Worlds.{entry_at};
 

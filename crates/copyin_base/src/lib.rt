@@ -2,7 +2,7 @@
 //!
 //! [`World`] has the tasks' names, the ports with their queues, the counts of rights, the port sets and the
 //! requests for notices.
-//! `specs/Shows` says when the tables show a state of the machine of `mach_model`, and `specs/Acts` what
+//! `specs/Shows` says when the tables show a state of the machine of `mach_model`, and `specs/Serving` what
 //! a call on them promises.
 #![tactic(auto)]
 

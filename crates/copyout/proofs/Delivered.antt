@@ -2,7 +2,8 @@
 use Rattle.std.proofs.Common.{◌≡◌, ℕ, ◌+◌, ◌*◌, ◌^◌, List, [], ◌∷◌, ◌++◌, Option, Some, None, refl, sym, ap, subst, ◌∙◌, arith, length, ◌<◌, ◌≤◌, ◌≢◌, Bool, inl, inr}
 use Rattle.std.specs.Prelude.{if◌then◌else◌, min, MatchBool, MatchOption, max, is_some}
 use Rattle.std.specs.Option.{option_to_list}
-use Rattle.mach_types.specs.Numbers.{kind_sent, most_bytes, dead_word, null_word, disposition_number}
+use Rattle.mach_types.specs.Numbers.{kind_sent, most_bytes, dead_word, null_word}
+use Rattle.mach_types.specs.Rights.{disposition_number}
 use Rattle.mach_types.specs.Grammar.{WireBody, body_text}
 use Rattle.mach_types.specs.Tokens.{Kind, receive, send, send_once}
 use Rattle.message_codec.specs.declared.header.Header.{Header}

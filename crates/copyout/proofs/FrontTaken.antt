@@ -19,7 +19,7 @@ use Rattle.mach_model.specs.Carried.{lying, mark_count, message_count, rights_co
 use Rattle.mach_model.specs.Receive.{with_taken, TakesFrom, Receives}
 use Rattle.mach_model.specs.Lawful.{IsLawful, tally}
 use Rattle.mach_model.proofs.Names.{both_test, length-weigh, at_own, at_other}
-use Rattle.mach_model.specs.ReceiveRight.{one_if}
+use Rattle.mach_model.specs.Telling.{one_if}
 use Rattle.mach_model.specs.CopyOut.{GiveWord}
 use Rattle.mach_model.specs.ReceivedMeans.{IsReceived}
 use Rattle.mach_model.proofs.Moving.{IsMoving, IsOutside}

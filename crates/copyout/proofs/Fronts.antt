@@ -11,14 +11,17 @@ use Rattle.mach_types.specs.Messages.{Entry, Form, short, long, Message, Mark as
 use Rattle.mach_types.specs.declared.calls.Reply.{Reply}
 use Rattle.mach_types.specs.declared.calls.Waited.{Waited}
 use Rattle.mach_types.specs.declared.codes.MsgReturn.TheVariants.{ReceiveBodyErrorMemory, ReceiveBodyErrorNames}
-use Rattle.mach_types.specs.Numbers.{most_bytes, msg_number, kind_sent}
+use Rattle.mach_types.specs.Numbers.{most_bytes, kind_sent}
+use Rattle.mach_types.specs.Codes.{msg_number}
 use Rattle.mach_types.specs.Bodies.{OneFails}
 use Rattle.mach_types.specs.Grammar.{Wire, data_item, port_item, WireBody, wire_text, wires_text, words_text, descriptor_text, body_text}
 use Rattle.mach_model.specs.State.{State, queue}
 use Rattle.mach_model.specs.Carried.{mark_count, rights_count}
-use Rattle.mach_model.specs.Receive.{IsFront, TakesFrom, Receipt, ReceiptRefuses}
+use Rattle.mach_model.specs.Receive.{IsFront, TakesFrom, Receipt}
+use Rattle.mach_model.specs.ReceiptRefusals.{ReceiptRefuses}
 use Rattle.mach_model.specs.Lawful.{IsLawful}
-use Rattle.mach_model.specs.CopyOut.{GiveMark, MarkLacks, MessageLacks}
+use Rattle.mach_model.specs.CopyOut.{GiveMark}
+use Rattle.mach_model.specs.Room.{MessageLacks, MarkLacks}
 use Rattle.mach_model.specs.ReceivedMeans.{form_length, items_length, body_length, message_length}
 use Rattle.mach_model.proofs.Moving.{moving}
 use Rattle.mach_model.proofs.Names.{lying_le_of}

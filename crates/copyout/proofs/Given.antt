@@ -9,7 +9,7 @@ use Rattle.mach_types.specs.Tokens.{Token, Moves, Kind, receive, send, send_once
 use Rattle.mach_types.specs.Numbers.{most_names, most_references}
 use Rattle.mach_model.proofs.Names.{weigh-append, pos_or_zero, both_test, length-weigh, held_le_of, lying_le_of, at_own, at_other, kept}
 use Rattle.mach_model.specs.State.{State, Target, Names as Targets, lookup, held, with_name, IsFresh}
-use Rattle.mach_model.specs.ReceiveRight.{one_if}
+use Rattle.mach_model.specs.Telling.{one_if}
 use Rattle.mach_model.specs.Carried.{lying}
 use Rattle.mach_model.specs.CopyOut.{given_to, Named, NamedFor, GiveRight}
 use Rattle.mach_model.proofs.Moving.{IsMoving}
@@ -33,6 +33,7 @@ use Rattle.copyin_base.proofs.Counting.{right_of, right_taken, counts_same}
 use Rattle.copyin_base.proofs.Gets.{of_some, same_found}
 use Rattle.copyin_base.proofs.Putting.{each_put, put_same}
 use Rattle.copyin_base.proofs.Told.{port_of}
+use Rattle.copyin_base.proofs.ProfileOne.{fresh_for, none_counted}
 use Rattle.copyin_base.proofs.Changing.{target_named}
 use Rattle.copyin_base.proofs.Holders.{IsReceive, ReceivesIn, ReceivesAt, receives_at, put_receives, left_receives, added_receives, KeepHolders, ChangesHolder, same_holders, unheld, unheld_lying, holders_left, holders_given}
 use Rattle.copyin_base.proofs.SendersNoted.{KeepsSends, KeepsSenders, keeps_senders, counts_own, sends_elsewhere}
@@ -435,7 +436,7 @@ module _ (w : WorldView) (s : State) (a : Agrees w s) (o k : ℕ) (l : IsMoving 
         fresh = grind (arith, unused, lookup_is, same_there)
 
         named_new : Named task word target s (with_name task word target s)
-        named_new = record { room = omega (arith, room, len_is); fresh = fresh; rest = refl }
+        named_new = record { room = omega (arith, room, len_is); fresh = fresh_for s a.is_first task word fresh; rest = ap (with_name task word target) (sym (none_counted s a.is_first task word)) }
 
         new_for : (c : Kind) → c ≡ kind → NamedFor c task word p s (with_name task word (target_of (alone c p)) s)
         new_for receive is = grind (arith, no_name, named_new)

@@ -8,7 +8,8 @@ use Rattle.std.proofs.lemmas.List.Elements.{Contains-append_right}
 use Rattle.std.proofs.lemmas.Option.{slice_get_within}
 use Rattle.std.specs.FinMap as names
 use Rattle.mach_types.specs.declared.rights.Disposition.TheVariants.{MoveReceive}
-use Rattle.mach_types.specs.Numbers.{kind_sent, dead_word, disposition_number}
+use Rattle.mach_types.specs.Numbers.{kind_sent, dead_word}
+use Rattle.mach_types.specs.Rights.{disposition_number}
 use Rattle.mach_types.specs.Tokens.{Kind, receive, send, send_once, in_message, token, is_of, same_kind, Place}
 use Rattle.mach_types.specs.Messages.{Entry, to_port, Mark as MachineMark, null, dead}
 use Rattle.mach_types.specs.Bodies.{Through}

@@ -6,7 +6,8 @@ use Rattle.std.proofs.lemmas.Bool.Decides.{eqb_tells}
 use Rattle.std.proofs.lemmas.List.{length-take-le, length-drop}
 use Rattle.mach_types.specs.declared.rights.Disposition.{Disposition}
 use Rattle.mach_types.specs.declared.rights.Disposition.TheVariants.{MoveReceive, MoveSend, MoveSendOnce, CopySend, MakeSend, MakeSendOnce}
-use Rattle.mach_types.specs.Numbers.{kind_number, disposition_number}
+use Rattle.mach_types.specs.Numbers.{kind_number}
+use Rattle.mach_types.specs.Rights.{disposition_number}
 use Rattle.mach_types.specs.Grammar.{Wire, data_item, port_item, WireBody, NamesPorts, IsWire, IsWireBody}
 use Rattle.mach_types.specs.Bodies.{body_words, reply_words, SameBody, SameReply}
 use Rattle.mach_model.specs.ReceivedMeans.{IsReceived}

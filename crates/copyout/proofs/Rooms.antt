@@ -8,7 +8,8 @@ use Rattle.mach_types.specs.Tokens.{Kind, receive, send, send_once, Place, in_me
 use Rattle.mach_types.specs.Bodies.{OneFails}
 use Rattle.mach_model.specs.State.{State, Target, lookup, IsFresh}
 use Rattle.mach_model.specs.Carried.{mark_count, lying}
-use Rattle.mach_model.specs.CopyOut.{Named, NamedOnce, NamedFor, GiveRight, GiveMark, HasNoRoom, NeedsName, MarkLacks as MachineLacks}
+use Rattle.mach_model.specs.CopyOut.{Named, NamedOnce, NamedFor, GiveRight, GiveMark}
+use Rattle.mach_model.specs.Room.{MarkLacks as MachineLacks, NeedsName, HasNoRoom}
 use Rattle.mach_model.proofs.Names.{length-weigh}
 use Rattle.mach_model.proofs.Moving.{IsMoving}
 use Rattle.mach_model.proofs.Settling.{IsReordered}
@@ -37,6 +38,7 @@ use Rattle.copyin_base.proofs.Gets.{same_found, same_head}
 use Rattle.copyin_base.proofs.Idle.{none_lost_by}
 use Rattle.copyin_base.proofs.Spaces.{space-set_same, space-set_other}
 use Rattle.copyin_base.proofs.Told.{space_there}
+use Rattle.copyin_base.proofs.ProfileOne.{is_fresh}
 use Rattle.copyout.specs.Giving.{joined, alone, ledger_joined, ports_given, GivesPort, GivesMark, free_names, NoneLeft, NeedsOwn, MarkLacks, LackNames, free_room, GivesAll}
 use Rattle.copyout.proofs.Given.{port_given, option_named, same_there}
 use Rattle.copyout.proofs.GivenAll.{AreLying, mark_given, own_mark, later}
@@ -160,7 +162,7 @@ module _ (w : WorldView) (s : State) (a : Agrees w s) (task : ℕ) (space : Spac
       ledger = w.ledger;
       given = inr (
         record {
-          fresh = fresh_too word n.fresh;
+          fresh = fresh_too word (is_fresh s a.is_first task word n.fresh);
           room = let b = n.room in let e = len_is in omega (arith, b, e);
           lone = λ not. no_name_too p (none not);
           rest = refl;

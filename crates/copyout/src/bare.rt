@@ -3,7 +3,8 @@
 ghost use Rattle.std.specs.Prelude.{◌≡◌, ◌≢◌, ℕ, ◌≤◌, [], ◌∷◌, true, false, None, List, length, min, IfOk, IfErr, IfSome, OnOk, MatchOption, Some};
 ghost use Rattle.std.specs.Option.{option_to_list};
 ghost use Rattle.mach_types.specs.Grammar.{WireBody};
-ghost use Rattle.mach_types.specs.Numbers.{most_bytes, disposition_number};
+ghost use Rattle.mach_types.specs.Numbers.{most_bytes};
+ghost use Rattle.mach_types.specs.Rights.{disposition_number};
 ghost use Rattle.message_codec.specs.Plain.{lone_span};
 ghost use Rattle.message_codec.specs.Received.{IsLaidOut};
 ghost use Rattle.copyin_base.specs.Changes.{MakesRoom};

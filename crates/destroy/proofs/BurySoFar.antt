@@ -17,7 +17,7 @@ use Rattle.mach_model.proofs.SettledEnd.{mapped_length}
 use Rattle.mach_model.specs.Midway.{MidLawful}
 use Rattle.mach_model.specs.Notices.{right_unused, no_more_senders, port_sent, Owed, Posted, all_posted_tokens}
 use Rattle.mach_model.specs.Settles.{tokens_of, settled_target, dead_references}
-use Rattle.mach_model.specs.Turns.{Ending, outcome, went_in, listed, IsAtDoomed, Takes, PaidForName, Begins, PaysAtEnd, is_among, Turn, IsReached, begins, turns, IsNameOf, IsRequestOf}
+use Rattle.mach_model.specs.Turns.{Ending, outcome, went_in, listed, IsAtDoomed, SpendsRights, PaidForName, Begins, PaysAtEnd, is_among, Turn, IsReached, begins, turns, IsNameOf, IsRequestOf}
 use Rattle.mach_model.proofs.TurnsCounted.{listed_later, listed_first}
 use Rattle.mach_model.proofs.SettledReceives.{and_false, none_tasked}
 use Rattle.mach_model.proofs.TurnsMade.{bury}
@@ -34,6 +34,7 @@ use Rattle.notifications.proofs.NoticePosted.{filter_weigh}
 use Rattle.notifications.specs.SoFar.{buried_alone, seen_for, IsSoFar, posted_so_far, due_so_far}
 use Rattle.mach_model.proofs.SettledDetermined.{weigh-same}
 use Rattle.destroy.proofs.BuryState.{elsewhere, left_posted, all_fine, is_off, lives_else_after, of_port, own_ended, other_ended, none_stands}
+use Rattle.mach_types.specs.declared.profiles.Profile.{Profile}
 
 -- ---- As a port is buried its names are read as dead names.
 
@@ -148,7 +149,7 @@ module _ (live : ℕ → Bool) (spaces : List (Option SpaceView)) where
   some_same f (Some x) = refl
   some_same f None = refl
 
-  module _ (live_task : ℕ → Bool) (number : ℕ) (names : ℕ → Names) (references : ℕ → ℕ → ℕ) (a : SpacesAgree spaces live_task number names)
+  module _ (live_task : ℕ → Bool) (number : ℕ) (names : ℕ → Names) (profile : Profile) (references : ℕ → ℕ → ℕ) (a : SpacesAgree spaces live_task number names profile)
       (as_read : (task n : ℕ) (e : Entry) → entry_in (space_in spaces task) n ≡ Some e → left_target live (references task) (target_of e) ≡ target_of (reading live e)) where
     naming : (task n : ℕ) → map.get (mapped (left_target live (references task)) (names task)) n ≡ option_map target_of (entry_in (space_in (read_spaces live spaces) task) n)
     naming task n =
@@ -161,7 +162,7 @@ module _ (live : ℕ → Bool) (spaces : List (Option SpaceView)) where
         go None at = refl
         go (Some e) at = ap Some (as_read task n e at)
 
-    pub spaces_left : SpacesAgree (read_spaces live spaces) live_task number (λ task. mapped (left_target live (references task)) (names task))
+    pub spaces_left : SpacesAgree (read_spaces live spaces) live_task number (λ task. mapped (left_target live (references task)) (names task)) profile
     spaces_left = record {
       live_task = λ task. ap is_some (space_read_in live spaces task) ∙ some_same (read_space live) (space_in spaces task) ∙ a.live_task task;
       tasks_made = length_read live spaces ∙ a.tasks_made;
@@ -170,6 +171,7 @@ module _ (live : ℕ → Bool) (spaces : List (Option SpaceView)) where
           let k = kept_there live spaces task space is in
           ap (λ (x : SpaceView). map.len x.names) k.2 ∙ len_read live k.0.names ∙ a.names_kept task k.0 k.1 ∙ sym (mapped_len (left_target live (references task)) (names task));
       counted = λ task n e is. let k = read_from task n e is in subst HasCount (sym k.2) (counted_read live k.0 (a.counted task n k.0 k.1));
+      is_first = a.is_first;
     }
 
   -- the tasks' rights for ports that are there are as many as before
@@ -233,7 +235,7 @@ module _ (task : ℕ) (kind : Kind) (p : ℕ) where
   other_port : (x : Token) (port : ℕ) → x.port ≡ port → (p ≡ port → ⊥) → held_test x ≡ false
   other_port x port is not = rw (ne_eqb x.port p (λ h. not (sym h ∙ is))) (ap (λ (b : Bool). b && is_in_task task x.place) (and_no _))
 
-  same_left : (e f : Ending) (paying : Owed) (going : List Token) → Takes e f paying going → All (λ x. held_test x.0 ≡ false) paying → All (λ x. held_test x ≡ false) going →
+  same_left : (e f : Ending) (paying : Owed) (going : List Token) → SpendsRights e f paying going → All (λ x. held_test x.0 ≡ false) paying → All (λ x. held_test x ≡ false) going →
       count held_test f.left ≡ count held_test e.left
   same_left e f paying going t pays goes =
       let a = t.left (λ x. if held_test x then 1 else 0) in
@@ -263,7 +265,7 @@ module _ (task : ℕ) (kind : Kind) (p : ℕ) where
     turn_kept e f (inr (inr (inl t))) none = (ap (λ (x : Ending). listed x.buried p) (sym t.rest) ∙ none, ap (λ (x : Ending). count held_test x.left) t.rest)
     turn_kept e f (inr (inr (inr (inl t)))) none = (ap (λ (x : Ending). listed x.buried p) (sym t.rest) ∙ none, go t.takes)
       where
-        go : (t.right.kind ≡ send_once) × Takes e f ((t.right, right_unused) ∷ []) [] ⊎ (t.right.kind ≢ send_once) × Takes e f [] (t.right ∷ []) → count held_test f.left ≡ count held_test e.left
+        go : (t.right.kind ≡ send_once) × SpendsRights e f ((t.right, right_unused) ∷ []) [] ⊎ (t.right.kind ≢ send_once) × SpendsRights e f [] (t.right ∷ []) → count held_test f.left ≡ count held_test e.left
         go (inl h) = same_left e f _ _ h.1 (one_all (λ x. held_test x.0 ≡ false) _ (at_doomed e t.right t.destroyed)) (none_all _)
         go (inr h) = same_left e f _ _ h.1 (none_all _) (one_all (λ x. held_test x ≡ false) _ (at_doomed e t.right t.destroyed))
     turn_kept e f (inr (inr (inr (inr (inl t))))) none = (

@@ -9,7 +9,7 @@ use Rattle.mach_types.specs.Tokens.{Request, Place, Token, in_request, token, no
 use Rattle.mach_types.specs.Numbers.{kind_sent}
 use Rattle.mach_model.specs.State.{State, Names, same_request, request_at}
 use Rattle.mach_model.specs.Notices.{Owed, carried_by}
-use Rattle.mach_model.specs.Turns.{Ending, is_among, lives_after, IsRequestOf, IsOffRequest, PaysAtEnd, Takes, Turn, death_notice}
+use Rattle.mach_model.specs.Turns.{Ending, is_among, lives_after, IsRequestOf, IsOffRequest, PaysAtEnd, SpendsRights, Turn, death_notice}
 use Rattle.mach_model.proofs.SettledReceives.{or_left}
 use Rattle.mach_model.proofs.Names.{removed_own}
 use Rattle.mach_model.proofs.TurnsCounted.{one_all}
@@ -77,7 +77,7 @@ module _ (now : ℕ) (tables : WorldView) (old mid : State) (owed : Owed) (e : E
       (agrees : (xs : List Token) → GoesOn (lives_after mid e) notify r s.ledger xs → AgreesOf (lives_after mid e) (record w { spaces = spaces; requests = rq }) (record s { naming = naming; stands = request_at s.stands r false; ledger = xs }))
       (framed : Framed mid e (record w { spaces = spaces; requests = rq })) (fewer : (q : ℕ) → map.contains_key rq.no_senders.map q ≡ true → map.contains_key w.requests.no_senders.map q ≡ true)
       (notice : Notice) (tells : notice_of notice ≡ death_notice r) (none : (at : Place) → carried_by (notice_of notice) at ≡ []) (bare : (q : ℕ) → ¬ (CarriesReceive (notice_kept notice) q)) where
-    ends : (f : Ending) (paying : Owed) → All (PaysAtEnd e r) paying → Takes e f paying [] → All (IsOffRequest e r) f.left →
+    ends : (f : Ending) (paying : Owed) → All (PaysAtEnd e r) paying → SpendsRights e f paying [] → All (IsOffRequest e r) f.left →
         f ≡ record e { ended = r ∷ e.ended; left = f.left; paid = f.paid; turns = e.turns + length paying } → Turn old mid e f
     ends f paying pays takes all_left rest = inr (inr (inr (inr (inl (record {
       port = port;

@@ -5,7 +5,7 @@ use Rattle.std.proofs.lemmas.List.Elements.{All-append}
 use Rattle.mach_types.specs.Tokens.{receive, send_once, port_destroyed, in_request, Token, token}
 use Rattle.mach_model.specs.State.{State}
 use Rattle.mach_model.specs.Notices.{Notice, port_sent, Owed}
-use Rattle.mach_model.specs.Turns.{Ending, listed, is_judged, IsFound, AreJudged, IsAtDoomed, Begins, Dooms, Saves, Destroys, Turn, IsReached, begins, turns}
+use Rattle.mach_model.specs.Turns.{Ending, listed, is_judged, IsFound, AreJudged, IsAtDoomed, Begins, Dooms, Saves, DestroysDoomed, Turn, IsReached, begins, turns}
 use Rattle.mach_model.proofs.SettledReceives.{or_cases, or_left, or_right}
 use Rattle.mach_model.proofs.TurnsSettle.{weaker}
 use Rattle.mach_model.proofs.TurnsCounted.{listed_first, listed_later, one_more, one_all, judged_stays}
@@ -35,7 +35,7 @@ module _ (mid : State) (e f : Ending) where
   pub dooms_judging : Dooms mid e f → IsJudging mid e → IsJudging mid f
   dooms_judging t = same_judging (ap (λ (x : Ending). x.buried) t.rest) (ap (λ (x : Ending). x.saved) t.rest) (ap (λ (x : Ending). x.paid) t.rest) (ap (λ (x : Ending). x.gone) t.rest)
 
-  pub destroys_judging : Destroys mid e f → IsJudging mid e → IsJudging mid f
+  pub destroys_judging : DestroysDoomed mid e f → IsJudging mid e → IsJudging mid f
   destroys_judging t = same_judging (ap (λ (x : Ending). x.buried) t.rest) (ap (λ (x : Ending). x.saved) t.rest) (ap (λ (x : Ending). x.paid) t.rest) (ap (λ (x : Ending). x.gone) t.rest)
 
   pub saves_judging : Saves mid e f → IsJudging mid e → IsJudging mid f

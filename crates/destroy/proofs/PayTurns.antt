@@ -37,7 +37,7 @@ use Rattle.request_table.specs.Requests.{without_first_went}
 use Rattle.copyin_base.specs.Posted.{with_notice, with_posted}
 use Rattle.copyin_base.specs.Requests.{RequestTablesView, notify_of, rights_kept, was_on, RequestsAgree, AreEnded}
 use Rattle.copyin_base.specs.declared.notice.Notice.TheVariants.{PortDeleted}
-use Rattle.copyin_base.specs.Acts.{ShowsMid}
+use Rattle.copyin_base.specs.Serving.{ShowsMid}
 use Rattle.copyin_base.specs.Kept.{Kept}
 use Rattle.copyin_base.specs.Queued.{notice_kept}
 use Rattle.copyin_base.specs.Shows.{Agrees, RequestsStand, CountsAgree, Shows}

@@ -10,7 +10,7 @@ use Rattle.mach_model.specs.Death.{same_place}
 use Rattle.mach_model.specs.Carried.{lying_among}
 use Rattle.mach_model.specs.Midway.{MidLawful}
 use Rattle.mach_model.specs.Notices.{Owed, Posted, carried_by}
-use Rattle.mach_model.specs.Turns.{Ending, listed, is_among, lives_after, has_ended, IsOffRequest, IsReached, Takes, Turn, turns}
+use Rattle.mach_model.specs.Turns.{Ending, listed, is_among, lives_after, has_ended, IsOffRequest, IsReached, SpendsRights, Turn, turns}
 use Rattle.mach_model.proofs.Names.{count_some, left_of, right_of, both_test}
 use Rattle.mach_model.proofs.Settling.{own_test, lives as port_lives, place_refl}
 use Rattle.mach_model.proofs.SettledDetermined.{weigh-same}
@@ -202,10 +202,10 @@ module _ (now : ℕ) (tables : WorldView) (old mid : State) (owed : Owed) (e : E
     abbrev pub paid_ending : Ending
     paid_ending = record e { ended = ended2; told = told2; left = without x e.left; paid = e.paid ++ (x, notice_of notice) ∷ []; turns = e.turns + 1 }
 
-    pub dead_takes : Takes e dead_ending [] []
+    pub dead_takes : SpendsRights e dead_ending [] []
     dead_takes = record { left = λ h. omega arith; paid = sym (append-nil e.paid); gone = sym (append-nil e.gone) }
 
-    pub paid_takes : lives_after mid e notify ≡ true → Takes e paid_ending ((x, notice_of notice) ∷ []) []
+    pub paid_takes : lives_after mid e notify ≡ true → SpendsRights e paid_ending ((x, notice_of notice) ∷ []) []
     paid_takes alive = record { left = λ h. let a = parts_left alive h in omega (arith, a); paid = refl; gone = sym (append-nil e.gone) }
 
     module _ (stood_now : StandsSoFar mid dead_ending (request_at s.stands r false)) (named : NamesSoFar mid ended2 s.live_port naming)

@@ -7,7 +7,7 @@ use Rattle.std.proofs.lemmas.Bool.Decides.{eqb_tells}
 use Rattle.mach_types.specs.Tokens.{send, send_once, Request, no_senders, port_destroyed, dead_name, in_request, Token, token, is_of, count}
 use Rattle.mach_model.specs.State.{State, same_request, request_at, senders}
 use Rattle.mach_model.specs.Notices.{Owed, Notice, no_more_senders}
-use Rattle.mach_model.specs.Turns.{Ending, listed, is_among, lives_after, IsOffRequest, AreJudged, outcome, Takes, Turn}
+use Rattle.mach_model.specs.Turns.{Ending, listed, is_among, lives_after, IsOffRequest, AreJudged, outcome, SpendsRights, Turn}
 use Rattle.mach_model.proofs.Names.{removed_own, pos_or_zero, alike}
 use Rattle.mach_model.proofs.TurnsMade.{same_request_is}
 use Rattle.mach_model.proofs.TurnsCounted.{one_all}
@@ -146,7 +146,7 @@ module _ (now : ℕ) (tables : WorldView) (old mid : State) (owed : Owed) (e : E
       has_none : count (is_of send p) e.left ≡ 0
       has_none = grind arith
 
-      tells : (f : Ending) (paying : Owed) → All (λ (z : Token × Notice). (z.0.kind ≡ send_once) × (z.0.place ≡ in_request r) × (z.1 ≡ no_more_senders ((outcome mid e).make_send p))) paying → Takes e f paying [] →
+      tells : (f : Ending) (paying : Owed) → All (λ (z : Token × Notice). (z.0.kind ≡ send_once) × (z.0.place ≡ in_request r) × (z.1 ≡ no_more_senders ((outcome mid e).make_send p))) paying → SpendsRights e f paying [] →
           All (IsOffRequest e r) f.left → f ≡ record e { told = p ∷ e.told; left = f.left; paid = f.paid; gone = f.gone; turns = e.turns + length paying } → Turn old mid e f
       tells f paying pays takes all_left rest = inr (inr (inr (inr (inr (inr (record {
         port = p;

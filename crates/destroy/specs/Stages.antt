@@ -7,7 +7,7 @@ use Rattle.mach_model.specs.Turns.{Ending, IsReached, IsDone, AreJudged, Begins,
 use Rattle.mach_model.specs.Work.{IsBounded, deaths}
 use Rattle.port.specs.declared.Holder.TheVariants as holder
 use Rattle.port.specs.Ports.{PortView}
-use Rattle.copyin_base.specs.Acts.{ShowsMid}
+use Rattle.copyin_base.specs.Serving.{ShowsMid}
 use Rattle.copyin_base.specs.Kept.{Kept}
 use Rattle.copyin_base.specs.Shows.{Shows}
 use Rattle.copyin_base.specs.Wanted.{room_of}

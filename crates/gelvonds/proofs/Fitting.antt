@@ -7,19 +7,23 @@ use Rattle.mach_types.specs.declared.codes.KernReturn.{KernReturn}
 use Rattle.mach_types.specs.declared.codes.MsgReturn.{MsgReturn}
 use Rattle.mach_types.specs.declared.codes.KernReturn.TheVariants as kern
 use Rattle.mach_types.specs.declared.codes.MsgReturn.TheVariants as msg
-use Rattle.mach_types.specs.Numbers.{kern_number, msg_number, kind_sent}
+use Rattle.mach_types.specs.Numbers.{kind_sent}
+use Rattle.mach_types.specs.Codes.{kern_number, msg_number}
 use Rattle.mach_types.specs.Guards.{Guards, FirstIs}
 use Rattle.mach_types.specs.Tokens.{Kind, Place, in_task}
 use Rattle.mach_types.specs.Grammar.{Header, WireBody}
 use Rattle.mach_types.specs.TextGuards.{ItemRefuses, item_guards}
-use Rattle.mach_model.specs.State.{State, opening}
-use Rattle.mach_model.specs.Send.{SendRefuses, RightsRefuse, WholeRefuses, sent_guards, place_at}
+use Rattle.mach_model.specs.State.{State}
+use Rattle.mach_model.specs.Machine.{opening, Step}
+use Rattle.mach_model.specs.Send.{place_at}
+use Rattle.mach_model.specs.SendRefusals.{SendRefuses, RightsRefuse, WholeRefuses, sent_guards}
 use Rattle.mach_model.specs.Notices.{Owed}
-use Rattle.mach_model.specs.Receive.{Receipt, ReceiptRefuses}
-use Rattle.mach_model.specs.Requests.{RequestRefuses, noted_guards}
-use Rattle.mach_model.specs.Transfer.{inserted_guards, extracted_guards, CopyRefuses}
+use Rattle.mach_model.specs.Receive.{Receipt}
+use Rattle.mach_model.specs.ReceiptRefusals.{ReceiptRefuses}
+use Rattle.mach_model.specs.RequestRefusals.{RequestRefuses, noted_guards}
+use Rattle.mach_model.specs.TransferRefusals.{CopyRefuses, extracted_guards, inserted_guards}
 use Rattle.mach_model.specs.Refusals.{Refuses, guards}
-use Rattle.mach_model.specs.Machine.{Does, Step}
+use Rattle.mach_model.specs.Acts.{Does}
 use Rattle.copyin_base.specs.declared.code.Code.TheVariants as code
 use Rattle.copyin_base.specs.Worlds.{WorldView}
 use Rattle.copyin_base.specs.Shows.{Shows}
@@ -53,6 +57,8 @@ done_fits now s (Event.SetMscount task name n) (Reply.Code code) mid owed d = in
 done_fits now s (Event.SetSeqno task name n) (Reply.Code code) mid owed d = inl d.0
 done_fits now s (Event.SetStatus task name) (Reply.Members members) mid owed d = tt
 done_fits now s (Event.MoveMember task member after) (Reply.Code code) mid owed d = inl d.0
+done_fits now s (Event.InsertMember task member set) (Reply.Code code) mid owed d = inl d.0
+done_fits now s (Event.ExtractMember task member set) (Reply.Code code) mid owed d = inl d.0
 done_fits now s (Event.InsertRight task name from poly number) (Reply.Code code) mid owed d = inl d.0
 done_fits now s (Event.ExtractRight task name number to) (Reply.Right told kind) mid owed d = tt
 done_fits now s (Event.RequestNotification task name variant sync notify number) (Reply.Previous previous) mid owed d = tt
@@ -193,6 +199,10 @@ refused_fits s (Event.SetStatus task name) number (inl f) = first_code IsKern (g
 refused_fits s (Event.SetStatus task name) number (inr later) = shortage number later.1
 refused_fits s (Event.MoveMember task member after) number (inl f) = inr (first_code IsKern (guards s (Event.MoveMember task member after)) number (no_task, (no_name, (no_right, (kern_of kern.NotInSet refl, tt)))) f)
 refused_fits s (Event.MoveMember task member after) number (inr later) = never number later.1
+refused_fits s (Event.InsertMember task member set) number (inl f) = inr (first_code IsKern (guards s (Event.InsertMember task member set)) number (no_task, (kern_of kern.InvalidArgument refl, (no_name, (no_right, (kern_of kern.AlreadyInSet refl, tt))))) f)
+refused_fits s (Event.InsertMember task member set) number (inr later) = inr (shortage number later.1)
+refused_fits s (Event.ExtractMember task member set) number (inl f) = inr (first_code IsKern (guards s (Event.ExtractMember task member set)) number (no_task, (kern_of kern.InvalidArgument refl, (no_name, (no_right, (kern_of kern.NotInSet refl, tt))))) f)
+refused_fits s (Event.ExtractMember task member set) number (inr later) = never number later.1
 refused_fits s (Event.InsertRight task name from poly d) number (inl f) = inr (first_code IsKern (guards s (Event.InsertRight task name from poly d)) number (no_task, (bad_value, (no_capability, (no_name, (no_right, tt))))) f)
 refused_fits s (Event.InsertRight task name from poly d) number (inr later) = inr (copy_code from (in_task task) d poly s (λ p kind copied. inserted_guards copied task name p kind) number (λ p kind copied. (kern_of kern.RightExists refl, (in_use, (too_many, (no_space, tt))))) later.1)
 refused_fits s (Event.ExtractRight task name d to) number (inl f) = first_code IsKern (guards s (Event.ExtractRight task name d to)) number (no_task, (bad_value, (no_name, (no_right, tt)))) f

@@ -3,9 +3,9 @@ use Rattle.std.specs.Prelude.{◌≡◌, ◌≢◌, ℕ, ◌⊎◌}
 use Rattle.mach_types.specs.declared.calls.Event.{Event}
 use Rattle.mach_types.specs.declared.calls.Reply.{Reply}
 use Rattle.mach_types.specs.declared.codes.KernReturn.{KernReturn}
-use Rattle.mach_types.specs.Numbers.{kern_number}
+use Rattle.mach_types.specs.Codes.{kern_number}
 use Rattle.copyin_base.specs.declared.code.Code.{Code}
-use Rattle.copyin_base.specs.Acts.{code_number}
+use Rattle.copyin_base.specs.Serving.{code_number}
 
 -- the number is the code by which a kernel call is refused
 pub record IsKern (number : ℕ) : Type 0 where
@@ -97,6 +97,8 @@ Fits (Event.SetMscount task name n) reply = IsDone reply
 Fits (Event.SetSeqno task name n) reply = IsDone reply
 Fits (Event.SetStatus task name) reply = IsMembers reply
 Fits (Event.MoveMember task member after) reply = IsDone reply
+Fits (Event.InsertMember task member set) reply = IsDone reply
+Fits (Event.ExtractMember task member set) reply = IsDone reply
 Fits (Event.InsertRight task name from poly number) reply = IsDone reply
 Fits (Event.ExtractRight task name number to) reply = IsRight reply
 Fits (Event.RequestNotification task name variant sync notify number) reply = IsPrevious reply

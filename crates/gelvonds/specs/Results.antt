@@ -4,14 +4,16 @@ use Rattle.mach_types.specs.declared.calls.Event.{Event}
 use Rattle.mach_types.specs.declared.calls.Reply.{Reply}
 use Rattle.mach_types.specs.declared.codes.KernReturn.{KernReturn}
 use Rattle.mach_types.specs.declared.rights.Disposition.TheVariants.{MakeSendOnce}
-use Rattle.mach_types.specs.Numbers.{kern_number, disposition_number, null_word}
+use Rattle.mach_types.specs.Numbers.{null_word}
+use Rattle.mach_types.specs.Rights.{disposition_number}
+use Rattle.mach_types.specs.Codes.{kern_number}
 use Rattle.message_codec.specs.declared.writer.PortRight.{PortRight}
 use Rattle.mach_types.specs.declared.codes.MsgReturn.TheVariants.{SendNoBuffer}
 use Rattle.message_codec.specs.declared.writer.WriteError.{WriteError}
 use Rattle.message_codec.specs.declared.writer.WriteError.TheVariants.{Refused, OutOfMemory}
 use Rattle.copyin_base.specs.declared.code.Code.{Code}
 use Rattle.copyin_base.specs.declared.code.Code.TheVariants as code_of
-use Rattle.copyin_base.specs.Acts.{code_number}
+use Rattle.copyin_base.specs.Serving.{code_number}
 use Rattle.kernel_core.specs.Kernels.{KernelView}
 use Rattle.gelvonds.specs.Steps.{IsStep}
 use Rattle.gelvonds.specs.declared.results.Receipt.{Receipt}

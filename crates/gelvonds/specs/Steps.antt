@@ -3,7 +3,7 @@ use Rattle.std.specs.Prelude.{◌≡◌}
 use Rattle.mach_types.specs.declared.calls.Event.{Event}
 use Rattle.mach_types.specs.declared.calls.Reply.{Reply}
 use Rattle.mach_model.specs.State.{State}
-use Rattle.mach_laws.specs.Queued.{unused}
+use Rattle.mach_laws.specs.Queued.{unused_onces}
 use Rattle.copyin_base.specs.Shows.{Shows}
 use Rattle.kernel_core.specs.Answers.{Answers}
 use Rattle.kernel_core.specs.Kernels.{KernelView, TakesTurns}
@@ -16,4 +16,4 @@ pub record IsStep (old : KernelView) (event : Event) (reply : Reply) (new : Kern
   -- where it may tell of want of memory, and the room that it leaves
   pub wanted : Wanted old.tables event reply
   pub spares : Spares old.tables new.tables
-  pub unused_are : (s : State) → Shows new.tables s → new.tables.ledger.unused ≡ unused s
+  pub unused_are : (s : State) → Shows new.tables s → new.tables.ledger.unused ≡ unused_onces s

@@ -3,11 +3,14 @@ ghost use Rattle.std.specs.Prelude.{◌≡◌, ◌≤◌, ℕ, IfOk, IfErr};
 ghost use Rattle.mach_types.specs.declared.calls.Event.TheVariants as AnyEvent;
 ghost use Rattle.mach_types.specs.declared.calls.Reply.{Reply as OneReply};
 ghost use Rattle.mach_types.specs.declared.calls.Reply.TheVariants as AnyReply;
-ghost use Rattle.mach_types.specs.Numbers.{right_number, disposition_number, most_bytes};
-ghost use Rattle.mach_model.specs.State.{State, opening};
-ghost use Rattle.mach_model.specs.Machine.{Run, Step};
+ghost use Rattle.mach_types.specs.Numbers.{right_number, most_bytes};
+ghost use Rattle.mach_types.specs.Rights.{disposition_number};
+ghost use Rattle.mach_model.specs.State.{State};
+ghost use Rattle.mach_model.specs.Machine.{opening, Run, Step};
 ghost use Rattle.mach_laws.specs.Headline.{Headline};
-ghost use Rattle.mach_laws.specs.Queued.{SlotsWithin, unused};
+ghost use Rattle.mach_laws.specs.JudgedPaths.{JudgedPath};
+ghost use Rattle.mach_types.specs.declared.profiles.Profile.TheVariants.{One};
+ghost use Rattle.mach_laws.specs.Queued.{SlotsWithin, unused_onces};
 ghost use Rattle.copyin_base.specs.Shows.{Shows};
 ghost use Rattle.kernel_core.specs.Bounds.{most_told, IsWithin};
 ghost use Rattle.gelvonds.specs.Steps.{IsStep};
@@ -53,17 +56,19 @@ impl Model for Kernel {
 }
 
 /// Makes these calls on a new kernel, one after another, and gives the kernel that they leave with their
-/// answers in order. They are a run of the machine, to a state that the kernel shows, of which all is true
-/// that `mach_laws`' `Headline` says. Its spare message slots are as many as its unused send-once rights at
-/// least, and with its queued messages no more than there ever were of both (`SlotsWithin`).
+/// answers in order. They are a run of the machine, to a state that the kernel shows, of which all is true that
+/// `mach_laws`' `Headline` says, and whose stages are judged right. Its spare message slots are as many as its
+/// unused send-once rights at least, and with its queued messages no more than there ever were of both
+/// (`SlotsWithin`).
 ///
 /// # Errors
 /// Memory for the list of answers was refused. Where a step is refused memory, that is its answer, and the
 /// run goes on.
 pub fn run(alloc: Global, events: Vec<Event>) -> Result<(Kernel, Vec<Reply>), AllocError>
     ensures { IfOk result (λ made. (s : State) × Run events.items made.1.items s × Shows made.0.tables s
-        × (h : Headline events.items made.1.items s) × SlotsWithin made.0.tables.ports.spare h.stages s
-        × (unused s ≤ made.0.tables.ports.spare)) }
+        × (h : Headline One events.items made.1.items s) × JudgedPath One h.stages s
+        × SlotsWithin made.0.tables.ports.spare h.stages s
+        × (unused_onces s ≤ made.0.tables.ports.spare)) }
 {
     let (kernel, replies) = kernel_core::run(alloc, events)?;
     Ok((Kernel { kernel }, replies))

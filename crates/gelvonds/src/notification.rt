@@ -1,6 +1,6 @@
 //! Requests for notices, as a caller writes them.
 ghost use Rattle.std.specs.Prelude.{◌≡◌, Option};
-ghost use Rattle.mach_types.specs.Numbers.{disposition_number};
+ghost use Rattle.mach_types.specs.Rights.{disposition_number};
 ghost use Rattle.gelvonds.specs.Results.{notification_number, notify_name, notify_number};
 
 use mach_types::{Disposition, Name};

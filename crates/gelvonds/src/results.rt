@@ -1,8 +1,8 @@
 //! What typed calls answer, and how a reply says it.
 ghost use Rattle.std.specs.Prelude.{◌≡◌, ◌≢◌, IfErr};
 ghost use Rattle.mach_types.specs.declared.calls.Reply.TheVariants as AnyReply;
-ghost use Rattle.mach_types.specs.Numbers.{kern_number};
-ghost use Rattle.copyin_base.specs.Acts.{code_number};
+ghost use Rattle.mach_types.specs.Codes.{kern_number};
+ghost use Rattle.copyin_base.specs.Serving.{code_number};
 ghost use Rattle.gelvonds.specs.Fits.{IsKern, IsCode, IsDone, IsTask, IsName, IsRefs, IsNameType, IsNames, IsStatus, IsMembers, IsRight, IsPrevious, IsReceived};
 ghost use Rattle.gelvonds.specs.Results.{reply_of, done, extracted, receipt_reply};
 

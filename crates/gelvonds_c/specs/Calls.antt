@@ -4,7 +4,7 @@ use Rattle.std.specs.Int.{w32, cast_signed}
 use Rattle.mach_types.specs.declared.calls.Event.{Event}
 use Rattle.mach_types.specs.declared.calls.Reply.{Reply}
 use Rattle.mach_types.specs.declared.codes.MsgReturn.TheVariants.{ReceiveTimedOut, ReceiveTooLarge}
-use Rattle.mach_types.specs.Numbers.{msg_number}
+use Rattle.mach_types.specs.Codes.{msg_number}
 use Rattle.kernel_core.specs.Answers.{Answers}
 use Rattle.mach_types.specs.declared.calls.Waited.{Waited}
 use Rattle.mach_types.specs.declared.calls.Waited.TheVariants.{Port, Set}

@@ -3,8 +3,8 @@ use Rattle.std.proofs.Common.{◌≡◌, ℕ, List, Result, Ok, Err, IfOk, IfErr
 use Rattle.mach_types.specs.declared.calls.Event.{Event}
 use Rattle.mach_types.specs.declared.codes.MsgReturn.{MsgReturn}
 use Rattle.mach_types.specs.declared.codes.MsgReturn.TheVariants.{SendNoBuffer}
-use Rattle.mach_types.specs.Numbers.{msg_number}
-use Rattle.copyin_base.specs.Acts.{Declines}
+use Rattle.mach_types.specs.Codes.{msg_number}
+use Rattle.copyin_base.specs.Serving.{Declines}
 use Rattle.copyin_base.specs.Worlds.{WorldView, HasTask}
 use Rattle.copyin.specs.declared.judge.Plan.{Plan}
 use Rattle.copyin.specs.Wanted.{WantsToSend}

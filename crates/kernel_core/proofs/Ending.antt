@@ -8,13 +8,13 @@ use Rattle.mach_model.specs.State.{State, queue}
 use Rattle.mach_model.specs.Settles.{Settles}
 use Rattle.mach_model.specs.Lawful.{IsLawful}
 use Rattle.mach_laws.specs.Counts.{accepts, takes_from}
-use Rattle.mach_laws.specs.Queued.{sum_below, waiting, queued, unused, MakesAsNeeded}
+use Rattle.mach_laws.specs.Queued.{sum_below, waiting, queued, unused_onces, MakesAsNeeded}
 use Rattle.mach_laws.proofs.Counted.{sum_same, Does-counted}
 use Rattle.mach_laws.proofs.Slots.{ends_with_slots, ending_needs_all}
 use Rattle.port.specs.Ports.{PortView}
 use Rattle.rights.specs.Unused.{IsUnusedOfAll}
 use Rattle.copyin_base.specs.declared.code.Code.{Code}
-use Rattle.copyin_base.specs.Acts.{code_number, IsDone, Acts, Declines}
+use Rattle.copyin_base.specs.Serving.{code_number, IsDone, Completes, Declines}
 use Rattle.copyin_base.specs.Kept.{Kept}
 use Rattle.copyin_base.specs.Shows.{AllKept, Shows}
 use Rattle.copyin_base.specs.Stands.{Stands}
@@ -58,19 +58,19 @@ module _ (old w new : WorldView) (event : Event) (reply : Reply) where
   step_slots now s u d turns l uses all x e = go uses
     where
       counted : queued d.mid + takes_from event reply ≡ queued s + accepts event reply
-      counted = Does-counted now s event reply d.mid d.owed l d.unrefused d.does
+      counted = Does-counted now s event reply d.mid d.owed l d.unrefused d.does d.judged
 
       made : new.ports.spare + queued u ≤ w.ports.spare + queued d.mid + length d.owed
       made = ends_with_slots now s d.mid d.owed e.ending u d.shows.lawful e.reached e.done x w.ports.spare new.ports.spare e.slots
 
-      go : UsesSlots old event reply (length d.owed) w → new.ports.spare + queued u ≤ max (old.ports.spare + queued s) (queued u + unused u)
+      go : UsesSlots old event reply (length d.owed) w → new.ports.spare + queued u ≤ max (old.ports.spare + queued s) (queued u + unused_onces u)
       go (inl few) = omega (arith, counted, made, few)
       go (inr (few, none)) =
           let needs = ending_needs_all now s d.mid d.owed u d.shows.lawful x (λ p o. none_listed w.ports.lost none p (d.shows.left.orphans p o)) in
           let midway = midway_unused now old w d.mid d.owed d.shows all in
           omega (arith, made, needs, few, midway)
 
-  acted_slots : (turns : ℕ) → Acts old event reply w → SettlesIn w turns new → LeavesSlots old event (Ok reply) w → IsUnusedOfAll old.ledger → IsUnusedOfAll w.ledger → IsUnusedOfAll new.ledger →
+  acted_slots : (turns : ℕ) → Completes old event reply w → SettlesIn w turns new → LeavesSlots old event (Ok reply) w → IsUnusedOfAll old.ledger → IsUnusedOfAll w.ledger → IsUnusedOfAll new.ledger →
       (s t : State) → Shows old s → Shows new t → MakesAsNeeded old.ports.spare new.ports.spare s t
   acted_slots turns a settles leaves before all after s t sh later =
       let d = a.acts 0 s sh in
@@ -83,7 +83,7 @@ module _ (old w new : WorldView) (event : Event) (reply : Reply) where
 
 -- ---- what a step keeps
 
-pub acted_spares : (old w new : WorldView) (event : Event) (reply : Reply) (turns : ℕ) → Stands old → Acts old event reply w → SettlesIn w turns new → KeepsRooms w new → LeavesSpares old event (Ok reply) w →
+pub acted_spares : (old w new : WorldView) (event : Event) (reply : Reply) (turns : ℕ) → Stands old → Completes old event reply w → SettlesIn w turns new → KeepsRooms w new → LeavesSpares old event (Ok reply) w →
     IsUnusedOfAll old.ledger → IsUnusedOfAll w.ledger → IsUnusedOfAll new.ledger → Spares old new
 acted_spares old w new event reply turns stands a settles rooms leaves before all after = record {
   rooms = λ task. let few = leaves.rooms task in let same = rooms task in omega (arith, few, same);
@@ -102,7 +102,7 @@ declined_spares old new event code d leaves all = record {
 
 -- ---- midway
 
-pub is_midway : (old w : WorldView) (event : Event) (reply : Reply) → Stands old → Acts old event reply w → IsMidway w
+pub is_midway : (old w : WorldView) (event : Event) (reply : Reply) → Stands old → Completes old event reply w → IsMidway w
 is_midway old w event reply stands a =
     let d = a.acts 0 stands.state stands.shown in
     record { now = 0; tables = old; old = stands.state; mid = d.mid; owed = d.owed; shown = stands.shown; shows = d.shows }

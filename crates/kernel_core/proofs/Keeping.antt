@@ -5,10 +5,10 @@ use Rattle.std.proofs.lemmas.Bool.Decides.{eqb_tells, leb_tells}
 use Rattle.mach_types.specs.declared.calls.Event.{Event}
 use Rattle.mach_types.specs.declared.calls.Reply.{Reply}
 use Rattle.mach_types.specs.declared.codes.KernReturn.TheVariants.{InvalidTask, ResourceShortage}
-use Rattle.mach_types.specs.Numbers.{kern_number}
+use Rattle.mach_types.specs.Codes.{kern_number}
 use Rattle.mach_model.specs.State.{State}
 use Rattle.mach_model.specs.Notices.{Owed}
-use Rattle.mach_model.specs.Machine.{Does}
+use Rattle.mach_model.specs.Acts.{Does}
 use Rattle.mach_model.proofs.Midway.{LosesNone}
 use Rattle.mach_model.proofs.StepReceives.{Does-receives}
 use Rattle.mach_laws.specs.Counts.{accepts, MayNeedSlots}
@@ -16,7 +16,7 @@ use Rattle.mach_laws.proofs.Counted.{Does-counted}
 use Rattle.mach_laws.proofs.Onces.{part_needs, request_needs}
 use Rattle.copyin_base.specs.declared.code.Code.{Code}
 use Rattle.copyin_base.specs.declared.code.Code.TheVariants.{Kern}
-use Rattle.copyin_base.specs.Acts.{code_number, IsDone, Acts, Declines, Serves}
+use Rattle.copyin_base.specs.Serving.{code_number, IsDone, Completes, Declines, Serves}
 use Rattle.copyin_base.specs.Shows.{Shows}
 use Rattle.copyin_base.specs.Stands.{Stands}
 use Rattle.copyin_base.specs.Wanted.{KeepsSpares, UsesSpares}
@@ -52,6 +52,8 @@ does_zero now s (Event.SetQlimit task name n) code mid owed d = d.0
 does_zero now s (Event.SetMscount task name n) code mid owed d = d.0
 does_zero now s (Event.SetSeqno task name n) code mid owed d = d.0
 does_zero now s (Event.MoveMember task member after) code mid owed d = d.0
+does_zero now s (Event.InsertMember task member set) code mid owed d = d.0
+does_zero now s (Event.ExtractMember task member set) code mid owed d = d.0
 does_zero now s (Event.InsertRight task name from poly number) code mid owed d = d.0
 does_zero now s (Event.Send task bytes) code mid owed d = d.0
 does_zero now s (Event.Receive task name room large) code mid owed d = absurd d.2
@@ -60,7 +62,7 @@ does_zero now s event code mid owed d = absurd d
 same_code : (a b : ℕ) → Reply.Code a ≡ Reply.Code b → a ≡ b
 same_code a b e = cc
 
-pub done_wanted : (w : WorldView) (event : Event) (reply : Reply) (new : WorldView) → Stands w → Acts w event reply new → Wanted w event reply
+pub done_wanted : (w : WorldView) (event : Event) (reply : Reply) (new : WorldView) → Stands w → Completes w event reply new → Wanted w event reply
 done_wanted w event reply new stands a = record {
   wanted = λ is. absurd (
       let d = a.acts 0 stands.state stands.shown in
@@ -97,16 +99,18 @@ owes_none now old (Event.AllocateName task right name) (Reply.Name told) mid owe
 owes_none now old (Event.Deallocate task name) reply mid owed none d = absurd none
 owes_none now old (Event.Destroy task name) reply mid owed none d = absurd none
 owes_none now old (Event.ModRefs task name right delta) reply mid owed none d = absurd none
-owes_none now old (Event.GetRefs task name right) (Reply.Refs n) mid owed none d = d.2
-owes_none now old (Event.NameType task name) (Reply.NameType n) mid owed none d = d.2
-owes_none now old (Event.Names task) (Reply.Names entries) mid owed none d = d.2
+owes_none now old (Event.GetRefs task name right) (Reply.Refs n) mid owed none d = d.1
+owes_none now old (Event.NameType task name) (Reply.NameType n) mid owed none d = d.1
+owes_none now old (Event.Names task) (Reply.Names entries) mid owed none d = d.1
 owes_none now old (Event.Rename task o n) (Reply.Code code) mid owed none d = d.2
-owes_none now old (Event.ReceiveStatus task name) (Reply.Status status) mid owed none d = d.2
+owes_none now old (Event.ReceiveStatus task name) (Reply.Status status) mid owed none d = d.1
 owes_none now old (Event.SetQlimit task name n) (Reply.Code code) mid owed none d = d.2
 owes_none now old (Event.SetMscount task name n) (Reply.Code code) mid owed none d = d.3
 owes_none now old (Event.SetSeqno task name n) (Reply.Code code) mid owed none d = d.3
-owes_none now old (Event.SetStatus task name) (Reply.Members members) mid owed none d = d.2
+owes_none now old (Event.SetStatus task name) (Reply.Members members) mid owed none d = d.1
 owes_none now old (Event.MoveMember task member after) (Reply.Code code) mid owed none d = d.2
+owes_none now old (Event.InsertMember task member set) (Reply.Code code) mid owed none d = d.2
+owes_none now old (Event.ExtractMember task member set) (Reply.Code code) mid owed none d = d.2
 owes_none now old (Event.InsertRight task name from poly number) (Reply.Code code) mid owed none d = d.2
 owes_none now old (Event.ExtractRight task name number to) (Reply.Right new_name kind) mid owed none d = d.1
 owes_none now old (Event.RequestNotification task name variant sync notify number) reply mid owed none d = absurd none
@@ -157,8 +161,8 @@ used_spares old event result new u few = record { rooms = u.rooms; slots = used 
   where
     used : (r : Result Reply Code) → LeavesSlots old event r new
     used (Ok reply) = λ before after now s sh d. inl (
-        let part = part_needs now s event reply d.mid d.owed sh.lawful d.unrefused d.does few in
-        let counted = Does-counted now s event reply d.mid d.owed sh.lawful d.unrefused d.does in
+        let part = part_needs now s event reply d.mid d.owed sh.lawful d.unrefused d.does d.judged few in
+        let counted = Does-counted now s event reply d.mid d.owed sh.lawful d.unrefused d.does d.judged in
         let was = shown_unused old s sh before in
         let is = midway_unused now old new d.mid d.owed d.shows after in
         let spare = u.slots in omega (arith, part, counted, was, is, spare))
@@ -212,8 +216,8 @@ asked_slots : (old : WorldView) (task name : ℕ) (a : Asked) (reply : Reply) (n
     AskedSlots old a (Ok reply) new → (d : IsDone now old s (asks task name a) reply new) → UsesSlots old (asks task name a) reply (length d.owed) new
 asked_slots old task name a (Reply.Previous previous) new now s sh before after slots d = elim slots.0 [
   | inl few ↦ inl (
-      let part = request_needs now s task name a.variant a.sync a.notify a.disposition previous d.mid d.owed sh.lawful d.unrefused d.does in
-      let counted = Does-counted now s (asks task name a) (Reply.Previous previous) d.mid d.owed sh.lawful d.unrefused d.does in
+      let part = request_needs now s task name a.variant a.sync a.notify a.disposition previous d.mid d.owed sh.lawful d.unrefused d.does d.judged in
+      let counted = Does-counted now s (asks task name a) (Reply.Previous previous) d.mid d.owed sh.lawful d.unrefused d.does d.judged in
       let was = shown_unused old s sh before in
       let is = midway_unused now old new d.mid d.owed d.shows after in omega (arith, part, counted, was, is, few))
   | inr few ↦ inr (few, slots.1 ∙ sh.idle.none_lost.lost)

@@ -9,19 +9,19 @@ use Rattle.mach_types.specs.declared.codes.MsgReturn.{MsgReturn}
 use Rattle.mach_types.specs.declared.codes.MsgReturn.TheVariants.{SendNoBuffer}
 use Rattle.mach_types.specs.Guards.{Guards, FirstIs, NoneHolds}
 use Rattle.mach_types.specs.Grammar.{Header, WireBody, Spells}
-use Rattle.mach_types.specs.Numbers.{kern_number, msg_number}
+use Rattle.mach_types.specs.Codes.{kern_number, msg_number}
 use Rattle.mach_types.specs.TextGuards.{header_guards, item_guards, TextRefuses, ItemsRefuse}
 use Rattle.mach_types.specs.Tokens.{in_task}
 use Rattle.mach_model.specs.State.{State}
-use Rattle.mach_model.specs.Send.{SendRefuses}
-use Rattle.mach_model.specs.Transfer.{inserted_guards, extracted_guards}
+use Rattle.mach_model.specs.SendRefusals.{SendRefuses}
+use Rattle.mach_model.specs.TransferRefusals.{extracted_guards, inserted_guards}
 use Rattle.mach_model.specs.Refusals.{RefusesLater, IsOneDead, guards, call_guards, tasks_of}
 use Rattle.mach_laws.proofs.Refusals.{itself, none_is_first, inserted_same, extracted_same, hand_short}
 use Rattle.mach_laws.proofs.Deciding.{request_short}
 use Rattle.message_codec.specs.declared.text.Parsed.{Parsed}
 use Rattle.message_codec.specs.Parses.{Parses, IsCrowded}
 use Rattle.copyin.proofs.Planning.{good_header, none_first}
-use Rattle.copyin_base.specs.Acts.{Declines, AreTasks, HasTasks, IsRefused, IsAllowed}
+use Rattle.copyin_base.specs.Serving.{Declines, AreTasks, HasTasks, IsRefused, IsAllowed}
 use Rattle.copyin_base.specs.Shows.{Agrees, Shows}
 use Rattle.copyin_base.specs.Worlds.{WorldView}
 use Rattle.copyin_base.proofs.Acting.{tasks_live}
@@ -65,6 +65,10 @@ none_has s (Event.SetMscount task name n) = ((λ e. omega (arith, e)), ((λ e. o
 none_has s (Event.SetSeqno task name n) = ((λ e. omega (arith, e)), ((λ e. omega (arith, e)), ((λ e. omega (arith, e)), tt)))
 none_has s (Event.SetStatus task name) = ((λ e. omega (arith, e)), ((λ e. omega (arith, e)), ((λ e. omega (arith, e)), tt)))
 none_has s (Event.MoveMember task member after) = ((λ e. omega (arith, e)), ((λ e. omega (arith, e)), ((λ e. omega (arith, e)), ((λ e. omega (arith, e)), tt))))
+none_has s (Event.InsertMember task member set) =
+    ((λ e. omega (arith, e)), ((λ e. omega (arith, e)), ((λ e. omega (arith, e)), ((λ e. omega (arith, e)), ((λ e. omega (arith, e)), tt)))))
+none_has s (Event.ExtractMember task member set) =
+    ((λ e. omega (arith, e)), ((λ e. omega (arith, e)), ((λ e. omega (arith, e)), ((λ e. omega (arith, e)), ((λ e. omega (arith, e)), tt)))))
 none_has s (Event.InsertRight task name from poly number) =
     ((λ e. omega (arith, e)), ((λ e. omega (arith, e)), ((λ e. omega (arith, e)), ((λ e. omega (arith, e)), ((λ e. omega (arith, e)), tt)))))
 none_has s (Event.ExtractRight task name number to) = ((λ e. omega (arith, e)), ((λ e. omega (arith, e)), ((λ e. omega (arith, e)), ((λ e. omega (arith, e)), tt))))

@@ -11,6 +11,7 @@ mod Sparing
 mod Listed
 mod Bounding
 mod Lacking
+mod Members
 mod Staying
 mod Chosen
 mod InTurn

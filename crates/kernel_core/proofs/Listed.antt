@@ -7,9 +7,8 @@ use Rattle.std.proofs.lemmas.Map.Views.{Contains-from_any}
 use mathlib.Core.Logic.{dite}
 use native.Mathlib.Decide.{ℕ_discrete}
 use Rattle.mach_model.specs.State.{State}
-use Rattle.mach_model.specs.Names.{names_of}
-use Rattle.mach_model.specs.Sets.{TellsMembers}
-use Rattle.mach_model.specs.Tasks.{IsNoTask}
+use Rattle.mach_model.specs.Telling.{names_of, TellsMembers}
+use Rattle.mach_model.specs.NameGuards.{IsNoTask}
 use Rattle.name_space.specs.Names.{SpaceView}
 use Rattle.copyin_base.specs.Shows.{Shows}
 use Rattle.copyin_base.specs.Worlds.{WorldView, space_at}

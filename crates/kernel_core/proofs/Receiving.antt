@@ -9,15 +9,16 @@ use Rattle.mach_types.specs.declared.calls.Waited.{Waited}
 use Rattle.mach_types.specs.declared.codes.MsgReturn.TheVariants.{ReceiveInvalidName, ReceiveInSet, ReceivePortDied, ReceivePortChanged, ReceiveBodyErrorNames, ReceiveBodyErrorMemory}
 use Rattle.mach_types.specs.Guards.{NoneHolds}
 use Rattle.mach_types.specs.Messages.{Entry as LogEntry}
-use Rattle.mach_types.specs.Numbers.{msg_number, most_bytes}
+use Rattle.mach_types.specs.Numbers.{most_bytes}
+use Rattle.mach_types.specs.Codes.{msg_number}
 use Rattle.mach_types.specs.Tokens.{receive}
 use Rattle.mach_model.specs.State.{State, Target, lookup, held, Holds}
-use Rattle.mach_model.specs.ReceiveRight.{NamesReceive}
-use Rattle.mach_model.specs.Sets.{IsSet}
-use Rattle.mach_model.specs.Machine.{Does}
+use Rattle.mach_model.specs.NameGuards.{NamesReceive, IsSet}
+use Rattle.mach_model.specs.Acts.{Does}
 use Rattle.mach_model.specs.ReceivedMeans.{message_length}
 use Rattle.mach_model.specs.Receive.{TakesFrom, IsEmptyFor, Receipt}
 use Rattle.mach_model.specs.Refusals.{again_guards, call_guards}
+use Rattle.mach_model.specs.Machine.{Judged}
 use Rattle.mach_model.proofs.MessagesLawful.{Receives-removes}
 use Rattle.mach_model.proofs.StepLawful.{TakesFrom-live}
 use Rattle.name_space.specs.declared.Entry.{Entry}
@@ -26,7 +27,7 @@ use Rattle.name_space.specs.Entry.{port_named, has_receive, receive_named, set_n
 use Rattle.port.specs.Ports.{PortView}
 use Rattle.port.specs.declared.Attributes.{Attributes}
 use Rattle.port_set.specs.declared.SetRecord.{SetRecord}
-use Rattle.copyin_base.specs.Acts.{Acts, Declines, IsRefused, IsAllowed}
+use Rattle.copyin_base.specs.Serving.{Completes, Declines, IsRefused, IsAllowed}
 use Rattle.copyin_base.specs.Changes.{MakesRoom, HasAttributes, SameButRoom}
 use Rattle.copyin_base.specs.Finds.{FindsReceive}
 use Rattle.copyin_base.specs.Kept.{Kept}
@@ -377,11 +378,13 @@ module _ (w : WorldView) (task : ℕ) (below : HasTask w task) (waited : Waited)
 
 -- a call whose own part is this receipt
 does_receipt : {task room : ℕ} {waited : Waited} {large : Bool} (w : WorldView) (event : Event) (reply : Reply) (new : WorldView) (now : ℕ) (s : State) →
-    (y : ReceiptOf now w s task waited room large reply new) → Does now s event reply y.mid y.owed → Leaves-so w event reply new now s
-does_receipt w event reply new now s y does = record {
+    (y : ReceiptOf now w s task waited room large reply new) → (does : Does now s event reply y.mid y.owed) → Judged now s event reply y.mid y.owed does →
+    Leaves-so w event reply new now s
+does_receipt w event reply new now s y does judged = record {
   mid = y.mid;
   owed = y.owed;
   does = does;
+  judged = judged;
   agrees = y.agrees;
   holders = y.holders;
   carriers = y.carriers;
@@ -404,9 +407,9 @@ module _ (w : WorldView) (task room : ℕ) (large : Bool) (below : HasTask w tas
       pub named_stays : (code : ℕ) → StaysFor w task waited room code → Declines w (Event.Receive task name room large) code w
       named_stays code r = refused_later w (Event.Receive task name room large) below code good (λ s sh. (waited, x.waits s sh, r.refuses s sh))
 
-      pub named_received : (reply : Reply) (new : WorldView) → IsReceipt w task waited room large reply new → Acts w (Event.Receive task name room large) reply new
+      pub named_received : (reply : Reply) (new : WorldView) → IsReceipt w task waited room large reply new → Completes w (Event.Receive task name room large) reply new
       named_received reply new r = done_leaving w (Event.Receive task name room large) reply new below good (λ now s sh.
-          let y = r.receipt now s sh in does_receipt w (Event.Receive task name room large) reply new now s y (waited, x.waits s sh, y.receipt))
+          let y = r.receipt now s sh in does_receipt w (Event.Receive task name room large) reply new now s y (waited, x.waits s sh, y.receipt) tt)
 
   module _ (waited : Waited) where
     pub again_declined : (code : ℕ) → IsRefused w (λ s. again_guards s task waited) code → Declines w (Event.ReceiveAgain task waited room large) code w
@@ -416,6 +419,6 @@ module _ (w : WorldView) (task room : ℕ) (large : Bool) (below : HasTask w tas
       pub again_stays : (code : ℕ) → StaysFor w task waited room code → Declines w (Event.ReceiveAgain task waited room large) code w
       again_stays code r = refused_later w (Event.ReceiveAgain task waited room large) below code record { allowed = λ s sh. good.allowed s sh } (λ s sh. r.refuses s sh)
 
-      pub again_received : (reply : Reply) (new : WorldView) → IsReceipt w task waited room large reply new → Acts w (Event.ReceiveAgain task waited room large) reply new
+      pub again_received : (reply : Reply) (new : WorldView) → IsReceipt w task waited room large reply new → Completes w (Event.ReceiveAgain task waited room large) reply new
       again_received reply new r = done_leaving w (Event.ReceiveAgain task waited room large) reply new below record { allowed = λ s sh. good.allowed s sh } (λ now s sh.
-          let y = r.receipt now s sh in does_receipt w (Event.ReceiveAgain task waited room large) reply new now s y y.receipt)
+          let y = r.receipt now s sh in does_receipt w (Event.ReceiveAgain task waited room large) reply new now s y y.receipt tt)

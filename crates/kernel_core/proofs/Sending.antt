@@ -8,12 +8,12 @@ use Rattle.mach_types.specs.declared.codes.MsgReturn.TheVariants.{SendNoBuffer}
 use Rattle.mach_types.specs.Grammar.{WireBody}
 use Rattle.mach_types.specs.Guards.{NoneHolds}
 use Rattle.mach_types.specs.TextGuards.{header_guards, TextRefuses}
-use Rattle.mach_types.specs.Numbers.{msg_number}
+use Rattle.mach_types.specs.Codes.{msg_number}
 use Rattle.mach_model.specs.State.{State}
-use Rattle.mach_model.specs.Send.{SendRefuses}
+use Rattle.mach_model.specs.SendRefusals.{SendRefuses}
 use Rattle.message_codec.specs.declared.text.Parsed.{Parsed}
 use Rattle.message_codec.specs.Parses.{Parses, IsCrowded}
-use Rattle.copyin_base.specs.Acts.{Acts, Declines}
+use Rattle.copyin_base.specs.Serving.{Completes, Declines}
 use Rattle.copyin_base.specs.Changes.{with_slots}
 use Rattle.copyin_base.specs.Shows.{SlotsSuffice, Shows}
 use Rattle.copyin_base.specs.Stands.{Stands, AreTied, IsTied}
@@ -26,7 +26,8 @@ use Rattle.copyin.specs.Planned.{IsPlan}
 use Rattle.copyin.specs.Plans.{Judged, CannotPlan, Commits}
 use Rattle.copyin.proofs.Planning.{good_header, none_first}
 use Rattle.copyin.proofs.Refused.{cannot}
-use Rattle.copyin.proofs.Sent.{sent_state, sends, sent_agrees, sent_holders, sent_carriers}
+use Rattle.copyin.proofs.Planning.{message, third, copied}
+use Rattle.copyin.proofs.Sent.{sent_state, unrefused, sent_agrees, sent_holders, sent_carriers}
 use Rattle.copyin.proofs.LoopFound.{loop_on}
 use Rattle.copyin.proofs.Committing.{commits_rooms, slot_there, commits_unused, commits_spare}
 use Rattle.copyin.proofs.Copying.{commits_requested, commits_senders, commits_none_lost}
@@ -143,7 +144,7 @@ module _ (w : WorldView) (task : ℕ) (below : HasTask w task) (bytes : List ℕ
       let wants = d.wants in
       omega (arith, unused, spare, wants)
 
-  pub send_done : (new : WorldView) → SendsText w task bytes new → Acts w (Event.Send task bytes) (Reply.Code 0) new
+  pub send_done : (new : WorldView) → SendsText w task bytes new → Completes w (Event.Send task bytes) (Reply.Code 0) new
   send_done new d = done w (Event.Send task bytes) (Reply.Code 0) new below record { allowed = λ s sh. good_header bytes d.parsed d.text } (λ now s sh.
       let start = slotted w d.more in
       let sh2 = slots_show w s (max w.ports.spare (w.ledger.unused + d.more)) (omega arith) sh in
@@ -151,7 +152,20 @@ module _ (w : WorldView) (task : ℕ) (below : HasTask w task) (bytes : List ℕ
       record {
         mid = sent_state start s sh2 now task bytes d.parsed d.text j;
         owed = [];
-        does = (refl, sends start s sh2 now task bytes d.parsed d.text j d.plans.no_loop d.plans.slot d.plans.few, refl);
+        does = (
+          refl,
+          record {
+            header = d.text.header;
+            written = d.text.written;
+            spells = d.text.message.spells;
+            m = message start s sh2 task bytes d.parsed d.text j;
+            copied_state = (third start s sh2 task bytes d.parsed d.text j).t;
+            copied = copied start s sh2 task bytes d.parsed d.text j;
+            rest = refl;
+          },
+          refl,
+        );
+        judged = unrefused start s sh2 now task bytes d.parsed d.text j d.plans.no_loop d.plans.slot d.plans.few;
         loses_none = tt;
         none_owed = refl;
         agrees = sent_agrees start s sh2 now task bytes d.parsed d.text j new d.commits;

@@ -6,20 +6,20 @@ use Rattle.mach_types.specs.declared.calls.Reply.{Reply}
 use Rattle.mach_types.specs.declared.calls.Waited.{Waited}
 use Rattle.mach_types.specs.declared.codes.MsgReturn.TheVariants.{ReceiveBodyErrorMemory}
 use Rattle.mach_types.specs.Guards.{FirstIs}
-use Rattle.mach_types.specs.Numbers.{msg_number}
+use Rattle.mach_types.specs.Codes.{msg_number}
 use Rattle.mach_model.specs.Refusals.{again_guards}
 use Rattle.mach_model.specs.State.{State}
 use Rattle.mach_model.specs.Notices.{Owed}
-use Rattle.mach_model.specs.Machine.{Does}
+use Rattle.mach_model.specs.Acts.{Does}
 use Rattle.mach_model.specs.Receive.{Receipt}
 use Rattle.mach_model.specs.Lawful.{IsLawful}
 use Rattle.mach_model.specs.Midway.{MidLawful}
 use Rattle.mach_model.proofs.StepLawful.{TakesFrom-live}
-use Rattle.mach_laws.specs.Queued.{queued, unused}
+use Rattle.mach_laws.specs.Queued.{queued, unused_onces}
 use Rattle.mach_laws.specs.Counts.{accepts, takes_from}
 use Rattle.mach_laws.proofs.Counted.{Does-counted}
 use Rattle.mach_laws.proofs.Onces.{destroyed_needs}
-use Rattle.copyin_base.specs.Acts.{IsRefused}
+use Rattle.copyin_base.specs.Serving.{IsRefused}
 use Rattle.copyin_base.specs.Shows.{SlotsSuffice}
 use Rattle.copyin_base.specs.Stands.{Stands}
 use Rattle.copyin_base.specs.Worlds.{WorldView}
@@ -78,7 +78,7 @@ large_freed old new true port n enough same = subst (λ (x : WorldView). FreesSl
 large_freed old new false port n enough d = lost_freed old new port n enough d
 
 -- what a receipt takes is spare again, but for what it owes
-module _ (old new : WorldView) (s mid : State) (owed : Owed) (l : IsLawful s) (m : MidLawful mid owed) (was : old.ledger.unused ≡ unused s) (is : new.ledger.unused ≡ unused mid) (task room : ℕ) (waited : Waited) where
+module _ (old new : WorldView) (s mid : State) (owed : Owed) (l : IsLawful s) (m : MidLawful mid owed) (was : old.ledger.unused ≡ unused_onces s) (is : new.ledger.unused ≡ unused_onces mid) (task room : ℕ) (waited : Waited) where
   owes_none : (large : Bool) (reply : Reply) → FreesSlot old large reply new → owed ≡ [] → new.ports.spare + length owed ≤ old.ports.spare + taken_by large reply
   owes_none large reply f none = let spare = f.slots in let zero : length owed ≡ 0 = ap length none in omega (arith, spare, zero)
 
@@ -98,7 +98,7 @@ freed_spares : (old : WorldView) (event : Event) (large : Bool) (reply : Reply) 
 freed_spares old event large reply new task room f none taken does = record {
   rooms = f.rooms;
   slots = λ before after now s sh d. inl (
-      let counted = Does-counted now s event reply d.mid d.owed sh.lawful d.unrefused d.does in
+      let counted = Does-counted now s event reply d.mid d.owed sh.lawful d.unrefused d.does d.judged in
       let was = shown_unused old s sh before in
       let is = midway_unused now old new d.mid d.owed d.shows after in
       let x = does now s d.mid d.owed d.does in

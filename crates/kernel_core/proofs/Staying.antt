@@ -6,18 +6,18 @@ use Rattle.std.proofs.lemmas.List.Elements.{Contains-push_cases}
 use Rattle.mach_types.specs.declared.calls.Event.{Event}
 use Rattle.mach_types.specs.declared.calls.Waited.{Waited}
 use Rattle.mach_types.specs.declared.codes.MsgReturn.TheVariants.{ReceiveBodyErrorMemory}
-use Rattle.mach_types.specs.Numbers.{msg_number}
+use Rattle.mach_types.specs.Codes.{msg_number}
 use Rattle.mach_types.specs.Messages.{Entry as LogEntry}
 use Rattle.mach_types.specs.Tokens.{in_message}
 use Rattle.mach_model.specs.State.{State}
-use Rattle.mach_model.specs.CopyOut.{MessageLacks}
-use Rattle.mach_model.specs.Receive.{ReceiptRefuses}
+use Rattle.mach_model.specs.Room.{MessageLacks}
+use Rattle.mach_model.specs.ReceiptRefusals.{ReceiptRefuses}
 use Rattle.mach_model.specs.ReceivedMeans.{message_length}
 use Rattle.mach_model.specs.Refusals.{again_guards}
 use Rattle.mach_laws.proofs.Playing.{one_waited}
 use Rattle.mach_laws.proofs.Deciding.{one_entry, no_front}
 use Rattle.port.specs.Ports.{PortView, PortsView, IsIn}
-use Rattle.copyin_base.specs.Acts.{IsRefused, IsAllowed}
+use Rattle.copyin_base.specs.Serving.{IsRefused, IsAllowed}
 use Rattle.copyin_base.specs.Kept.{Kept}
 use Rattle.copyin_base.specs.Shows.{Shows}
 use Rattle.copyin_base.specs.Stands.{Stands}

@@ -7,17 +7,18 @@ use Rattle.std.specs.Ordering.{nat_cmp}
 use Rattle.mach_types.specs.declared.calls.Event.{Event}
 use Rattle.mach_types.specs.declared.calls.Reply.{Reply}
 use Rattle.mach_types.specs.Tokens.{Request, no_senders, port_destroyed, dead_name}
-use Rattle.mach_model.specs.State.{State, opening}
+use Rattle.mach_model.specs.State.{State}
+use Rattle.mach_model.specs.Machine.{opening, Done}
 use Rattle.mach_model.specs.Lawful.{IsLawful}
-use Rattle.mach_model.specs.Machine.{Done}
 use Rattle.mach_model.specs.Work.{deaths, IsBounded}
 use Rattle.mach_model.proofs.StepLawful.{opening-lawful}
+use Rattle.mach_model.proofs.Failing.{refusal_fails}
 use Rattle.port.specs.Ports.{PortView}
 use Rattle.port_set.specs.declared.SetRecord.{SetRecord}
 use Rattle.request_table.specs.declared.Request.{Request as NameRequest}
 use Rattle.request_table.specs.Requests.{name_key}
 use Rattle.rights.specs.declared.Counts.{Counts}
-use Rattle.copyin_base.specs.Acts.{Acts, Declines}
+use Rattle.copyin_base.specs.Serving.{Completes, Declines}
 use Rattle.copyin_base.specs.Kept.{Kept}
 use Rattle.copyin_base.specs.Requests.{notify_of, none_requested, rights_kept}
 use Rattle.copyin_base.specs.Shows.{Agrees, Shows}
@@ -32,13 +33,14 @@ use Rattle.destroy.specs.Stages.{SettlesIn}
 use Rattle.kernel_core.specs.Answers.{Answers}
 use Rattle.kernel_core.specs.Kernels.{EndsInTurns, TakesTurns}
 use Rattle.mach_laws.proofs.Working.{few_turns, same_deaths, few_deaths}
+use Rattle.mach_types.specs.declared.profiles.Profile.TheVariants.{One}
 
 -- What was done is settled: a step that is done.
-pub acted : (old mid new : WorldView) (event : Event) (reply : Reply) (turns : ℕ) → Acts old event reply mid → SettlesIn mid turns new → Answers old event reply new
+pub acted : (old mid new : WorldView) (event : Event) (reply : Reply) (turns : ℕ) → Completes old event reply mid → SettlesIn mid turns new → Answers old event reply new
 acted old mid new event reply turns a settles = λ now s sh.
     let d = a.acts now s sh in
     let e = settles now old s d.mid d.owed sh d.shows in
-    (e.0, inr (record { unrefused = d.unrefused; mid = d.mid; owed = d.owed; does = d.does; settles = e.1 }), e.2)
+    (e.0, inr (record { performed = record { mid = d.mid; owed = d.owed; does = d.does; settles = e.1 }; unrefused = d.unrefused; judged = d.judged }), e.2)
 
 -- What is told of the turns of a step's end is no more than they are, and no fewer than ports died: there are not so many rights.
 in_turns : (now : ℕ) (s : State) (event : Event) (reply : Reply) (t : State) → IsLawful s → (d : Done now s event reply t) → (many turns : ℕ) → turns ≡ min many (2 ^ 64 - 1) →
@@ -50,19 +52,19 @@ in_turns now s event reply t l d many turns told b least = record {
 }
 
 -- It ends in the turns that settling took.
-pub acted_turns : (old mid new : WorldView) (event : Event) (reply : Reply) (turns : ℕ) → Acts old event reply mid → SettlesIn mid turns new → TakesTurns old event reply new turns
+pub acted_turns : (old mid new : WorldView) (event : Event) (reply : Reply) (turns : ℕ) → Completes old event reply mid → SettlesIn mid turns new → TakesTurns old event reply new turns
 acted_turns old mid new event reply turns a settles = λ now s sh.
     let d = a.acts now s sh in
     let e = settles now old s d.mid d.owed sh d.shows in
-    let x : Done now s event reply e.0 = record { unrefused = d.unrefused; mid = d.mid; owed = d.owed; does = d.does; settles = e.1 } in
+    let x : Done now s event reply e.0 = record { performed = record { mid = d.mid; owed = d.owed; does = d.does; settles = e.1 }; unrefused = d.unrefused; judged = d.judged } in
     (e.0, e.2, inr (x, in_turns now s event reply e.0 sh.lawful x e.3.ending.turns turns e.3.number e.3.bounded e.3.deaths_are))
 
 pub declined_turns : (old new : WorldView) (event : Event) (code turns : ℕ) → turns ≡ 0 → Declines old event code new → TakesTurns old event (Reply.Code code) new turns
-declined_turns old new event code turns none d = λ now s sh. (s, d.shows s sh, inl (record { code = code; told = refl; refuses = d.refuses s sh; same = refl }, none))
+declined_turns old new event code turns none d = λ now s sh. (s, d.shows s sh, inl (record { declined = record { code = code; failed = refusal_fails s event code (d.refuses s sh); told = refl; same = refl }; refuses = d.refuses s sh }, none))
 
 -- A refusal is a step that is refused.
 pub declined : (old new : WorldView) (event : Event) (code : ℕ) → Declines old event code new → Answers old event (Reply.Code code) new
-declined old new event code d = λ now s sh. (s, inl (record { code = code; told = refl; refuses = d.refuses s sh; same = refl }), d.shows s sh)
+declined old new event code d = λ now s sh. (s, inl (record { declined = record { code = code; failed = refusal_fails s event code (d.refuses s sh); told = refl; same = refl }; refuses = d.refuses s sh }), d.shows s sh)
 
 -- After a step the tables show a state again.
 pub still_stands : (old new : WorldView) (event : Event) (reply : Reply) → Stands old → Answers old event reply new → Stands new
@@ -73,6 +75,7 @@ still_stands old new event reply stands answers = let x = answers 0 stands.state
 pub opening_agrees : Agrees no_world opening
 opening_agrees = record {
   spaces = record {
+    is_first = refl;
     live_task = λ task. refl;
     tasks_made = refl;
     naming = λ task name. map.get-empty nat_cmp name;
@@ -125,7 +128,7 @@ opening_shows = record {
   slots = slots_none;
   requested = requested_none;
   idle = idle_none;
-  lawful = opening-lawful;
+  lawful = opening-lawful One;
 }
 
 pub opening_stands : Stands no_world

@@ -15,7 +15,7 @@ use Rattle.mach_model.specs.Lawful.{tally}
 use Rattle.mach_model.specs.Midway.{IsOwed}
 use Rattle.mach_model.specs.Unused.{came_by_once, onces_queued, unused_at}
 use Rattle.mach_model.proofs.Names.{at_own, at_other, weigh-append, all_unused}
-use Rattle.mach_laws.specs.Queued.{sum_below, unused}
+use Rattle.mach_laws.specs.Queued.{sum_below, unused_onces}
 use Rattle.mach_laws.proofs.Counted.{sum_same}
 use Rattle.mach_laws.proofs.Slots.{tally_append}
 use Rattle.rights.specs.declared.Counts.{Counts}
@@ -23,7 +23,7 @@ use Rattle.rights.specs.Counts.{no_rights}
 use Rattle.rights.specs.Unused.{IsUnusedOfAll}
 use Rattle.rights.proofs.Sums.{Counted, sum_over, sum-empty, sum-remove}
 use Rattle.copyin_base.specs.Worlds.{WorldView}
-use Rattle.copyin_base.specs.Acts.{ShowsMid}
+use Rattle.copyin_base.specs.Serving.{ShowsMid}
 use Rattle.copyin_base.specs.Posted.{with_notice, with_posted}
 use Rattle.copyin_base.specs.Shows.{Agrees, Shows}
 use Rattle.copyin_base.proofs.Putting.{put_own, put_other}
@@ -94,10 +94,10 @@ module _ (w : WorldView) (s : State) (a : Agrees w s) (l : AreMade s) where
       let e = ap once_in (no_key (map.get w.ledger.counts p) ((a.counts p).entered ∙ is)) in
       omega (arith, none, e)
 
-  unused_is : IsUnusedOfAll w.ledger → w.ledger.unused ≡ unused s
+  unused_is : IsUnusedOfAll w.ledger → w.ledger.unused ≡ unused_onces s
   unused_is all = sym all ∙ sum_is s.ports_made w.ledger.counts (unused_at s) all_below (λ p less. of_port p (s.live_port p) refl)
 
-pub shown_unused : (w : WorldView) (s : State) → Shows w s → IsUnusedOfAll w.ledger → w.ledger.unused ≡ unused s
+pub shown_unused : (w : WorldView) (s : State) → Shows w s → IsUnusedOfAll w.ledger → w.ledger.unused ≡ unused_onces s
 shown_unused w s sh all = unused_is w s sh.agrees (record { made = sh.lawful.made_port; dead = λ p e. sh.lawful.no_rights p e send_once }) all
 
 -- ---- midway, where what is owed was posted
@@ -186,7 +186,7 @@ all_posted now s (x ∷ owed) within all =
       dead = λ p is. rest.dead p is ∙ one.dead p is;
     }
 
-pub midway_unused : (now : ℕ) (old w : WorldView) (mid : State) (owed : Owed) → ShowsMid now old w mid owed → IsUnusedOfAll w.ledger → w.ledger.unused ≡ unused mid
+pub midway_unused : (now : ℕ) (old w : WorldView) (mid : State) (owed : Owed) → ShowsMid now old w mid owed → IsUnusedOfAll w.ledger → w.ledger.unused ≡ unused_onces mid
 midway_unused now old w mid owed m all =
     let l = m.lawful in
     let p = all_posted now mid owed l.within l.are_owed in

@@ -3,10 +3,10 @@ use Rattle.std.proofs.Common.{◌≡◌, ℕ, List, ap, subst, inl, inr, ◌⊎�
 use Rattle.mach_types.specs.declared.codes.MsgReturn.{MsgReturn}
 use Rattle.mach_types.specs.declared.codes.MsgReturn.TheVariants.{SendNoBuffer}
 use Rattle.mach_types.specs.Grammar.{Header, WireBody, Spells}
-use Rattle.mach_types.specs.Numbers.{msg_number}
+use Rattle.mach_types.specs.Codes.{msg_number}
 use Rattle.mach_types.specs.TextGuards.{TextRefuses}
 use Rattle.mach_model.specs.State.{State}
-use Rattle.mach_model.specs.Send.{RightsRefuse}
+use Rattle.mach_model.specs.SendRefusals.{RightsRefuse}
 use Rattle.mach_laws.proofs.Refusals.{rights_taken, rights_alike, one_text as one_message}
 use Rattle.message_codec.specs.declared.text.Parsed.{Parsed}
 use Rattle.message_codec.specs.Parses.{Parses, IsCrowded}

@@ -8,7 +8,7 @@ use Rattle.member_lists.specs.Lists.{without}
 use Rattle.port.specs.Ports.{PortView}
 use Rattle.port.specs.Turns.{turns_of, with_turns}
 use Rattle.copyin_base.specs.declared.code.Code.{Code}
-use Rattle.copyin_base.specs.Acts.{code_number, Acts}
+use Rattle.copyin_base.specs.Serving.{code_number, Completes}
 use Rattle.copyin_base.specs.Kept.{Kept}
 use Rattle.copyin_base.specs.Worlds.{WorldView, entry_at, port_at}
 use Rattle.destroy.specs.Stages.{SettlesIn}
@@ -78,4 +78,4 @@ told_by (Err code) = Reply.Code (code_number code)
 pub record StepsInTurn (old : WorldView) (event : Event) (reply : Reply) (new : WorldView) : Type 0 where
   pub mid : WorldView
   pub turns : KeepsTurns old event reply mid
-  pub ends : (new ≡ mid) ⊎ Acts old event reply mid × ((number : ℕ) × SettlesIn mid number new)
+  pub ends : (new ≡ mid) ⊎ Completes old event reply mid × ((number : ℕ) × SettlesIn mid number new)

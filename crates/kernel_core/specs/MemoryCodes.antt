@@ -5,10 +5,10 @@ use Rattle.mach_types.specs.declared.calls.Waited.{Waited}
 use Rattle.mach_types.specs.declared.codes.MsgReturn.TheVariants.{ReceiveBodyErrorMemory}
 use Rattle.mach_types.specs.Grammar.{WireBody, Header, Spells}
 use Rattle.mach_types.specs.Guards.{NoneHolds}
-use Rattle.mach_types.specs.Numbers.{msg_number}
+use Rattle.mach_types.specs.Codes.{msg_number}
 use Rattle.mach_types.specs.TextGuards.{header_guards}
 use Rattle.mach_model.specs.State.{State}
-use Rattle.mach_model.specs.Receive.{ReceiptRefuses}
+use Rattle.mach_model.specs.ReceiptRefusals.{ReceiptRefuses}
 use Rattle.mach_model.specs.Refusals.{Refuses}
 use Rattle.copyin_base.specs.Kept.{Kept}
 use Rattle.copyin_base.specs.Shows.{Shows}

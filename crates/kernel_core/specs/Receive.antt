@@ -6,7 +6,8 @@ use Rattle.mach_types.specs.declared.calls.Waited.{Waited}
 use Rattle.mach_types.specs.Guards.{Guards, NoneHolds}
 use Rattle.mach_model.specs.State.{State}
 use Rattle.mach_model.specs.Notices.{Owed}
-use Rattle.mach_model.specs.Receive.{waits_for, Receipt, ReceiptRefuses}
+use Rattle.mach_model.specs.Receive.{waits_for, Receipt}
+use Rattle.mach_model.specs.ReceiptRefusals.{ReceiptRefuses}
 use Rattle.mach_model.specs.Refusals.{again_guards, call_guards}
 use Rattle.name_space.specs.declared.Entry.{Entry}
 use Rattle.name_space.specs.declared.Entry.TheVariants as entry

@@ -1,13 +1,15 @@
 //! A kernel, and its steps.
-ghost use Rattle.std.specs.Prelude.{◌≡◌, ◌≤◌, ℕ, IfOk, IfErr, OnErr, MatchBool};
+ghost use Rattle.std.specs.Prelude.{◌≡◌, ◌≤◌, ℕ, Err, IfOk, IfErr, OnErr, MatchBool};
 ghost use Rattle.mach_types.specs.declared.codes.KernReturn.TheVariants as kern;
-ghost use Rattle.mach_types.specs.Numbers.{kern_number, most_bytes};
+ghost use Rattle.mach_types.specs.Numbers.{most_bytes};
+ghost use Rattle.mach_types.specs.Codes.{kern_number};
 ghost use Rattle.mach_types.specs.declared.calls.Reply.{Reply as AnyReply};
-ghost use Rattle.mach_model.specs.State.{State, opening};
-ghost use Rattle.mach_model.specs.Machine.{Step};
+ghost use Rattle.mach_model.specs.State.{State};
+ghost use Rattle.mach_model.specs.Machine.{opening, Step};
 ghost use Rattle.mach_laws.specs.Judging.{IsBySet};
-ghost use Rattle.mach_laws.specs.Queued.{unused};
-ghost use Rattle.copyin_base.specs.Acts.{HasTasks, Declines};
+ghost use Rattle.mach_laws.specs.Queued.{unused_onces};
+ghost use Rattle.copyin_base.specs.declared.code.Code.TheVariants.{Kern};
+ghost use Rattle.copyin_base.specs.Serving.{HasTasks, Declines};
 ghost use Rattle.rights.specs.Unused.{IsUnusedOfAll};
 ghost use Rattle.copyin_base.specs.Shows.{Shows, SlotsSuffice};
 ghost use Rattle.copyin_base.specs.Stands.{Stands};
@@ -120,7 +122,7 @@ impl Kernel {
         ensures turns { TakesTurns self.old.tables event.now result self.new.tables self.new.turns }
         ensures wanted { Wanted self.old.tables event.now result }
         ensures spares { Spares self.old.tables self.new.tables }
-        ensures unused { (s : State) → Shows self.new.tables s → self.new.tables.ledger.unused ≡ unused s }
+        ensures unused { (s : State) → Shows self.new.tables s → self.new.tables.ledger.unused ≡ unused_onces s }
         ensures in_turn { StepsInTurn self.old.tables event.now result self.new.tables }
     {
         check_slots(&self.world);
@@ -256,6 +258,8 @@ fn has_tasks(world: &World, event: &Event) -> bool
         | Event::SetSeqno(task, _, _)
         | Event::SetStatus(task, _)
         | Event::MoveMember(task, _, _)
+        | Event::InsertMember(task, _, _)
+        | Event::ExtractMember(task, _, _)
         | Event::RequestNotification(task, _, _, _, _, _)
         | Event::Send(task, _)
         | Event::Receive(task, _, _, _)
@@ -280,6 +284,13 @@ fn live_both(world: &World, task: TaskId, other: TaskId) -> bool
     world.has_task(task) && world.has_task(other)
 }
 
+/// Refuses a call that is for ports in several sets: here a port is in one set at most.
+fn refuse_several() -> Result<Reply, Code>
+    ensures { result ≡ Err (Kern kern.InvalidArgument) }
+{
+    Err(Code::Kern(KernReturn::InvalidArgument))
+}
+
 /// Makes the call on the tables, where the tasks that it names live.
 #[inline(always)]
 fn serve(world: &mut World, alloc: Global, event: &Event) -> Result<Reply, Code>
@@ -302,6 +313,7 @@ fn serve(world: &mut World, alloc: Global, event: &Event) -> Result<Reply, Code>
         Event::ReceiveStatus(task, name) => receive_status(world, *task, *name),
         Event::SetStatus(task, name) => set_status(world, alloc, *task, *name),
         Event::MoveMember(task, member, after) => move_member(world, *task, *member, *after),
+        Event::InsertMember(..) | Event::ExtractMember(..) => refuse_several(),
         Event::SetQlimit(task, name, limit) => set_qlimit(world, *task, *name, *limit),
         Event::SetMscount(task, name, count) => set_mscount(world, *task, *name, *count),
         Event::SetSeqno(task, name, number) => set_seqno(world, *task, *name, *number),

@@ -4,7 +4,7 @@
 //! the tables show (`copyin_base`'s `specs/Shows`). `specs/Wanted` says where it may be refused for want
 //! of memory, and how much room it leaves for what is to come; `specs/MemoryCodes` where the machine
 //! allows such a refusal, as [`Kernel::memory_code`] tells. A call does its own part of a step, or
-//! refuses it (`copyin_base`'s `specs/Acts`); [`Kernel::step`] judges the tasks before it, and settles
+//! refuses it (`copyin_base`'s `specs/Serving`); [`Kernel::step`] judges the tasks before it, and settles
 //! after it.
 #![tactic(auto)]
 

@@ -2,8 +2,8 @@
 ghost use Rattle.std.specs.Prelude.{◌≡◌, ◌≢◌, ℕ, [], ◌∷◌, List, IfOk, IfErr, OnOk, OnErr};
 ghost use Rattle.mach_types.specs.declared.calls.Event.{Event as AnyEvent};
 ghost use Rattle.mach_types.specs.declared.codes.MsgReturn.TheVariants.{SendNoBuffer};
-ghost use Rattle.mach_types.specs.Numbers.{msg_number};
-ghost use Rattle.copyin_base.specs.Acts.{Declines, Serves, code_number};
+ghost use Rattle.mach_types.specs.Codes.{msg_number};
+ghost use Rattle.copyin_base.specs.Serving.{Declines, Serves, code_number};
 ghost use Rattle.copyin_base.specs.Stands.{Stands};
 ghost use Rattle.copyin.specs.Wanted.{WantsToSend};
 ghost use Rattle.message_codec.specs.Parses.{Parses};

@@ -8,9 +8,11 @@ use Rattle.mach_types.specs.declared.calls.Event.{Event}
 use Rattle.mach_types.specs.declared.calls.Reply.{Reply}
 use Rattle.mach_types.specs.Numbers.{most_names, most_rights, most_identities}
 use Rattle.mach_model.specs.State.{State, Target, with_name, IsFresh}
-use Rattle.mach_model.specs.Names.{Makes, IsNoMaking, IsFull, with_set}
-use Rattle.mach_model.specs.Machine.{Does}
-use Rattle.mach_model.specs.Refusals.{call_guards}
+use Rattle.mach_model.specs.Names.{Makes, with_set}
+use Rattle.mach_model.specs.Refusals.{IsNoMaking, call_guards}
+use Rattle.mach_model.specs.Room.{IsFull}
+use Rattle.mach_model.specs.Acts.{Does}
+use Rattle.mach_model.specs.Machine.{Judged}
 use Rattle.mach_model.specs.Lawful.{IsLawful}
 use Rattle.mach_model.proofs.Midway.{LosesNone}
 use Rattle.mach_model.proofs.Names.{get_own, alike}
@@ -23,7 +25,7 @@ use Rattle.name_space.specs.declared.Entry.TheVariants as entry
 use Rattle.name_space.specs.Entry.{port_named}
 use Rattle.name_space.specs.Names.{Names, SpaceView, IsFreshName, IsUsable, HasPlace, HasNoOther}
 use Rattle.port.specs.Ports.{PortsView, IsLive}
-use Rattle.copyin_base.specs.Acts.{Acts, IsAllowed}
+use Rattle.copyin_base.specs.Serving.{Completes, IsAllowed}
 use Rattle.copyin_base.specs.Changes.{MakesRoom, KeepsPlace, SameButRoom, IsForLive, CanInsert, InsertsEntry}
 use Rattle.copyin_base.specs.Kept.{Kept}
 use Rattle.copyin_base.specs.Worlds.{WorldView, entry_in, entry_at, space_at, HasTask, space_in}
@@ -38,6 +40,7 @@ use Rattle.copyin_base.proofs.Roomier.{room_made, place_kept, room_entry, room_a
 use Rattle.copyin_base.proofs.SendersNoted.{senders_same, senders_kept}
 use Rattle.copyin_base.proofs.Spaces.{space-set_same}
 use Rattle.copyin_base.proofs.Putting.{each_put, put_other, put_own}
+use Rattle.copyin_base.proofs.ProfileOne.{fresh_for, none_counted}
 use Rattle.kernel_core_base.specs.declared.names.NewRight.{NewRight}
 use Rattle.kernel_core_base.specs.declared.names.NewRight.TheVariants as new_right
 use Rattle.kernel_core_base.specs.Names.{first_port, right_made, entry_made, HasRoomFor, IsFullFor, HasRoomOf, IsFullOf, CanAdd, Adds, with_made, MakesRight}
@@ -213,13 +216,14 @@ module _ (w w1 v : WorldView) (same : SameButRoom w w1) (task number name : ℕ)
   makes_number s = subst (λ (n : ℕ). Makes task n name s (with_right r s task name)) is (makes r s task name)
 
   -- it is made once room was
-  makes_so : (event : Event) (now : ℕ) (s : State) → Shows w s → entry_at w1 task name ≡ None → Adds w1 task r name v → Does now s event (Reply.Name name) (with_right r s task name) [] →
-      LosesNone s event (Reply.Name name) → Does-so w event (Reply.Name name) v now s
-  makes_so event now s sh unused adds does none =
+  makes_so : (event : Event) (now : ℕ) (s : State) → Shows w s → entry_at w1 task name ≡ None → Adds w1 task r name v →
+      (does : Does now s event (Reply.Name name) (with_right r s task name) []) → Judged now s event (Reply.Name name) (with_right r s task name) [] does → LosesNone s event (Reply.Name name) → Does-so w event (Reply.Name name) v now s
+  makes_so event now s sh unused adds does judged none =
       let here = room_shows w w1 s same sh in record {
         mid = with_right r s task name;
         owed = [];
         does = does;
+        judged = judged;
         loses_none = none;
         none_owed = refl;
         agrees = made_agrees w1 v s here.agrees here.lawful task name unused r adds;
@@ -233,15 +237,18 @@ module _ (w w1 v : WorldView) (same : SameButRoom w w1) (task number name : ℕ)
       }
 
   pub allocate_done : IsAllowed w (λ s. call_guards s (Event.Allocate task number)) → (space : SpaceView) → space_at w1 task ≡ Some space → IsFreshName space.names name → Adds w1 task r name v →
-      Acts w (Event.Allocate task number) (Reply.Name name) v
+      Completes w (Event.Allocate task number) (Reply.Name name) v
   allocate_done good space there f adds = done w (Event.Allocate task number) (Reply.Name name) v below good
-      (λ now s sh. makes_so (Event.Allocate task number) now s sh (ap (λ (o : Option SpaceView). entry_in o name) there ∙ f.unused) adds
-      (fresh w1 s (room_agrees w w1 s same sh.agrees) task space there name f, makes_number s, refl) tt)
+      (λ now s sh. makes_so (Event.Allocate task number) now s sh (ap (λ (o : Option SpaceView). entry_in o name) there ∙ f.unused) adds (
+        fresh_for s sh.agrees.is_first task name (fresh w1 s (room_agrees w w1 s same sh.agrees) task space there name f),
+        subst (λ (x : State). Makes task number name x (with_right r s task name)) (sym (none_counted s sh.agrees.is_first task name)) (makes_number s),
+        refl,
+      ) tt tt)
 
   pub allocate_name_done : IsAllowed w (λ s. call_guards s (Event.AllocateName task number name)) → entry_at w task name ≡ None → Adds w1 task r name v →
-      Acts w (Event.AllocateName task number name) (Reply.Name name) v
+      Completes w (Event.AllocateName task number name) (Reply.Name name) v
   allocate_name_done good unused adds = done w (Event.AllocateName task number name) (Reply.Name name) v below good
-      (λ now s sh. makes_so (Event.AllocateName task number name) now s sh (room_entry w w1 same task name ∙ unused) adds (refl, makes_number s, refl) tt)
+      (λ now s sh. makes_so (Event.AllocateName task number name) now s sh (room_entry w w1 same task name ∙ unused) adds (refl, makes_number s, refl) tt tt)
 
 -- ---- A ledger that a port came to with its receive right, and left again.
 

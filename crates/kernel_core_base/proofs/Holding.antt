@@ -4,7 +4,7 @@ use Rattle.std.specs.Prelude.{◌≢◌, is_some, Contains, if◌then◌else◌,
 use Rattle.std.specs.Option.{option_to_list}
 use Rattle.mach_types.specs.Tokens.{Kind, receive, Place, in_task, in_message, in_request, Token, count, is_of, is_held, is_in_task}
 use Rattle.mach_model.specs.State.{State, Holds}
-use Rattle.mach_model.specs.ReceiveRight.{one_if}
+use Rattle.mach_model.specs.Telling.{one_if}
 use Rattle.mach_model.specs.Lawful.{IsLawful}
 use Rattle.mach_model.proofs.Settling.{alive}
 use Rattle.mach_model.proofs.Names.{held_le_of}

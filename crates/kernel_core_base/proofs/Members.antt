@@ -18,12 +18,13 @@ use Rattle.std.proofs.lemmas.List.Elements.{filter_passes}
 use Rattle.mach_types.specs.declared.calls.Event.{Event}
 use Rattle.mach_types.specs.declared.calls.Reply.{Reply}
 use Rattle.mach_types.specs.declared.codes.KernReturn.TheVariants.{ResourceShortage, NotInSet}
-use Rattle.mach_types.specs.Numbers.{kern_number}
+use Rattle.mach_types.specs.Codes.{kern_number}
 use Rattle.mach_types.specs.Tokens.{receive}
 use Rattle.mach_model.specs.Refusals.{set_guards, used_guards, receive_guards, move_guards}
 use Rattle.mach_model.specs.State.{State, Target, lookup, Holds, at}
-use Rattle.mach_model.specs.ReceiveRight.{one_if}
-use Rattle.mach_model.specs.Sets.{TellsMembers, IsSet, JoinsSet}
+use Rattle.mach_model.specs.Telling.{one_if, TellsMembers}
+use Rattle.mach_model.specs.Names.{JoinsSet}
+use Rattle.mach_model.specs.NameGuards.{IsSet}
 use Rattle.mach_model.proofs.Settling.{named_lives}
 use Rattle.name_space.specs.declared.Entry.{Entry}
 use Rattle.name_space.specs.declared.Entry.TheVariants as entry
@@ -31,7 +32,7 @@ use Rattle.name_space.specs.Entry.{port_named, has_receive, receive_named}
 use Rattle.name_space.specs.Names.{SpaceView}
 use Rattle.port.specs.Ports.{PortView}
 use Rattle.port.specs.declared.Attributes.{Attributes}
-use Rattle.copyin_base.specs.Acts.{IsAllowed, Acts, Declines, IsRefused}
+use Rattle.copyin_base.specs.Serving.{IsAllowed, Completes, Declines, IsRefused}
 use Rattle.copyin_base.proofs.Acting.{done, looked, refused_later}
 use Rattle.copyin_base.specs.Kept.{Kept}
 use Rattle.copyin_base.specs.Worlds.{WorldView, entry_in, entry_at, port_at, space_at, HasTask}
@@ -227,9 +228,9 @@ module _ (w : WorldView) (task name set : ℕ) (is : entry_at w task name ≡ So
   set_no_memory below = refused_later w (Event.SetStatus task name) below (kern_number ResourceShortage) set_allowed (λ s sh. refl)
 
   pub set_told : HasTask w task → (space : SpaceView) → space_at w task ≡ Some space →
-      Acts w (Event.SetStatus task name) (Reply.Members (members_in w set space.names)) w
+      Completes w (Event.SetStatus task name) (Reply.Members (members_in w set space.names)) w
   set_told below space there = done w (Event.SetStatus task name) (Reply.Members (members_in w set space.names)) w below set_allowed
-      (λ now s sh. looked w (Event.SetStatus task name) (Reply.Members (members_in w set space.names)) now s sh tt (members_told w s sh task name set space there is, refl, refl))
+      (λ now s sh. looked w (Event.SetStatus task name) (Reply.Members (members_in w set space.names)) now s sh tt (refl, refl) (members_told w s sh task name set space there is))
 
 -- ---- MoveMember: what refuses it, and what it does.
 
@@ -275,10 +276,10 @@ pub mover_there : (w : WorldView) (task member after p : ℕ) (set : Option ℕ)
 mover_there w task member after p set stands m = receive_port_there w task member p m.finds stands
 
 pub moved : (w : WorldView) (task member after p : ℕ) (set : Option ℕ) → HasTask w task → MayMove w task member after p set →
-    (b : Attributes) → HasAttributes w p b → (new : WorldView) → SetsAttributes w p (record b { set = set }) new → Acts w (Event.MoveMember task member after) (Reply.Code 0) new
+    (b : Attributes) → HasAttributes w p b → (new : WorldView) → SetsAttributes w p (record b { set = set }) new → Completes w (Event.MoveMember task member after) (Reply.Code 0) new
 moved w task member after p set below m b h new r = done w (Event.MoveMember task member after) (Reply.Code 0) new below m.allowed
     (λ now s sh. sets_so w p b h (record b { set = set }) refl new r (Event.MoveMember task member after) now s (record s { sets_of = at s.sets_of p (option_to_list set) }) sh
-    (refl, joins s sh.agrees set m.goes, refl) tt (set_agrees w s sh.agrees p b h set new r))
+    (refl, joins s sh.agrees set m.goes, refl) tt tt (set_agrees w s sh.agrees p b h set new r))
   where
     joins : (s : State) → Agrees w s → (set : Option ℕ) → GoesTo w task after set → JoinsSet task member after s (record s { sets_of = at s.sets_of p (option_to_list set) })
     joins s a (Some set) goes = (p, (finds_port w task member p m.finds s a), inr (set, found w s a task after (entry.Set set) goes, refl))

@@ -13,10 +13,10 @@ use Rattle.std.proofs.lemmas.Bool.Decides.{nat_tests}
 use Rattle.mach_types.specs.declared.calls.Event.{Event}
 use Rattle.mach_types.specs.declared.calls.Reply.{Reply}
 use Rattle.mach_types.specs.declared.rights.Right.TheVariants as right
-use Rattle.mach_types.specs.Numbers.{right_bit, request_bit}
+use Rattle.mach_types.specs.Rights.{right_bit, request_bit}
 use Rattle.mach_types.specs.Tokens.{receive, send, dead_name}
 use Rattle.mach_model.specs.State.{Target, Names, State, held}
-use Rattle.mach_model.specs.Names.{target_bits, type_of, names_of}
+use Rattle.mach_model.specs.Telling.{names_of, type_of, target_bits}
 use Rattle.name_space.specs.declared.Entry.{Entry}
 use Rattle.name_space.specs.Names.{Names as TableNames, SpaceView}
 use Rattle.name_space.specs.declared.Entry.TheVariants as entry
@@ -24,7 +24,7 @@ use Rattle.name_space.specs.Entry.{type_in}
 use Rattle.request_table.specs.Requests.{name_key}
 use Rattle.copyin_base.specs.Requests.{RequestTablesView}
 use Rattle.copyin_base.specs.Shows.{target_of, Agrees, Shows}
-use Rattle.copyin_base.specs.Acts.{Acts}
+use Rattle.copyin_base.specs.Serving.{Completes}
 use Rattle.copyin_base.specs.Worlds.{WorldView, entry_in, entry_at, space_at, HasTask}
 use Rattle.copyin_base.proofs.Acting.{done, looked}
 use Rattle.copyin_base.proofs.Agreeing.{own_names}
@@ -150,15 +150,15 @@ request_whole w s sh task name e is = grind (arith, notify_small, found)
 type_whole : (w : WorldView) (s : State) → Shows w s → (task name : ℕ) (e : Entry) → entry_at w task name ≡ Some e → type_of_entry w.requests task name e ≡ type_of s task name (target_of e)
 type_whole w s sh task name e is = grind (arith, bits, request_whole)
 
-pub type_told : (w : WorldView) (task name : ℕ) (e : Entry) → HasTask w task → entry_at w task name ≡ Some e → Acts w (Event.NameType task name) (Reply.NameType (type_of_entry w.requests task name e)) w
+pub type_told : (w : WorldView) (task name : ℕ) (e : Entry) → HasTask w task → entry_at w task name ≡ Some e → Completes w (Event.NameType task name) (Reply.NameType (type_of_entry w.requests task name e)) w
 type_told w task name e below is = done w (Event.NameType task name) (Reply.NameType (type_of_entry w.requests task name e)) w below record { allowed = λ s sh. (used w s sh.agrees task name e is, tt) }
-    (λ now s sh. looked w (Event.NameType task name) (Reply.NameType (type_of_entry w.requests task name e)) now s sh tt ((target_of e, found w s sh.agrees task name e is, type_whole w s sh task name e is), refl, refl))
+    (λ now s sh. looked w (Event.NameType task name) (Reply.NameType (type_of_entry w.requests task name e)) now s sh tt (refl, refl) (target_of e, found w s sh.agrees task name e is, type_whole w s sh task name e is))
 
 -- the tables list what the machine does
 listed : (w : WorldView) (s : State) → Shows w s → (task : ℕ) (space : SpaceView) → space_at w task ≡ Some space → types_of w.requests task space.names ≡ names_of s task
 listed w s sh task space there = types_listed w.requests task space.names (s.naming task) (type_of s task) (own_names w s sh.agrees task space there).naming
     (λ n e is. type_whole w s sh task n e (ap (λ (o : Option SpaceView). entry_in o n) there ∙ is))
 
-pub names_listed : (w : WorldView) (task : ℕ) (space : SpaceView) → HasTask w task → space_at w task ≡ Some space → Acts w (Event.Names task) (Reply.Names (types_of w.requests task space.names)) w
+pub names_listed : (w : WorldView) (task : ℕ) (space : SpaceView) → HasTask w task → space_at w task ≡ Some space → Completes w (Event.Names task) (Reply.Names (types_of w.requests task space.names)) w
 names_listed w task space below there = done w (Event.Names task) (Reply.Names (types_of w.requests task space.names)) w below record { allowed = λ s sh. tt }
-    (λ now s sh. looked w (Event.Names task) (Reply.Names (types_of w.requests task space.names)) now s sh tt (listed w s sh task space there, refl, refl))
+    (λ now s sh. looked w (Event.Names task) (Reply.Names (types_of w.requests task space.names)) now s sh tt (refl, refl) (listed w s sh task space there))

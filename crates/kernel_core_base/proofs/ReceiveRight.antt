@@ -7,7 +7,8 @@ use Rattle.std.proofs.lemmas.Option.{slice_get_cases}
 use Rattle.std.specs.Option.{option_map, option_to_list, unwrap_or}
 use Rattle.std.specs.FinMap as map
 use Rattle.mach_types.specs.Tokens.{Place, in_task, in_message, in_request, Token, weigh, count, is_of, same_kind, receive, send_once, no_senders, port_destroyed}
-use Rattle.mach_types.specs.Numbers.{most_rights, kern_number, greatest_limit}
+use Rattle.mach_types.specs.Numbers.{most_rights, greatest_limit}
+use Rattle.mach_types.specs.Codes.{kern_number}
 use Rattle.mach_types.specs.Messages.{Entry}
 use Rattle.mach_types.specs.declared.calls.Event.{Event}
 use Rattle.mach_types.specs.declared.calls.Reply.{Reply}
@@ -18,9 +19,10 @@ use Rattle.mach_model.specs.Death.{same_place}
 use Rattle.mach_model.specs.Lawful.{IsLawful}
 use Rattle.mach_model.proofs.Names.{slice_get_drop, elsewhere, length-weigh, weigh-le, count_le, right_of}
 use Rattle.mach_model.proofs.Settling.{kind_refl}
-use Rattle.mach_model.specs.Machine.{Does}
+use Rattle.mach_model.specs.Acts.{Does}
+use Rattle.mach_model.specs.Machine.{Judged}
 use Rattle.mach_model.proofs.Midway.{LosesNone}
-use Rattle.mach_model.specs.ReceiveRight.{NamesSetOf, TellsStatus, one_if}
+use Rattle.mach_model.specs.Telling.{TellsStatus, NamesSetOf, one_if}
 use Rattle.mach_model.specs.Refusals.{receive_guards, call_guards}
 use Rattle.rights.specs.Ledger.{counts_of}
 use Rattle.port.specs.declared.Attributes.{Attributes}
@@ -39,13 +41,14 @@ use Rattle.copyin_base.proofs.Idle.{none_lost_set}
 use Rattle.copyin_base.proofs.Requested.{requested_set}
 use Rattle.copyin_base.proofs.SendersNoted.{senders_same, senders_kept, keeps_senders_same}
 use Rattle.copyin_base.proofs.Slots.{slots_set}
-use Rattle.copyin_base.specs.Acts.{IsRefused, Acts, Declines}
+use Rattle.copyin_base.specs.Serving.{IsRefused, Completes, Declines}
 use Rattle.copyin_base.specs.Finds.{FindsReceive}
 use Rattle.copyin_base.specs.Stands.{Stands}
 use Rattle.copyin_base.proofs.AttributesSet.{limit_agrees, make_send_agrees, sequence_agrees}
 use Rattle.copyin_base.proofs.Finding.{finds_port, finds_held, receive_allowed, receive_port_lives}
 use Rattle.copyin_base.proofs.Told.{port_there, port_entered}
 use Rattle.kernel_core_base.specs.ReceiveRight.{set_name, status_of, HasPort, TellsPort}
+use Rattle.copyin_base.proofs.Listed.{listed_one}
 use Rattle.kernel_core_base.proofs.Holding.{one_in, one_holder}
 
 -- ---- A queue has no more messages than there are rights: each message goes by a right that lies in it.
@@ -115,12 +118,14 @@ module _ (w : WorldView) (p : ℕ) (x : Attributes) (has : HasAttributes w p x) 
   pub keeps_holder : KeepsHolder w.ports p y
   keeps_holder v there = grind (arith, same_found)
 
-  pub sets_so : (new : WorldView) → SetsAttributes w p y new → (event : Event) (now : ℕ) (s mid : State) → Shows w s → Does now s event (Reply.Code 0) mid [] → LosesNone s event (Reply.Code 0) → Agrees new mid →
+  pub sets_so : (new : WorldView) → SetsAttributes w p y new → (event : Event) (now : ℕ) (s mid : State) → Shows w s →
+      (does : Does now s event (Reply.Code 0) mid []) → Judged now s event (Reply.Code 0) mid [] does → LosesNone s event (Reply.Code 0) → Agrees new mid →
       Does-so w event (Reply.Code 0) new now s
-  sets_so new set event now s mid sh does none agrees = record {
+  sets_so new set event now s mid sh does judged none agrees = record {
     mid = mid;
     owed = [];
     does = does;
+    judged = judged;
     loses_none = none;
     none_owed = refl;
     agrees = agrees;
@@ -159,7 +164,16 @@ set_told w s sh task p holds (Some set) is = go (map.get w.sets.sets set) refl
         let m = sh.lawful.members p set within in
         let owner : r.owner ≡ m.0 = same_task r.owner m.0 (sym (sh.agrees.set_owner set ∙ ap (option_map (λ (r : SetRecord). r.owner)) e) ∙ m.1) in
         let same : r.owner ≡ task = owner ∙ one_holder s sh.lawful m.0 task p m.2 holds in
-        inr (set, within, subst (λ (t : ℕ). lookup s t r.name ≡ Some (Target.set set)) same (sh.agrees.set_named set r e))
+        let named : lookup s task r.name ≡ Some (Target.set set) = subst (λ (t : ℕ). lookup s t r.name ≡ Some (Target.set set)) same (sh.agrees.set_named set r e) in
+        inr (
+          set,
+          within,
+          named,
+          (λ other n c other_named.
+              let alone = listed_one set other (subst (λ (xs : List ℕ). Contains xs other) (sym is) c) in
+              let one = sh.lawful.one_set_name task r.name n set named (other_named ∙ ap (λ (x : ℕ). Some (Target.set x)) alone) in
+              omega (arith, one)),
+        )
 
 tells : (w : WorldView) (s : State) → Shows w s → (task name p : ℕ) → FindsReceive w task name p → (v : PortView Kept) → port_at w p ≡ Some v →
     TellsStatus s task name (status_of w.sets w.requests p v (counts_of w.ledger p))
@@ -196,9 +210,9 @@ has_port w task name p stands f =
     record { v = x.0; there = x.1; entered = port_entered w s a p live; few = omega (arith, few, many); few_once = omega (arith, le, all, rights, onces) }
 
 pub status_told : (w : WorldView) (task name p : ℕ) (status : Status) → HasTask w task → FindsReceive w task name p → TellsPort w p status →
-    Acts w (Event.ReceiveStatus task name) (Reply.Status status) w
+    Completes w (Event.ReceiveStatus task name) (Reply.Status status) w
 status_told w task name p status below f t = done w (Event.ReceiveStatus task name) (Reply.Status status) w below (receive_allowed w task name p f)
-    (λ now s sh. looked w (Event.ReceiveStatus task name) (Reply.Status status) now s sh tt (subst (TellsStatus s task name) (sym t.is) (tells w s sh task name p f t.v t.there), refl, refl))
+    (λ now s sh. looked w (Event.ReceiveStatus task name) (Reply.Status status) now s sh tt (refl, refl) (subst (TellsStatus s task name) (sym t.is) (tells w s sh task name p f t.v t.there)))
 
 -- ---- numbers that are set
 
@@ -210,18 +224,18 @@ module _ (w : WorldView) (task name limit : ℕ) (below : HasTask w task) where
   limit_refused few code r = record { refused = λ s sh. inr ((λ many. omega (arith, few, many)), r.refused s sh) }
 
 module _ (w : WorldView) (task name p : ℕ) (below : HasTask w task) (f : FindsReceive w task name p) (b : Attributes) (h : HasAttributes w p b) (new : WorldView) (n : ℕ) where
-  pub limit_set : n ≤ greatest_limit → SetsAttributes w p (record b { limit = n }) new → Acts w (Event.SetQlimit task name n) (Reply.Code 0) new
+  pub limit_set : n ≤ greatest_limit → SetsAttributes w p (record b { limit = n }) new → Completes w (Event.SetQlimit task name n) (Reply.Code 0) new
   limit_set few r = done w (Event.SetQlimit task name n) (Reply.Code 0) new below
       (record { allowed = λ s sh. ((λ many. omega (arith, few, many)), (receive_allowed w task name p f).allowed s sh) })
       (λ now s sh. let a = sh.agrees in sets_so w p b h (record b { limit = n }) refl new r (Event.SetQlimit task name n) now s (record s { limit = at s.limit p n }) sh
-      (refl, (p, finds_port w task name p f s a, finds_held w task name p f s a, refl), refl) tt (limit_agrees w s a p b h n new r))
+      (refl, (p, finds_port w task name p f s a, finds_held w task name p f s a, refl), refl) tt tt (limit_agrees w s a p b h n new r))
 
-  pub make_send_set : n < 2 ^ 32 → SetsAttributes w p (record b { make_send = n }) new → Acts w (Event.SetMscount task name n) (Reply.Code 0) new
+  pub make_send_set : n < 2 ^ 32 → SetsAttributes w p (record b { make_send = n }) new → Completes w (Event.SetMscount task name n) (Reply.Code 0) new
   make_send_set fits r = done w (Event.SetMscount task name n) (Reply.Code 0) new below (receive_allowed w task name p f)
       (λ now s sh. let a = sh.agrees in sets_so w p b h (record b { make_send = n }) refl new r (Event.SetMscount task name n) now s (record s { make_send = at s.make_send p n }) sh
-      (refl, fits, (p, finds_port w task name p f s a, finds_held w task name p f s a, refl), refl) tt (make_send_agrees w s a p b h n new r))
+      (refl, fits, (p, finds_port w task name p f s a, finds_held w task name p f s a, refl), refl) tt tt (make_send_agrees w s a p b h n new r))
 
-  pub sequence_set : n < 2 ^ 32 → SetsAttributes w p (record b { sequence = n }) new → Acts w (Event.SetSeqno task name n) (Reply.Code 0) new
+  pub sequence_set : n < 2 ^ 32 → SetsAttributes w p (record b { sequence = n }) new → Completes w (Event.SetSeqno task name n) (Reply.Code 0) new
   sequence_set fits r = done w (Event.SetSeqno task name n) (Reply.Code 0) new below (receive_allowed w task name p f)
       (λ now s sh. let a = sh.agrees in sets_so w p b h (record b { sequence = n }) refl new r (Event.SetSeqno task name n) now s (record s { sequence = at s.sequence p n }) sh
-      (refl, fits, (p, finds_port w task name p f s a, finds_held w task name p f s a, refl), refl) tt (sequence_agrees w s a p b h n new r))
+      (refl, fits, (p, finds_port w task name p f s a, finds_held w task name p f s a, refl), refl) tt tt (sequence_agrees w s a p b h n new r))

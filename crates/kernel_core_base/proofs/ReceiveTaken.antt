@@ -8,9 +8,9 @@ use Rattle.mach_types.specs.Tokens.{send, in_task, Token, token, count, is_held,
 use Rattle.mach_model.proofs.Names.{weigh-append, at_own, at_other, length-weigh, both_test}
 use Rattle.mach_model.specs.State.{State, Target, Names, lookup, at, request_at, without_name, held}
 use Rattle.mach_model.specs.Lawful.{IsLawful}
-use Rattle.mach_model.specs.Sets.{without_set}
+use Rattle.mach_model.specs.References.{without_set}
 use Rattle.mach_model.specs.Death.{same_place, IsOrphan}
-use Rattle.mach_model.specs.ReceiveRight.{one_if}
+use Rattle.mach_model.specs.Telling.{one_if}
 use Rattle.mach_model.specs.CopyIn.{name_kept}
 use Rattle.mach_model.proofs.Copying.{other_port, own_right}
 use Rattle.mach_model.proofs.Settling.{named_lives}

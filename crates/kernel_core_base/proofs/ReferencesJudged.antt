@@ -6,19 +6,20 @@ use Rattle.mach_types.specs.declared.codes.KernReturn.{KernReturn}
 use Rattle.mach_types.specs.declared.codes.KernReturn.TheVariants.{NoSpace, InvalidRight, InvalidValue, UrefsOverflow}
 use Rattle.mach_types.specs.declared.rights.Right.{Right}
 use Rattle.mach_types.specs.declared.rights.Right.TheVariants as right
-use Rattle.mach_types.specs.Numbers.{right_number, kern_number, most_rights, most_references}
+use Rattle.mach_types.specs.Numbers.{right_number, most_rights, most_references}
+use Rattle.mach_types.specs.Codes.{kern_number}
 use Rattle.mach_types.specs.Guards.{Guards, FirstIs, NoneHolds}
 use Rattle.mach_types.specs.declared.calls.Reply.{Reply}
 use Rattle.mach_types.specs.Tokens.{send, in_task, token, weigh}
 use Rattle.mach_model.specs.State.{State, Target, held}
-use Rattle.mach_model.specs.References.{IsCounted, IsUncounted, references_at, IsBelowZero, IsAbove, added_rights, Modifies, AddsTo, SetsSends, LosesReceive}
-use Rattle.mach_model.specs.Refusals.{call_guards, modify_guards}
+use Rattle.mach_model.specs.References.{CountsNoReferences, Modifies, AddsTo, SetsSends, LosesReceive}
+use Rattle.mach_model.specs.Refusals.{added_rights, IsAbove, IsBelowZero, references_at, CountsReferences, call_guards, modify_guards}
 use Rattle.mach_model.specs.CopyIn.{name_kept}
 use Rattle.mach_model.proofs.Midway.{Removes}
 use Rattle.name_space.specs.declared.Entry.{Entry}
 use Rattle.name_space.specs.declared.Entry.TheVariants as entry_of
 use Rattle.name_space.specs.Entry.{references_in, port_named, port_of, set_named, receive_named, send_references}
-use Rattle.copyin_base.specs.Acts.{IsRefused, IsAllowed, Acts}
+use Rattle.copyin_base.specs.Serving.{IsRefused, IsAllowed, Completes}
 use Rattle.copyin_base.specs.Worlds.{WorldView, entry_at, HasTask}
 use Rattle.copyin_base.specs.Shows.{Agrees, Shows}
 use Rattle.copyin_base.proofs.Told.{used}
@@ -96,30 +97,30 @@ whole_due change whole due delta is e = grind (arith, whole_cases, not_ok)
 abbrev later_guards : State → (task name number : ℕ) → ℤ → Guards
 later_guards s task name number delta =
     (references_at s task name number ≡ 0, kern_number InvalidRight)
-    ∷ (IsCounted number × IsBelowZero (references_at s task name number) delta ⊎ IsUncounted number × (delta ≢ pos 0) × (delta ≢ negsuc 0), kern_number InvalidValue)
-    ∷ (IsCounted number × IsAbove (references_at s task name number) delta, kern_number UrefsOverflow)
+    ∷ (CountsReferences number × IsBelowZero (references_at s task name number) delta ⊎ CountsNoReferences number × (delta ≢ pos 0) × (delta ≢ negsuc 0), kern_number InvalidValue)
+    ∷ (CountsReferences number × IsAbove (references_at s task name number) delta, kern_number UrefsOverflow)
     ∷ ((number ≡ 0) × (most_rights < length s.ledger + added_rights delta), kern_number NoSpace)
     ∷ []
 
 -- what is to be known of a right's number for none to hold
 record IsFine (s : State) (number n : ℕ) (delta : ℤ) : Type 0 where
   pub few : ¬ (4 < number)
-  pub not_below : IsCounted number → ¬ (IsBelowZero n delta)
-  pub whole : IsUncounted number → (delta ≡ pos 0) ⊎ (delta ≡ negsuc 0)
-  pub not_above : IsCounted number → ¬ (IsAbove n delta)
+  pub not_below : CountsReferences number → ¬ (IsBelowZero n delta)
+  pub whole : CountsNoReferences number → (delta ≡ pos 0) ⊎ (delta ≡ negsuc 0)
+  pub not_above : CountsReferences number → ¬ (IsAbove n delta)
   pub room : number ≡ 0 → length s.ledger + added_rights delta ≤ most_rights
 
-uncounted_0 : ¬ (IsUncounted 0)
+uncounted_0 : ¬ (CountsNoReferences 0)
 uncounted_0 (inl e) = omega (arith, e)
 uncounted_0 (inr (inl e)) = omega (arith, e)
 uncounted_0 (inr (inr e)) = omega (arith, e)
 
-uncounted_4 : ¬ (IsUncounted 4)
+uncounted_4 : ¬ (CountsNoReferences 4)
 uncounted_4 (inl e) = omega (arith, e)
 uncounted_4 (inr (inl e)) = omega (arith, e)
 uncounted_4 (inr (inr e)) = omega (arith, e)
 
-not_counted : (number : ℕ) → IsUncounted number → ¬ (IsCounted number)
+not_counted : (number : ℕ) → CountsNoReferences number → ¬ (CountsReferences number)
 not_counted number (inl e) (inl f) = omega (arith, e, f)
 not_counted number (inl e) (inr f) = omega (arith, e, f)
 not_counted number (inr (inl e)) (inl f) = omega (arith, e, f)
@@ -127,7 +128,7 @@ not_counted number (inr (inl e)) (inr f) = omega (arith, e, f)
 not_counted number (inr (inr e)) (inl f) = omega (arith, e, f)
 not_counted number (inr (inr e)) (inr f) = omega (arith, e, f)
 
-not_send : (number : ℕ) → IsUncounted number → number ≡ 0 → ⊥
+not_send : (number : ℕ) → CountsNoReferences number → number ≡ 0 → ⊥
 not_send number u e = not_counted number u (inl e)
 
 module _ (w : WorldView) (s : State) (a : Agrees w s) (task name : ℕ) (delta : ℤ) where
@@ -137,7 +138,7 @@ module _ (w : WorldView) (s : State) (a : Agrees w s) (task name : ℕ) (delta :
   fine_dead : (n m : ℕ) (change : Change) → IsChange change delta → CanSum n change m → IsFine s 4 n delta
   fine_dead n m change is can = grind (arith, not_below, uncounted_4, not_above)
 
-  fine_whole : (number n : ℕ) → ¬ (4 < number) → IsUncounted number → (delta ≡ pos 0) ⊎ (delta ≡ negsuc 0) → IsFine s number n delta
+  fine_whole : (number n : ℕ) → ¬ (4 < number) → CountsNoReferences number → (delta ≡ pos 0) ⊎ (delta ≡ negsuc 0) → IsFine s number n delta
   fine_whole number n few u which = grind (arith, not_below, not_counted, not_above, not_send)
 
   fine : (r : Right) (e : Entry) (change : Change) (due : Due) → IsChange change delta → CanChange w.ledger.total r e change due → IsFine s (right_number r) (references_in r e) delta
@@ -152,7 +153,7 @@ module _ (w : WorldView) (s : State) (a : Agrees w s) (task name : ℕ) (delta :
 
   -- ---- refused
 
-  sum_fails : (number n : ℕ) (change : Change) (code : KernReturn) → references_at s task name number ≡ n → 0 < n → IsCounted number → IsChange change delta → CannotSum n change code →
+  sum_fails : (number n : ℕ) (change : Change) (code : KernReturn) → references_at s task name number ≡ n → 0 < n → CountsReferences number → IsChange change delta → CannotSum n change code →
       FirstIs (later_guards s task name number delta) (kern_number code)
   sum_fails number n change code refs some c is (inl h) = grind (arith, too_few)
   sum_fails number n change code refs some c is (inr h) = grind (arith, too_many, many_not_few, not_counted)
@@ -162,11 +163,11 @@ module _ (w : WorldView) (s : State) (a : Agrees w s) (task name : ℕ) (delta :
   room_fails n m change code refs some is can many code_is = grind (arith, not_above, same_added, not_below, uncounted_0)
 
   -- by a number that such a right can't have
-  wrong_fails : (number n : ℕ) (code : KernReturn) → references_at s task name number ≡ n → 0 < n → IsUncounted number → delta ≢ pos 0 → delta ≢ negsuc 0 → code ≡ InvalidValue →
+  wrong_fails : (number n : ℕ) (code : KernReturn) → references_at s task name number ≡ n → 0 < n → CountsNoReferences number → delta ≢ pos 0 → delta ≢ negsuc 0 → code ≡ InvalidValue →
       FirstIs (later_guards s task name number delta) (kern_number code)
   wrong_fails number n code refs some u not_0 not_1 code_is = inr ((λ z. omega (arith, refs, some, z)), inl (inr (u, not_0, not_1), ap kern_number code_is))
 
-  whole_fails : (number n : ℕ) (change : Change) (whole : Result Due KernReturn) (code : KernReturn) → references_at s task name number ≡ n → 0 < n → IsUncounted number → IsChange change delta →
+  whole_fails : (number n : ℕ) (change : Change) (whole : Result Due KernReturn) (code : KernReturn) → references_at s task name number ≡ n → 0 < n → CountsNoReferences number → IsChange change delta →
       changed_whole change whole ≡ Err code → (delta ≡ negsuc 0 → Err code ≡ whole → FirstIs (later_guards s task name number delta) (kern_number code)) → FirstIs (later_guards s task name number delta) (kern_number code)
   whole_fails number n change whole code refs some u is e going = elim (whole_cases change whole (Err code) delta is e) [
     | inl h ↦ absurd (not_ok Nothing code (sym h.1))
@@ -313,14 +314,14 @@ module _ (w : WorldView) (stands : Stands w) (task name : ℕ) where
     record Asks (due : Due) : Type 0 where
       pub can : CanCarry w task name due
       pub does : (v : WorldView) → HasTask w task → IsAllowed w (λ s. call_guards s (Event.ModRefs task name number delta)) → Carries w task name due v →
-          Acts w (Event.ModRefs task name number delta) (Reply.Code 0) v
+          Completes w (Event.ModRefs task name number delta) (Reply.Code 0) v
 
     -- ... where no receive right and no send-once right goes
     plain : (due : Due) → CanCarry w task name due → IsCountedDue due → ((s : State) → Shows w s → (t : State) → Becomes s task name due t → Modifies task name number delta s t []) →
         ¬ (Removes number delta) → Asks due
     plain due can counted means none = record {
       can = can;
-      does = λ v below good c. carried w (Event.ModRefs task name number delta) task name due v below good counted (λ now s sh t b. (refl, means s sh t b)) (λ s sh. none) c;
+      does = λ v below good c. carried w (Event.ModRefs task name number delta) task name due v below good counted (λ now s sh t b. ((refl, means s sh t b), tt)) (λ s sh. none) c;
     }
 
     other_number : (n : ℕ) → n ≡ number → (n ≡ 1 → ⊥) → (n ≡ 2 → ⊥) → ¬ (Removes number delta)
@@ -354,7 +355,7 @@ module _ (w : WorldView) (stands : Stands w) (task name : ℕ) where
     once_goes p number_is gone is = record {
       can = is;
       does = λ v below good c. once_lost w task name p v c (Event.ModRefs task name number delta) below good
-          (λ now s t sh loses. (refl, inr (inr (inr (Target.once p, gone, named w s sh.agrees task name (entry_of.SendOnce p) is, (sym number_is, (loses, refl)))))));
+          (λ now s t sh loses. ((refl, inr (inr (inr (Target.once p, gone, named w s sh.agrees task name (entry_of.SendOnce p) is, (sym number_is, (loses, refl)))))), tt));
     }
 
     -- the send rights stay
@@ -363,13 +364,16 @@ module _ (w : WorldView) (stands : Stands w) (task name : ℕ) where
       can = can_lose e p (send_references e) is receive refl (send_references e) (omega arith) (few_sends e is p of);
       does = λ v below good c. receive_lost w task name (receive_loss e p) v c (Event.ModRefs task name number delta) below good
           (λ now s sh t b. (
-            refl,
-            inr (inr (inr (
-              Target.port p,
-              gone,
-              named w s sh.agrees task name e is ∙ ap Some (target_named e p of),
-              (sym number_is, (only_receive s t (of_port w s sh.agrees task name e is p of).1 b), refl),
-            ))),
+            (
+              refl,
+              inr (inr (inr (
+                Target.port p,
+                gone,
+                named w s sh.agrees task name e is ∙ ap Some (target_named e p of),
+                (sym number_is, (only_receive s t (of_port w s sh.agrees task name e is p of).1 b), refl),
+              ))),
+            ),
+            tt,
           ));
     }
       where
@@ -418,5 +422,5 @@ module _ (w : WorldView) (stands : Stands w) (task name : ℕ) where
     can_modify r e change due f by can = (asks r e change due f by can).can
 
     pub modifies : (r : Right) (e : Entry) (change : Change) (due : Due) (v : WorldView) → HasTask w task → FindsRight w task name number r e → IsChange change delta →
-        CanChange w.ledger.total r e change due → Carries w task name due v → Acts w (Event.ModRefs task name number delta) (Reply.Code 0) v
+        CanChange w.ledger.total r e change due → Carries w task name due v → Completes w (Event.ModRefs task name number delta) (Reply.Code 0) v
     modifies r e change due v below f by can c = (asks r e change due f by can).does v below (modify_allowed w task name number delta r e f change by due can) c

@@ -13,7 +13,8 @@ use Rattle.mach_model.proofs.Settling.{named_lives}
 use Rattle.mach_model.proofs.Names.{held_le_of}
 use Rattle.mach_model.specs.State.{State, Target, lookup}
 use Rattle.mach_model.specs.Death.{IsOrphan}
-use Rattle.mach_model.specs.Machine.{Does}
+use Rattle.mach_model.specs.Acts.{Does}
+use Rattle.mach_model.specs.Machine.{Judged}
 use Rattle.mach_model.specs.Refusals.{call_guards}
 use Rattle.rights.specs.declared.RightKind.TheVariants as right
 use Rattle.rights.specs.Ledger.{LedgerView, made, taken, IsEntered, counts_of}
@@ -45,7 +46,7 @@ use Rattle.copyin_base.proofs.Putting.{put_own, put_same, each_put}
 use Rattle.copyin_base.proofs.Carriers.{carriers_same, carriers_disbanded, carriers_held}
 use Rattle.copyin_base.proofs.Idle.{none_lost_same, none_lost_disbanded}
 use Rattle.copyin_base.proofs.Requested.{requested_left, requested_removed, requested_ports}
-use Rattle.copyin_base.specs.Acts.{HasTasks, IsAllowed, Acts}
+use Rattle.copyin_base.specs.Serving.{HasTasks, IsAllowed, Completes}
 use Rattle.copyin_base.specs.Posted.{IsLeft}
 use Rattle.copyin_base.specs.Wanted.{UsesSpares}
 use Rattle.copyin_base.proofs.Acting.{done_leaving}
@@ -568,13 +569,15 @@ module _ (w : WorldView) (task name : ℕ) (l : Loss) (v : WorldView) (r : Loses
   lost_spares = keeps_noted (UsesSpares w) (λ n h. record { rooms = h.rooms; fewer = h.fewer; slots = h.slots }) (taken_spares w task name l r.killed r.can r.takes)
 
   pub receive_lost : (event : Event) → HasTasks w event → IsAllowed w (λ s. call_guards s event) →
-      ((now : ℕ) (s : State) → Shows w s → (t : State) → TakesSo task name l s t → Does now s event (Reply.Code 0) t []) → Acts w event (Reply.Code 0) v
+      ((now : ℕ) (s : State) → Shows w s → (t : State) → TakesSo task name l s t →
+      (d : Does now s event (Reply.Code 0) t []) × Judged now s event (Reply.Code 0) t [] d) → Completes w event (Reply.Code 0) v
   receive_lost event tasks allowed means = done_leaving w event (Reply.Code 0) v tasks allowed (λ now s sh.
       let k = r.takes in
       let x = becomes w task name l r.can s sh r.killed k in record {
         mid = x.0;
         owed = [];
-        does = means now s sh x.0 x.1;
+        does = (means now s sh x.0 x.1).0;
+        judged = (means now s sh x.0 x.1).1;
         agrees = lost_keeps (λ y. Agrees y x.0) r.killed v (Some l.port) (nat_lt l.left l.held) r.notes (λ p n a. noted_agrees r.killed v p n x.0 a) x.2;
         holders = lost_keeps HoldersAgree r.killed v (Some l.port) (nat_lt l.left l.held) r.notes (λ p n. noted_holders r.killed v p n) (taken_holders w task name l r.killed r.can k s sh);
         carriers = lost_keeps CarriersAgree r.killed v (Some l.port) (nat_lt l.left l.held) r.notes (λ p n. noted_carriers r.killed v p n) (taken_carriers w task name l r.killed r.can k s sh);

@@ -12,15 +12,16 @@ use Rattle.mach_types.specs.declared.calls.Reply.{Reply}
 use Rattle.mach_types.specs.declared.rights.Disposition.TheVariants.{MoveSendOnce, MoveSend}
 use Rattle.mach_model.specs.State.{State, Target, Names, lookup, held, at, request_at, without_name, with_name}
 use Rattle.mach_model.specs.Death.{same_place, IsOrphan}
-use Rattle.mach_model.specs.ReceiveRight.{one_if}
+use Rattle.mach_model.specs.Telling.{one_if}
 use Rattle.mach_model.specs.CopyIn.{name_kept}
-use Rattle.mach_model.specs.References.{SetsSends, with_dead, LosesOne, unused_once, LosesAll, HasReference, is_either}
+use Rattle.mach_model.specs.References.{SetsSends, with_dead, LosesOne, unused_once, LosesAll, is_either, without_set}
+use Rattle.mach_model.specs.NameGuards.{HasReference}
 use Rattle.mach_model.proofs.Names.{at_own, at_other, length-weigh, held_le_of, both_test, some_tally}
 use Rattle.mach_model.proofs.Settling.{named_lives}
 use Rattle.mach_model.proofs.Copying.{other_port, own_right}
-use Rattle.mach_model.specs.Machine.{Does}
+use Rattle.mach_model.specs.Acts.{Does}
+use Rattle.mach_model.specs.Machine.{Judged}
 use Rattle.mach_model.specs.Refusals.{call_guards}
-use Rattle.mach_model.specs.Sets.{without_set}
 use Rattle.mach_model.proofs.Midway.{NamesOnce, LosesWhole, LosesNone}
 use Rattle.rights.specs.Counts.{with_more, with_fewer}
 use Rattle.rights.specs.Ledger.{LedgerView, made, taken, counts_of, shifted}
@@ -46,7 +47,7 @@ use Rattle.copyin_base.proofs.Putting.{put_other, put_same, get_removed}
 use Rattle.copyin_base.proofs.Requesting.{stands_after}
 use Rattle.copyin_base.proofs.Holders.{IsReceive, receives_at, none_receives, left_receives, removed_receives, KeepHolders, same_holders, disbanded_holders, holders_left, put_holders, holders_ports, put_holders_left}
 use Rattle.copyin_base.specs.declared.notice.Notice.TheVariants as notice
-use Rattle.copyin_base.specs.Acts.{HasTasks, IsAllowed, Acts}
+use Rattle.copyin_base.specs.Serving.{HasTasks, IsAllowed, Completes}
 use Rattle.copyin_base.specs.Changes.{NotesSenders}
 use Rattle.copyin_base.specs.Kept.{Kept}
 use Rattle.copyin_base.specs.Posted.{with_posted, IsLeft}
@@ -432,11 +433,13 @@ module _ (w : WorldView) (task name p : ℕ) (v : WorldView) (r : LosesOnce w ta
 
   -- An event that is allowed does this.
   pub once_lost : (event : Event) → HasTasks w event → IsAllowed w (λ s. call_guards s event) →
-      ((now : ℕ) (s t : State) → Shows w s → LosesOne task name MoveSendOnce (Target.once p) s t → Does now s event (Reply.Code 0) t (unused_once p task)) → Acts w event (Reply.Code 0) v
+      ((now : ℕ) (s t : State) → Shows w s → LosesOne task name MoveSendOnce (Target.once p) s t →
+      (d : Does now s event (Reply.Code 0) t (unused_once p task)) × Judged now s event (Reply.Code 0) t (unused_once p task) d) → Completes w event (Reply.Code 0) v
   once_lost event tasks allowed means = done_leaving w event (Reply.Code 0) v tasks allowed (λ now s sh. record {
     mid = mid s sh;
     owed = unused_once p task;
-    does = means now s (mid s sh) sh (loses s sh);
+    does = (means now s (mid s sh) sh (loses s sh)).0;
+    judged = (means now s (mid s sh) sh (loses s sh)).1;
     agrees = once_agrees s sh now;
     holders = once_holders sh.holders;
     carriers = once_carriers sh.carriers;
@@ -613,13 +616,14 @@ comes w s sh task name (Disbanding set) v counted c = record { t = without_set s
 
 -- An event that is allowed does this, which is due and is done.
 pub carried : (w : WorldView) (event : Event) (task name : ℕ) (due : Due) (v : WorldView) → HasTasks w event → IsAllowed w (λ s. call_guards s event) → IsCountedDue due →
-    ((now : ℕ) (s : State) → Shows w s → (t : State) → Becomes s task name due t → Does now s event (Reply.Code 0) t []) →
-    ((s : State) → Shows w s → LosesNone s event (Reply.Code 0)) → Carries w task name due v → Acts w event (Reply.Code 0) v
+    ((now : ℕ) (s : State) → Shows w s → (t : State) → Becomes s task name due t → (d : Does now s event (Reply.Code 0) t []) × Judged now s event (Reply.Code 0) t [] d) →
+    ((s : State) → Shows w s → LosesNone s event (Reply.Code 0)) → Carries w task name due v → Completes w event (Reply.Code 0) v
 carried w event task name due v tasks allowed counted means none c = done w event (Reply.Code 0) v tasks allowed
     (λ now s sh. let x = comes w s sh task name due v counted c in let plain = counted_plain due counted in record {
       mid = x.t;
       owed = [];
-      does = means now s sh x.t x.does;
+      does = (means now s sh x.t x.does).0;
+      judged = (means now s sh x.t x.does).1;
       loses_none = none s sh;
       none_owed = refl;
       agrees = x.agrees;
@@ -634,22 +638,25 @@ carried w event task name due v tasks allowed counted means none c = done w even
 module _ (w : WorldView) (task name : ℕ) (below : HasTask w task) (v : WorldView) where
   lose_one : (e : Entry) (p n : ℕ) → entry_at w task name ≡ Some e → port_named e ≡ Some p → send_references e ≡ n → ((s : State) → Shows w s → 0 < n) →
       ((s t : State) → Becomes s task name (References e (n - 1)) t → SetsSends task name p (n - 1) s t) → IsCountedDue (References e (n - 1)) →
-      Carries w task name (References e (n - 1)) v → Acts w (Event.Deallocate task name) (Reply.Code 0) v
+      Carries w task name (References e (n - 1)) v → Completes w (Event.Deallocate task name) (Reply.Code 0) v
   lose_one e p n is of refs some sets counted c = carried w (Event.Deallocate task name) task name (References e (n - 1)) v below
       (may_deallocate w task name e is (λ s sh. subst (λ (o : Option Target). HasReference s task o) (ap Some (sym (target_named e p of)))
       (let h = (of_port w s sh.agrees task name e is p of).1 in let m = some s sh in omega (arith, h, refs, m)))) counted
       (λ now s sh t b. (
-        refl,
-        inl (
-          p,
-          one_send s task name (n - 1) p t (named w s sh.agrees task name e is ∙ ap Some (target_named e p of))
-              (let h = (of_port w s sh.agrees task name e is p of).1 in let m = some s sh in omega (arith, h, refs, m)) (sets s t b),
+        (
           refl,
+          inl (
+            p,
+            one_send s task name (n - 1) p t (named w s sh.agrees task name e is ∙ ap Some (target_named e p of))
+                (let h = (of_port w s sh.agrees task name e is p of).1 in let m = some s sh in omega (arith, h, refs, m)) (sets s t b),
+            refl,
+          ),
         ),
+        tt,
       ))
       (λ s sh. not_once w s sh.agrees task name e is (λ q once. port_not_once p q (sym (target_named e p of) ∙ once))) c
 
-  pub deallocates : (e : Entry) (due : Due) → entry_at w task name ≡ Some e → deallocated e ≡ Some due → Carries w task name due v → Acts w (Event.Deallocate task name) (Reply.Code 0) v
+  pub deallocates : (e : Entry) (due : Due) → entry_at w task name ≡ Some e → deallocated e ≡ Some due → Carries w task name due v → Completes w (Event.Deallocate task name) (Reply.Code 0) v
   deallocates (entry_of.Send p n) due is d c = lose_one (entry_of.Send p n) p n is refl refl (λ s sh. sh.agrees.counted task name (entry_of.Send p n) is) (λ s t b. b) tt
       (subst (λ (x : Due). Carries w task name x v) (the_due (References (entry_of.Send p n) (n - 1)) due d) c)
   deallocates (entry_of.ReceiveAndSend p n) due is d c = lose_one (entry_of.ReceiveAndSend p n) p n is refl refl (λ s sh. sh.agrees.counted task name (entry_of.ReceiveAndSend p n) is) (λ s t b. b) tt
@@ -660,29 +667,32 @@ module _ (w : WorldView) (task name : ℕ) (below : HasTask w task) (v : WorldVi
   deallocates (entry_of.Set set) due is d c = absurd (no_due due d)
 
   -- the receive right goes with all send references
-  receive_destroyed : (p n : ℕ) → Carries w task name (Killing (whole_loss p n)) v → IsAllowed w (λ s. call_guards s (Event.Destroy task name)) → Acts w (Event.Destroy task name) (Reply.Code 0) v
+  receive_destroyed : (p n : ℕ) → Carries w task name (Killing (whole_loss p n)) v → IsAllowed w (λ s. call_guards s (Event.Destroy task name)) → Completes w (Event.Destroy task name) (Reply.Code 0) v
   receive_destroyed p n c allowed = receive_lost w task name (whole_loss p n) v c (Event.Destroy task name) below allowed
       (λ now s sh t b. (
-        refl,
         (
-          Target.port p,
-          named w s sh.agrees task name c.can.e c.can.found ∙ ap Some (target_named c.can.e p (receive_has c.can.e p c.can.receive).0),
-          (all_rights s task name p n t (kill_held w task name (whole_loss p n) c.can s sh) b, b.rest, refl),
+          refl,
+          (
+            Target.port p,
+            named w s sh.agrees task name c.can.e c.can.found ∙ ap Some (target_named c.can.e p (receive_has c.can.e p c.can.receive).0),
+            (all_rights s task name p n t (kill_held w task name (whole_loss p n) c.can s sh) b, b.rest, refl),
+          ),
         ),
+        tt,
       ))
 
-  pub destroys : (e : Entry) → entry_at w task name ≡ Some e → Carries w task name (destroyed e) v → Acts w (Event.Destroy task name) (Reply.Code 0) v
+  pub destroys : (e : Entry) → entry_at w task name ≡ Some e → Carries w task name (destroyed e) v → Completes w (Event.Destroy task name) (Reply.Code 0) v
   destroys (entry_of.Send p n) is c = carried w (Event.Destroy task name) task name (References (entry_of.Send p n) 0) v below (may_destroy w task name (entry_of.Send p n) is) tt
       (λ now s sh t b. let none = (of_port w s sh.agrees task name (entry_of.Send p n) is p refl).0 in
-      (refl, (Target.port p, named w s sh.agrees task name (entry_of.Send p n) is, (all_sends s task name p t none b, all_gone s task name p t none b, refl))))
+      ((refl, (Target.port p, named w s sh.agrees task name (entry_of.Send p n) is, (all_sends s task name p t none b, all_gone s task name p t none b, refl))), tt))
       (λ s sh. not_whole w s sh.agrees task name (entry_of.Send p n) is refl (λ q once. port_not_once p q once)) c
   destroys (entry_of.DeadName n) is c = carried w (Event.Destroy task name) task name (References (entry_of.DeadName n) 0) v below (may_destroy w task name (entry_of.DeadName n) is) tt
-      (λ now s sh t b. (refl, (Target.dead n, named w s sh.agrees task name (entry_of.DeadName n) is, (b, refl))))
+      (λ now s sh t b. ((refl, (Target.dead n, named w s sh.agrees task name (entry_of.DeadName n) is, (b, refl))), tt))
       (λ s sh. not_whole w s sh.agrees task name (entry_of.DeadName n) is refl (λ q once. dead_not_once n q once)) c
   destroys (entry_of.Set set) is c = carried w (Event.Destroy task name) task name (Disbanding set) v below (may_destroy w task name (entry_of.Set set) is) tt
-      (λ now s sh t b. (refl, (Target.set set, named w s sh.agrees task name (entry_of.Set set) is, (b, refl))))
+      (λ now s sh t b. ((refl, (Target.set set, named w s sh.agrees task name (entry_of.Set set) is, (b, refl))), tt))
       (λ s sh. not_whole w s sh.agrees task name (entry_of.Set set) is refl (λ q once. set_not_once set q once)) c
   destroys (entry_of.SendOnce p) is c = once_lost w task name p v c (Event.Destroy task name) below (may_destroy w task name (entry_of.SendOnce p) is)
-      (λ now s t sh loses. (refl, (Target.once p, named w s sh.agrees task name (entry_of.SendOnce p) is, (loses, refl))))
+      (λ now s t sh loses. ((refl, (Target.once p, named w s sh.agrees task name (entry_of.SendOnce p) is, (loses, refl))), tt))
   destroys (entry_of.Receive p) is c = receive_destroyed p 0 c (may_destroy w task name (entry_of.Receive p) is)
   destroys (entry_of.ReceiveAndSend p n) is c = receive_destroyed p n c (may_destroy w task name (entry_of.ReceiveAndSend p n) is)

@@ -6,15 +6,16 @@ use Rattle.mach_types.specs.declared.calls.Reply.{Reply}
 use Rattle.mach_types.specs.declared.codes.KernReturn.TheVariants.{InvalidValue}
 use Rattle.mach_types.specs.declared.rights.Right.{Right}
 use Rattle.mach_types.specs.declared.rights.Right.TheVariants as right
-use Rattle.mach_types.specs.Numbers.{right_number, kern_number}
+use Rattle.mach_types.specs.Numbers.{right_number}
+use Rattle.mach_types.specs.Codes.{kern_number}
 use Rattle.mach_types.specs.Tokens.{receive}
 use Rattle.mach_model.specs.State.{State, Target, held}
-use Rattle.mach_model.specs.References.{references, references_at, references_under}
-use Rattle.mach_model.specs.Refusals.{used_guards, call_guards}
+use Rattle.mach_model.specs.Refusals.{references_at, references_under, used_guards, call_guards}
+use Rattle.mach_model.specs.Telling.{references}
 use Rattle.name_space.specs.declared.Entry.{Entry}
 use Rattle.name_space.specs.declared.Entry.TheVariants as entry
 use Rattle.name_space.specs.Entry.{references_in}
-use Rattle.copyin_base.specs.Acts.{IsRefused, Acts, Declines}
+use Rattle.copyin_base.specs.Serving.{IsRefused, Completes, Declines}
 use Rattle.copyin_base.specs.Shows.{Agrees, target_of}
 use Rattle.copyin_base.specs.Worlds.{WorldView, entry_at, HasTask}
 use Rattle.copyin_base.proofs.Acting.{done, looked, refused}
@@ -82,15 +83,11 @@ module _ (w : WorldView) (task name number : ℕ) (below : HasTask w task) where
   pub refs_no_name : (r : Right) → right_number r ≡ number → (code : ℕ) → IsRefused w (λ s. used_guards s task name) code → IsRefused w (λ s. call_guards s (Event.GetRefs task name number)) code
   refs_no_name r is code why = record { refused = λ s sh. inr (subst (λ (k : ℕ). ¬ (4 < k)) is (few_numbers r), why.refused s sh) }
 
-  pub refs_told : (r : Right) (e : Entry) → right_number r ≡ number → entry_at w task name ≡ Some e → Acts w (Event.GetRefs task name number) (Reply.Refs (references_in r e)) w
+  pub refs_told : (r : Right) (e : Entry) → right_number r ≡ number → entry_at w task name ≡ Some e → Completes w (Event.GetRefs task name number) (Reply.Refs (references_in r e)) w
   refs_told r e is there = done w (Event.GetRefs task name number) (Reply.Refs (references_in r e)) w below
       (record { allowed = λ s sh. (subst (λ (k : ℕ). ¬ (4 < k)) is (few_numbers r), (used w s sh.agrees task name e there, tt)) })
-      (λ now s sh. looked w (Event.GetRefs task name number) (Reply.Refs (references_in r e)) now s sh tt (
-        (
-          target_of e,
-          found w s sh.agrees task name e there,
-          subst (λ (k : ℕ). references_in r e ≡ references s task (target_of e) k) is (counted w s sh.agrees task name r e there),
-        ),
-        refl,
-        refl,
+      (λ now s sh. looked w (Event.GetRefs task name number) (Reply.Refs (references_in r e)) now s sh tt (refl, refl) (
+        target_of e,
+        found w s sh.agrees task name e there,
+        subst (λ (k : ℕ). references_in r e ≡ references s task (target_of e) k) is (counted w s sh.agrees task name r e there),
       ))

@@ -6,7 +6,7 @@ use Rattle.mach_types.specs.declared.calls.Event.{Event}
 use Rattle.mach_types.specs.declared.calls.Reply.{Reply}
 use Rattle.mach_types.specs.declared.codes.KernReturn.{KernReturn}
 use Rattle.mach_types.specs.declared.codes.KernReturn.TheVariants.{ResourceShortage}
-use Rattle.mach_types.specs.Numbers.{kern_number}
+use Rattle.mach_types.specs.Codes.{kern_number}
 use Rattle.mach_types.specs.declared.calls.Waited.{Waited}
 use Rattle.mach_types.specs.Guards.{Guards, FirstIs}
 use Rattle.mach_types.specs.Tokens.{send, Token, count, is_of}
@@ -16,7 +16,7 @@ use Rattle.mach_model.specs.Notices.{right_unused}
 use Rattle.rights.specs.Ledger.{counts_of}
 use Rattle.copyin_base.specs.declared.code.Code.{Code}
 use Rattle.copyin_base.specs.declared.code.Code.TheVariants.{Kern}
-use Rattle.copyin_base.specs.Acts.{Serves, HasTasks, IsAllowed, IsRefused, code_number, Acts}
+use Rattle.copyin_base.specs.Serving.{Serves, HasTasks, IsAllowed, IsRefused, code_number, Completes}
 use Rattle.copyin_base.specs.Changes.{SameButRoom}
 use Rattle.copyin_base.specs.Worlds.{WorldView, HasTask}
 use Rattle.copyin_base.proofs.Acting.{tasks_live, done_leaving}
@@ -78,6 +78,8 @@ not_guarded s (Event.SetMscount task name n) = refl
 not_guarded s (Event.SetSeqno task name n) = refl
 not_guarded s (Event.SetStatus task name) = refl
 not_guarded s (Event.MoveMember task member after) = refl
+not_guarded s (Event.InsertMember task member set) = refl
+not_guarded s (Event.ExtractMember task member set) = refl
 not_guarded s (Event.InsertRight task name from poly number) = refl
 not_guarded s (Event.ExtractRight task name number to) = refl
 not_guarded s (Event.RequestNotification task name variant sync notify number) = refl
@@ -134,6 +136,8 @@ none_later s (Event.AllocateName task right name) none code later = none
 none_later s (Event.Names task) none code later = none
 none_later s (Event.Rename task o n) none code later = none
 none_later s (Event.SetStatus task name) none code later = none
+none_later s (Event.InsertMember task member set) none code later = none
+none_later s (Event.ExtractMember task member set) none code later = none
 none_later s (Event.InsertRight task name from poly number) none code later = none
 none_later s (Event.ExtractRight task name number to) none code later = none
 none_later s (Event.RequestNotification task name variant sync notify number) none code later = none
@@ -158,12 +162,13 @@ posted_sends now mid (x ∷ xs) q = let r = posted_sends now (with_notice now mi
 ended_sends : (now : ℕ) (w : WorldView) (s : State) → Shows w s → (task : ℕ) (v : WorldView) → HasEnded now w task s v → (q : ℕ) → (counts_of v.ledger q).send ≤ (counts_of w.ledger q).send
 ended_sends now w s sh task v e q = grind (arith, posted_sends)
 
-pub task_ended : (w : WorldView) (task : ℕ) (v : WorldView) → HasTask w task → Ends w task v → Acts w (Event.TaskTerminate task) (Reply.Code 0) v
+pub task_ended : (w : WorldView) (task : ℕ) (v : WorldView) → HasTask w task → Ends w task v → Completes w (Event.TaskTerminate task) (Reply.Code 0) v
 task_ended w task v lives ends = done_leaving w (Event.TaskTerminate task) (Reply.Code 0) v lives (record { allowed = λ s sh. tt })
     (λ now s sh. let e = ends.ends now s sh in record {
       mid = e.mid;
       owed = e.owed;
       does = (refl, e.ends);
+      judged = tt;
       agrees = e.agrees;
       holders = e.holders;
       carriers = e.carriers;

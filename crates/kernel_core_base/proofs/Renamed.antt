@@ -38,7 +38,7 @@ use Rattle.copyin_base.proofs.Spaces.{each-space-set, space-set_same}
 use Rattle.copyin_base.specs.Reading.{reading, read_names, read_space, live_in, AreGiven}
 use Rattle.copyin_base.proofs.Reading.{get_read, used_read, unused_read, read_put}
 use Rattle.copyin_base.proofs.Written.{tables, lent_there, lent_read, given_after, space_written}
-use Rattle.copyin_base.specs.Acts.{Acts, IsAllowed}
+use Rattle.copyin_base.specs.Serving.{Completes, IsAllowed}
 use Rattle.copyin_base.specs.Changes.{KeepsPlace, SameButRoom}
 use Rattle.copyin_base.specs.Wanted.{kept_in, kept_of}
 use Rattle.copyin_base.specs.Stands.{Stands}
@@ -553,7 +553,7 @@ module _ (w w1 : WorldView) (task from to : ℕ) (small : to < 2 ^ 32) (e : Entr
   holders v named h = grind (arith, holders_left, moved_receives, here_renamed, same_holders)
 
   -- from the tables before a place was kept
-  pub rename_done : (old : WorldView) → SameButRoom old w → HasTask old task → IsAllowed old (λ s. call_guards s (Event.Rename task from to)) → (v : WorldView) → v ≡ named_so → Acts old (Event.Rename task from to) (Reply.Code 0) v
+  pub rename_done : (old : WorldView) → SameButRoom old w → HasTask old task → IsAllowed old (λ s. call_guards s (Event.Rename task from to)) → (v : WorldView) → v ≡ named_so → Completes old (Event.Rename task from to) (Reply.Code 0) v
   rename_done old same below good v named = done old (Event.Rename task from to) (Reply.Code 0) v below good
       (λ now s sh.
       let here_renamed = room_shows old w s same sh in
@@ -563,6 +563,7 @@ module _ (w w1 : WorldView) (task from to : ℕ) (small : to < 2 ^ 32) (e : Entr
         mid = after s;
         owed = [];
         does = (refl, renames s here_renamed, refl);
+        judged = tt;
         loses_none = tt;
         none_owed = refl;
         agrees = agrees s here_renamed v named;

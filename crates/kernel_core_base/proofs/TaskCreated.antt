@@ -11,7 +11,7 @@ use Rattle.mach_types.specs.declared.calls.Reply.{Reply}
 use Rattle.mach_types.specs.Numbers.{most_tasks}
 use Rattle.mach_types.specs.Tokens.{receive, send, Kind, send_once, in_task, in_request, Request, token, count, is_of, is_held}
 use Rattle.mach_model.specs.State.{State, Target, Names, held, at}
-use Rattle.mach_model.specs.ReceiveRight.{one_if}
+use Rattle.mach_model.specs.Telling.{one_if}
 use Rattle.mach_model.specs.Tasks.{CreatesTask}
 use Rattle.mach_model.proofs.Names.{at_other, both_test, held_le_of, at_own, both_same, kept, get_own}
 use Rattle.mach_model.specs.Names.{AllocatesPort, with_port as made_port, with_set}
@@ -28,7 +28,7 @@ use Rattle.name_space.specs.declared.Entry.TheVariants as entry
 use Rattle.port.specs.Ports.{PortsView}
 use Rattle.port_set.specs.declared.SetRecord.{SetRecord}
 use Rattle.port_set.specs.Sets.{SetsView}
-use Rattle.copyin_base.specs.Acts.{Acts}
+use Rattle.copyin_base.specs.Serving.{Completes}
 use Rattle.copyin_base.specs.Kept.{Kept}
 use Rattle.copyin_base.specs.Reading.{AreGiven}
 use Rattle.copyin_base.specs.Worlds.{WorldView, entry_in, space_at, space_in}
@@ -89,6 +89,7 @@ module _ (w : WorldView) (s : State) (a : Agrees w s) where
       names_kept = each (λ _ o m. (x : SpaceView) → o ≡ Some x → map.len x.names ≡ map.len m)
           (λ x is. ap (λ (y : SpaceView). map.len y.names) (same_found (Some no_names) x no_names is refl) ∙ map.len-empty nat_cmp Entry ∙ sym (map.len-empty nat_cmp Target)) a.names_kept;
       counted = each (λ _ o m. (n : ℕ) (e : Entry) → entry_in o n ≡ Some e → HasCount e) (λ n e is. absurd (none_under n e is)) a.counted;
+      is_first = a.is_first;
     };
     rights = record {
       references = each (λ u o m. (n : ℕ) (e : Entry) (p : ℕ) → entry_in o n ≡ Some e → port_named e ≡ Some p → (held s u receive p ≡ one_if (has_receive e)) × (held s u send p ≡ send_references e)) (λ n e p is. absurd (none_under n e is)) a.references;
@@ -114,13 +115,14 @@ pushed_or_not spaces after ports g new none false is = subst (λ (xs : List (Opt
 task_holders : (w : WorldView) → HoldersAgree w → HoldersAgree (record w { spaces = w.spaces ++ Some no_names ∷ [] })
 task_holders w h = holders_pushed w (record w { spaces = w.spaces ++ Some no_names ∷ [] }) h no_names refl (λ n. map.get-empty {X = Entry} nat_cmp n) (same_holders w.ports.ports)
 
-pub task_created : (w : WorldView) (task : ℕ) (new : WorldView) → length w.spaces < most_tasks → task ≡ length w.spaces → new ≡ record w { spaces = w.spaces ++ Some no_names ∷ [] } → Acts w Event.TaskCreate (Reply.Task task) new
+pub task_created : (w : WorldView) (task : ℕ) (new : WorldView) → length w.spaces < most_tasks → task ≡ length w.spaces → new ≡ record w { spaces = w.spaces ++ Some no_names ∷ [] } → Completes w Event.TaskCreate (Reply.Task task) new
 task_created w task new few is made = rw (is, made) (done w Event.TaskCreate (Reply.Task (length w.spaces)) (record w { spaces = w.spaces ++ Some no_names ∷ [] }) tt
     record { allowed = λ s sh. ((λ many. let m = sh.agrees.tasks_made in omega (arith, many, m, few)), tt) }
     (λ now s sh. record {
       mid = with_task w s sh.agrees;
       owed = [];
       does = (creates w s sh.agrees, refl);
+      judged = tt;
       loses_none = tt;
       none_owed = refl;
       agrees = task_agrees w s sh.agrees;

@@ -3,7 +3,8 @@
 use Rattle.std.specs.Prelude.{◌≡◌, ℕ, ◌+◌, ◌-◌, ◌<◌, ◌≤◌, ◌⊎◌, List, [], Option, Some, None, slice_set}
 use Rattle.std.specs.Prelude as std
 use Rattle.std.specs.FinMap as map
-use Rattle.mach_types.specs.Numbers.{most_names, most_rights, most_identities, request_bit}
+use Rattle.mach_types.specs.Numbers.{most_names, most_rights, most_identities}
+use Rattle.mach_types.specs.Rights.{request_bit}
 use Rattle.name_space.specs.declared.Entry.{Entry}
 use Rattle.name_space.specs.declared.Entry.TheVariants as entry
 use Rattle.name_space.specs.Entry.{type_in}

@@ -7,7 +7,7 @@ use Rattle.name_space.specs.declared.Entry.{Entry}
 use Rattle.name_space.specs.declared.Entry.TheVariants as entry
 use Rattle.name_space.specs.Entry.{receive_named}
 use Rattle.name_space.specs.Names.{Names}
-use Rattle.copyin_base.specs.Acts.{IsAllowed}
+use Rattle.copyin_base.specs.Serving.{IsAllowed}
 use Rattle.copyin_base.specs.Finds.{FindsReceive}
 use Rattle.copyin_base.specs.Worlds.{WorldView, entry_at, port_at}
 

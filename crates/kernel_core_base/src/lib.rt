@@ -2,7 +2,7 @@
 //! (`World`).
 //!
 //! Each call promises its own part of a step of the machine of `mach_model`, up to the death of ports
-//! (`copyin_base`'s `specs/Acts`). `kernel_core` makes the calls and ends the steps; nothing else uses
+//! (`copyin_base`'s `specs/Serving`). `kernel_core` makes the calls and ends the steps; nothing else uses
 //! them.
 #![tactic(auto)]
 

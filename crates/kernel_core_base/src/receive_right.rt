@@ -2,8 +2,8 @@
 ghost use Rattle.std.specs.Prelude.{◌≡◌, ◌<◌};
 ghost use Rattle.std.specs.FinMap as map;
 ghost use Rattle.mach_types.specs.declared.calls.Event.{Event};
-ghost use Rattle.mach_model.specs.ReceiveRight.{one_if};
-ghost use Rattle.copyin_base.specs.Acts.{Serves};
+ghost use Rattle.mach_model.specs.Telling.{one_if};
+ghost use Rattle.copyin_base.specs.Serving.{Serves};
 ghost use Rattle.copyin_base.specs.Stands.{Stands};
 ghost use Rattle.copyin_base.specs.Wanted.{KeepsSpares};
 ghost use Rattle.kernel_core_base.specs.ReceiveRight.{set_name, HasPort, TellsPort};

@@ -2,14 +2,15 @@
 ghost use Rattle.std.specs.Prelude.{◌≡◌, ℤ, ◌+◌, ◌<◌, ◌≤◌, Some, IfOk, IfErr, MatchBool};
 ghost use Rattle.mach_types.specs.declared.calls.Event.{Event};
 ghost use Rattle.mach_types.specs.declared.rights.Right.TheVariants as right;
-ghost use Rattle.mach_types.specs.Numbers.{kern_number, most_references, most_rights};
+ghost use Rattle.mach_types.specs.Numbers.{most_references, most_rights};
+ghost use Rattle.mach_types.specs.Codes.{kern_number};
 ghost use Rattle.mach_model.specs.Refusals.{call_guards};
 ghost use Rattle.name_space.specs.declared.Entry.TheVariants as AnyEntry;
 ghost use Rattle.name_space.specs.Entry.{port_named, send_references};
 ghost use Rattle.port_set.specs.Sets.{removed, IsDisbanded};
 ghost use Rattle.rights.specs.declared.RightKind.TheVariants as kind;
 ghost use Rattle.rights.specs.Ledger.{IsEntered, counts_of, taken};
-ghost use Rattle.copyin_base.specs.Acts.{IsRefused, Serves};
+ghost use Rattle.copyin_base.specs.Serving.{IsRefused, Serves};
 ghost use Rattle.copyin_base.specs.Stands.{Stands};
 ghost use Rattle.copyin_base.specs.Wanted.{UsesSpares};
 ghost use Rattle.copyin_base.specs.Worlds.{entry_at, HasTask};

@@ -4,7 +4,8 @@ use Rattle.mach_types.specs.declared.calls.Event.{Event}
 use Rattle.mach_types.specs.declared.calls.Reply.{Reply}
 use Rattle.mach_model.specs.State.{State}
 use Rattle.mach_model.specs.Notices.{Owed}
-use Rattle.mach_model.specs.Machine.{Does, Step}
+use Rattle.mach_model.specs.Machine.{Step}
+use Rattle.mach_model.specs.Acts.{Does}
 
 none_answered : (now : ℕ) (s : State) (event : Event) (mid : State) (owed : Owed) → ¬ (Does now s event Reply.NoRecord mid owed)
 none_answered now s Event.TaskCreate mid owed d = absurd d
@@ -24,6 +25,8 @@ none_answered now s (Event.SetMscount a b x) mid owed d = absurd d
 none_answered now s (Event.SetSeqno a b x) mid owed d = absurd d
 none_answered now s (Event.SetStatus a b) mid owed d = absurd d
 none_answered now s (Event.MoveMember a b x) mid owed d = absurd d
+none_answered now s (Event.InsertMember a b x) mid owed d = absurd d
+none_answered now s (Event.ExtractMember a b x) mid owed d = absurd d
 none_answered now s (Event.InsertRight a b x y z) mid owed d = absurd d
 none_answered now s (Event.ExtractRight a b x y) mid owed d = absurd d
 none_answered now s (Event.RequestNotification a b x y z w) mid owed d = absurd d

@@ -10,7 +10,7 @@ use Rattle.atomic_table.specs.Table.{State, Me, step, keeps, opening, Allows, Sp
 use Rattle.atomic_table.proofs.Lists.{at_set}
 use Rattle.kernel_lock.specs.declared.entry.Entry.{Entry}
 use Rattle.kernel_lock.specs.declared.board.View.{View}
-use Rattle.mach_model.specs.State.{opening as nothing_made}
+use Rattle.mach_model.specs.Machine.{opening as nothing_made}
 use Rattle.kernel_lock.specs.History.{Legal, calls_by, StartsWith}
 use Rattle.kernel_lock.specs.Views.{desk_view, pass_view, watch_view, nobody, taken_in, published, desk_of, pass_of, desk_with_one_more, new_pass, copy_of, informed}
 use Rattle.kernel_lock.specs.Table.{Fits, Kept, Looks, Confirms, Publishes, pick}

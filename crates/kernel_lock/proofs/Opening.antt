@@ -1,7 +1,7 @@
 -- A kernel that was just made, with the empty history.
 use Rattle.std.proofs.Common.{◌≡◌, ℕ, zero, suc, Bool, true, false, List, [], length, refl, sym, ◌∙◌, subst}
 use Rattle.atomic_table.specs.Table.{Me}
-use Rattle.mach_model.specs.State.{opening}
+use Rattle.mach_model.specs.Machine.{opening}
 use Rattle.copyin_base.specs.Shows.{Shows}
 use Rattle.kernel_core.specs.Kernels.{KernelView}
 use Rattle.kernel_lock.specs.declared.board.View.{View}

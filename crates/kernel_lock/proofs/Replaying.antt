@@ -3,8 +3,8 @@ use Rattle.std.proofs.Common.{◌≡◌, ◌≢◌, ℕ, ◌+◌, Bool, true, fa
 use mathlib.Core.List.{map-append}
 use Rattle.mach_types.specs.declared.calls.Event.{Event}
 use Rattle.mach_types.specs.declared.calls.Reply.{Reply}
-use Rattle.mach_model.specs.State.{State, opening}
-use Rattle.mach_model.specs.Machine.{Step, Run}
+use Rattle.mach_model.specs.State.{State}
+use Rattle.mach_model.specs.Machine.{opening, Step, Run}
 use Rattle.mach_model.proofs.StepLawful.{RunFrom-push}
 use Rattle.copyin_base.specs.Shows.{Shows}
 use Rattle.kernel_core.specs.Answers.{Answers}

@@ -45,7 +45,10 @@ fn event_fits(event: &Event) -> bool
         | Event::SetMscount(task, name, number)
         | Event::SetSeqno(task, name, number)
         | Event::Receive(task, name, number, _) => words(task.number(), name.number(), *number),
-        Event::Rename(task, name, other) | Event::MoveMember(task, name, other) => {
+        Event::Rename(task, name, other)
+        | Event::MoveMember(task, name, other)
+        | Event::InsertMember(task, name, other)
+        | Event::ExtractMember(task, name, other) => {
             words(task.number(), name.number(), other.number())
         }
         Event::ModRefs(task, name, right, delta) => {

@@ -1,7 +1,7 @@
 //! The kernel behind its lock, with its history.
 ghost use Rattle.std.specs.Prelude.{◌≡◌, ◌≢◌, ◌+◌, ◌<◌, ◌≤◌, ◌^◌, ℕ, true, false, [], ◌∷◌, length, None, IfOk, IfErr, slice_index_or, slice_set};
 ghost use Rattle.mach_types.specs.declared.calls.Reply.{Reply as AnyReply};
-ghost use Rattle.mach_model.specs.State.{opening};
+ghost use Rattle.mach_model.specs.Machine.{opening};
 ghost use Rattle.copyin_base.specs.Shows.{Shows};
 ghost use Rattle.kernel_lock.specs.History.{Legal, StartsWith, Stepped, Called, calls_by};
 ghost use Rattle.kernel_lock.specs.Berth.{IsLike};

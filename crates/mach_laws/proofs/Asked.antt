@@ -9,19 +9,18 @@ use Rattle.mach_types.specs.Numbers.{null_word, kind_sent}
 use Rattle.mach_types.specs.Tokens.{Kind, receive, send, send_once, Request, Place, in_task, in_message, in_request, Token, token, count, Moves}
 use Rattle.mach_types.specs.Messages.{Mark, to_port, null, dead, ReplyRight, absent, present}
 use Rattle.mach_types.specs.Bodies.{Through, body_words, body_rights, message_rights}
-use Rattle.mach_model.specs.State.{State, Target, lookup, held, with_name}
-use Rattle.mach_model.specs.Names.{Makes}
+use Rattle.mach_model.specs.State.{State, Target, lookup, held, with_name, gives}
+use Rattle.mach_model.specs.Names.{Makes, JoinsSet}
 use Rattle.mach_model.specs.CopyIn.{taken_by, put_by, CopyRight, CopyWord, CopyReply, CopyCarried}
 use Rattle.mach_model.specs.CopyOut.{given_to, GiveMark, GiveWord}
 use Rattle.mach_model.specs.Notices.{Owed}
 use Rattle.mach_model.specs.References.{Modifies, with_dead}
-use Rattle.mach_model.specs.Sets.{JoinsSet}
 use Rattle.mach_model.specs.Send.{place_at, Sends}
 use Rattle.mach_model.specs.Transfer.{target_for, pegged, Inserts, Extracts}
 use Rattle.mach_model.specs.Requests.{GivesBack, Keeps, Requests}
 use Rattle.mach_model.specs.Receive.{Receives, DestroysFront, Receipt}
 use Rattle.mach_model.specs.ReceivedMeans.{received_words}
-use Rattle.mach_model.specs.Machine.{Does}
+use Rattle.mach_model.specs.Acts.{Does}
 use Rattle.mach_laws.proofs.Shrinking.{deallocates, destroys, removes, ends, front}
 
 -- ---- A test that passes tokens with requests alone: an event but the one that makes a request adds none.
@@ -175,21 +174,23 @@ module _ (test : Token → Bool) where
         Does now old event reply mid owed → Fewer old mid
     does_fewer now old Event.TaskCreate (Reply.Task task) mid owed a b d = by_state old mid _ d.0.rest refl
     does_fewer now old (Event.TaskTerminate task) (Reply.Code code) mid owed a b d = (ends task old mid owed d.1).fewer test
-    does_fewer now old (Event.Allocate task right) (Reply.Name name) mid owed a b d = makes task right name old mid d.1
+    does_fewer now old (Event.Allocate task right) (Reply.Name name) mid owed a b d = makes task right name (gives task name old) mid d.1
     does_fewer now old (Event.AllocateName task right name) (Reply.Name told) mid owed a b d = makes task right name old mid d.1
     does_fewer now old (Event.Deallocate task name) (Reply.Code code) mid owed a b d = (deallocates task name old mid owed d.1).fewer test
     does_fewer now old (Event.Destroy task name) (Reply.Code code) mid owed a b d = (destroys task name d.1.0 old mid owed d.1.2).fewer test
     does_fewer now old (Event.ModRefs task name right delta) (Reply.Code code) mid owed a b d = modifies task name right delta old mid owed d.1
-    does_fewer now old (Event.GetRefs task name right) (Reply.Refs n) mid owed a b d = same old mid d.1
-    does_fewer now old (Event.NameType task name) (Reply.NameType n) mid owed a b d = same old mid d.1
-    does_fewer now old (Event.Names task) (Reply.Names entries) mid owed a b d = same old mid d.1
+    does_fewer now old (Event.GetRefs task name right) (Reply.Refs n) mid owed a b d = same old mid d.0
+    does_fewer now old (Event.NameType task name) (Reply.NameType n) mid owed a b d = same old mid d.0
+    does_fewer now old (Event.Names task) (Reply.Names entries) mid owed a b d = same old mid d.0
     does_fewer now old (Event.Rename task o n) reply mid owed a b d = absurd (b task o n refl)
-    does_fewer now old (Event.ReceiveStatus task name) (Reply.Status status) mid owed a b d = same old mid d.1
+    does_fewer now old (Event.ReceiveStatus task name) (Reply.Status status) mid owed a b d = same old mid d.0
     does_fewer now old (Event.SetQlimit task name n) (Reply.Code code) mid owed a b d = by_state old mid _ d.1.3 refl
     does_fewer now old (Event.SetMscount task name n) (Reply.Code code) mid owed a b d = by_state old mid _ d.2.3 refl
     does_fewer now old (Event.SetSeqno task name n) (Reply.Code code) mid owed a b d = by_state old mid _ d.2.3 refl
-    does_fewer now old (Event.SetStatus task name) (Reply.Members members) mid owed a b d = same old mid d.1
+    does_fewer now old (Event.SetStatus task name) (Reply.Members members) mid owed a b d = same old mid d.0
     does_fewer now old (Event.MoveMember task member after) (Reply.Code code) mid owed a b d = joins task member after old mid d.1
+    does_fewer now old (Event.InsertMember task member set) (Reply.Code code) mid owed a b d = by_state old mid _ d.1.rest refl
+    does_fewer now old (Event.ExtractMember task member set) (Reply.Code code) mid owed a b d = by_state old mid _ d.1.rest refl
     does_fewer now old (Event.InsertRight task name from poly number) (Reply.Code code) mid owed a b d = inserts task name from poly number old mid d.1
     does_fewer now old (Event.ExtractRight task name number to) (Reply.Right new_name kind) mid owed a b d = extracts task name number to new_name kind old mid d.0
     does_fewer now old (Event.RequestNotification task name variant sync notify number) reply mid owed a b d = absurd (a task name variant sync notify number refl)

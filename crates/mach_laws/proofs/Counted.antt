@@ -14,7 +14,8 @@ use Rattle.mach_model.specs.Notices.{Owed, Posted}
 use Rattle.mach_model.specs.Settles.{Settles, PlaceStays, StaysWith, GoesFrom}
 use Rattle.mach_model.specs.Send.{entry}
 use Rattle.mach_model.specs.Refusals.{guards}
-use Rattle.mach_model.specs.Machine.{Does, Done}
+use Rattle.mach_model.specs.Machine.{Done, Judged}
+use Rattle.mach_model.specs.Acts.{Does}
 use Rattle.mach_model.specs.Lawful.{tally, LawfulLogs, IsLawful}
 use Rattle.mach_model.specs.Midway.{MidLawful}
 use Rattle.mach_model.proofs.Names.{at_own, at_other, left_of, right_of, count_some}
@@ -143,10 +144,10 @@ module _ (now : ℕ) (old : State) (event : Event) (reply : Reply) (mid : State)
   counted (inr (inr x)) = let a = taken x in let b = x.one in let c = x.none in omega (arith, a, b, c)
 
 -- What a step's own part does to the number of queued messages.
-pub Does-counted : (now : ℕ) (old : State) (event : Event) (reply : Reply) (mid : State) (owed : Owed) → IsLawful old → NoneHolds (guards old event) → Does now old event reply mid owed →
-    queued mid + takes_from event reply ≡ queued old + accepts event reply
-Does-counted now old event reply mid owed l good does =
-    counted now old event reply mid owed l (Does-mid now old event reply mid owed good does l) (Does-effect now old event reply mid owed l good does)
+pub Does-counted : (now : ℕ) (old : State) (event : Event) (reply : Reply) (mid : State) (owed : Owed) → IsLawful old → NoneHolds (guards old event) →
+    (does : Does now old event reply mid owed) → Judged now old event reply mid owed does → queued mid + takes_from event reply ≡ queued old + accepts event reply
+Does-counted now old event reply mid owed l good does judged =
+    counted now old event reply mid owed l (Does-mid now old event reply mid owed good does judged l) (Does-effect now old event reply mid owed l good does)
 
 -- ---- a step's end
 
@@ -200,8 +201,8 @@ module _ (now : ℕ) (old mid : State) (owed : Owed) (new : State) (l : MidLawfu
 pub Done-counted : (now : ℕ) (old : State) (event : Event) (reply : Reply) (new : State) → IsLawful old → (d : Done now old event reply new) →
     queued new + takes_from event reply + destroyed d.mid new ≡ queued old + accepts event reply + length d.settles.notices.posted
 Done-counted now old event reply new l d =
-    let a = Does-counted now old event reply d.mid d.owed l d.unrefused d.does in
-    let b = Settles-counted now old d.mid d.owed new (Does-mid now old event reply d.mid d.owed d.unrefused d.does l) d.settles in
+    let a = Does-counted now old event reply d.mid d.owed l d.unrefused d.does d.judged in
+    let b = Settles-counted now old d.mid d.owed new (Does-mid now old event reply d.mid d.owed d.unrefused d.does d.judged l) d.settles in
     omega (arith, a, b)
 
 -- ---- A step's end makes no send right of a port that lives; those that go lay in messages of ports that died.

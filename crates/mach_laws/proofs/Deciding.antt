@@ -1,8 +1,9 @@
 -- From one state an event has one answer, but for want of memory and the member of a set.
-use Rattle.std.proofs.Common.{◌≡◌, ◌≢◌, ℕ, ◌<◌, List, [], ◌∷◌, Some, refl, sym, ap, subst, ◌∙◌, arith, Bool, inl, inr, ◌≤◌, ◌⊎◌, None, length, Option, ◌+◌, length-append, zero, suc}
-use Rattle.std.specs.Prelude.{MatchBool, slice_get, Contains, nat_lt, min}
+use Rattle.std.proofs.Common.{◌≡◌, ◌≢◌, ℕ, ◌<◌, List, [], ◌∷◌, Some, refl, sym, ap, subst, ◌∙◌, arith, Bool, inl, inr, ◌⊎◌, None, length, Option, ◌+◌, length-append}
+use Rattle.std.specs.Prelude.{MatchBool, slice_get, Contains, nat_lt, min, ◌/◌, ◌%◌}
 use Rattle.std.specs.FinMap as map
-use Rattle.mach_types.specs.Numbers.{dead_word, disposition, kind_sent, kern_number, null_word, most_references, most_rights, msg_number, kind_number, most_bytes}
+use Rattle.mach_types.specs.Numbers.{dead_word, disposition, kind_sent, null_word, most_references, most_rights, kind_number, most_bytes}
+use Rattle.mach_types.specs.Codes.{kern_number, msg_number}
 use Rattle.mach_types.specs.Tokens.{Kind, receive, send, send_once, Place, Request, no_senders, port_destroyed, in_task, in_request, token, weigh, count, is_of, is_held, in_message}
 use Rattle.mach_types.specs.Messages.{Mark, to_port, null, dead, Entry, Form, short, long, Item, plain, rights, Body}
 use Rattle.mach_types.specs.Bodies.{AllZip, Through, OneFails, message_rights, SameItem, SameBody, SameReply}
@@ -16,21 +17,27 @@ use Rattle.mach_types.specs.declared.codes.MsgReturn.TheVariants.{ReceiveBodyErr
 use Rattle.mach_types.specs.Grammar.{WireBody, Header, Spells, descriptor_text, Wire, data_item, port_item, wire_text, wires_text, body_text, text}
 use Rattle.mach_types.specs.TextGuards.{header_guards}
 use Rattle.mach_types.specs.declared.calls.Status.{Status}
-use Rattle.mach_model.specs.State.{State, Target, Names, lookup, IsFresh, held, queue, senders}
-use Rattle.mach_model.specs.CopyOut.{Named, NamedOnce, NamedFor, GiveRight, GiveMark, GiveWord, HasNoRoom, NeedsName, MarkLacks}
+use Rattle.mach_model.specs.State.{State, Target, Names, lookup, IsFresh, held, queue, senders, IsFreshIndex, IsFreshFor, IsFreshIn, given_with}
+use Rattle.mach_model.specs.CopyOut.{Named, NamedOnce, NamedFor, GiveRight, GiveMark, GiveWord}
+use Rattle.mach_model.specs.Room.{MarkLacks, NeedsName, HasNoRoom}
 use Rattle.mach_model.specs.ReceivedMeans.{IsReceived, message_length, received_words, form_length, item_length, items_length, body_length}
 use Rattle.mach_model.proofs.Names.{at_same, inserted, length-weigh, count_le, right_of, slice_get_drop}
 use Rattle.mach_model.specs.Death.{same_place, LiesAt}
 use Rattle.mach_model.specs.CopyIn.{put_by, CopyRight}
-use Rattle.mach_model.specs.ReceiveRight.{NamesReceive, NamesSetOf, TellsStatus, one_if}
-use Rattle.mach_model.specs.Send.{IsDeadName, Sends, RightsRefuse, SendRefuses}
-use Rattle.mach_model.specs.Sets.{IsSet, TellsMembers}
+use Rattle.mach_model.specs.Telling.{TellsStatus, NamesSetOf, one_if, TellsMembers}
+use Rattle.mach_model.specs.NameGuards.{NamesReceive, IsSet, IsDeadName}
+use Rattle.mach_model.specs.Send.{Sends, place_at}
+use Rattle.mach_model.specs.SendRefusals.{SendRefuses, RightsRefuse, sent_guards}
 use Rattle.mach_model.specs.Notices.{Owed}
-use Rattle.mach_model.specs.Requests.{RequestOn, GivesBack, GivesRight, noted_guards, notify_guards, Requests, RequestRefuses}
-use Rattle.mach_model.specs.Transfer.{inserted_guards, extracted_guards, Extracts}
-use Rattle.mach_model.specs.Receive.{waits_for, IsFront, Receives, Receipt, ReceiptRefuses}
+use Rattle.mach_model.specs.Requests.{RequestOn, GivesBack, Requests}
+use Rattle.mach_model.specs.RequestRefusals.{RequestRefuses, notify_guards, noted_guards, GivesRight}
+use Rattle.mach_model.specs.Transfer.{Extracts}
+use Rattle.mach_model.specs.TransferRefusals.{extracted_guards, inserted_guards}
+use Rattle.mach_model.specs.Receive.{waits_for, IsFront, Receives, Receipt}
+use Rattle.mach_model.specs.ReceiptRefusals.{ReceiptRefuses}
 use Rattle.mach_model.specs.Refusals.{guards, memory_refusal, RefusesLater, Refuses}
-use Rattle.mach_model.specs.Machine.{Does, Done, Step}
+use Rattle.mach_model.specs.Machine.{Done, Step, Judged}
+use Rattle.mach_model.specs.Acts.{Does}
 use Rattle.mach_model.specs.Lawful.{IsLawful}
 use Rattle.mach_model.proofs.Moving.{moving}
 use Rattle.mach_model.proofs.MessagesLawful.{halfway}
@@ -42,6 +49,9 @@ use Rattle.mach_laws.proofs.Bodies.{received_each, one_received}
 use Rattle.mach_laws.proofs.Rising.{one_rising}
 use Rattle.message_codec.proofs.Messages.{message_not_refused}
 use Rattle.message_codec.proofs.Shapes.{length-words_text}
+use Rattle.mach_types.specs.declared.profiles.Profile.{Profile}
+use Rattle.mach_types.specs.declared.profiles.Profile.TheVariants.{One, Two, Three}
+use Rattle.std.proofs.Math.Nat.{div-add-mod}
 
 -- ---- Copying out gives words, and names, that are determined by the names that the receiver has and by which ports live.
 
@@ -51,15 +61,30 @@ use Rattle.message_codec.proofs.Shapes.{length-words_text}
 abbrev pub HasOneName : Names → Type 0
 HasOneName names = (n m p : ℕ) → map.get names n ≡ Some (Target.port p) → map.get names m ≡ Some (Target.port p) → n ≡ m
 
+-- Fresh names are made in the same way in both states.
+pub record GivesAlike (s t : State) : Type 0 where
+  pub profile : t.profile ≡ s.profile
+  pub given : t.given ≡ s.given
+
+-- where each is what another is, but for the ledger and the names
+pub gives_after : (s t new other : State) → GivesAlike s t → new.profile ≡ s.profile → new.given ≡ s.given → other.profile ≡ t.profile → other.given ≡ t.given → GivesAlike new other
+gives_after s t new other r a b c d = record { profile = c ∙ r.profile ∙ sym a; given = d ∙ r.given ∙ sym b }
+
 -- The task has the same names in both states, one for each port, and the same ports live.
 pub record SameNames (task : ℕ) (s t : State) : Type 0 where
   pub naming : t.naming task ≡ s.naming task
   pub live : t.live_port ≡ s.live_port
+  pub fresh : GivesAlike s t
   pub one : HasOneName (s.naming task)
 
 names_after : (task : ℕ) (s t new other : State) → SameNames task s t → new.naming ≡ s.naming → new.live_port ≡ s.live_port → other.naming ≡ t.naming → other.live_port ≡ t.live_port →
-    SameNames task new other
-names_after task s t new other r naming live others lives = grind arith
+    new.profile ≡ s.profile → new.given ≡ s.given → other.profile ≡ t.profile → other.given ≡ t.given → SameNames task new other
+names_after task s t new other r naming live others lives pa ga pb gb = record {
+  fresh = gives_after s t new other r.fresh pa ga pb gb;
+  naming = ap (λ (f : ℕ → Names). f task) others ∙ r.naming ∙ sym (ap (λ (f : ℕ → Names). f task) naming);
+  live = lives ∙ r.live ∙ sym live;
+  one = subst HasOneName (sym (ap (λ (f : ℕ → Names). f task) naming)) r.one;
+}
 
 names_stay : (task : ℕ) (s t new other : State) → SameNames task s t → new ≡ s → other ≡ t → SameNames task new other
 names_stay task s t new other r e f = rw (e, f) r
@@ -67,8 +92,34 @@ names_stay task s t new other r e f = rw (e, f) r
 lower_fresh : (names : Names) (a b : ℕ) → IsFresh names a → IsFresh names b → a < b → ⊥
 lower_fresh names a b f g less = let is = g.least a f.not_null less in let none = f.unused in cc
 
-pub one_fresh : (names : Names) (a b : ℕ) → IsFresh names a → IsFresh names b → a ≡ b
-one_fresh names a b f g = grind (arith, lower_fresh)
+one_least : (names : Names) (a b : ℕ) → IsFresh names a → IsFresh names b → a ≡ b
+one_least names a b f g = grind (arith, lower_fresh)
+
+lower_index : (names : Names) (given : ℕ → ℕ) (a b : ℕ) → IsFreshIndex names given a → IsFreshIndex names given b → a / 256 < b / 256 → ⊥
+lower_index names given a b f g less = let is = g.least (a / 256) f.not_null less in let none = f.unused is.0 is.1 in let some = is.2 in cc
+
+one_index : (names : Names) (given : ℕ → ℕ) (a b : ℕ) → IsFreshIndex names given a → IsFreshIndex names given b → a ≡ b
+one_index names given a b f g =
+    let low : ¬ (a / 256 < b / 256) = lower_index names given a b f g in
+    let high : ¬ (b / 256 < a / 256) = lower_index names given b a g f in
+    let same : a / 256 ≡ b / 256 = omega (arith, low, high) in
+    let tag : a % 256 ≡ b % 256 = f.generation ∙ ap (λ (i : ℕ). given i % 256) same ∙ sym g.generation in
+    let whole = div-add-mod a 256 in
+    let other = div-add-mod b 256 in
+    omega (arith, same, tag, whole, other)
+
+-- a fresh name is one, however fresh names are made
+pub one_fresh : (profile : Profile) (names : Names) (given : ℕ → ℕ) (a b : ℕ) → IsFreshIn profile names given a → IsFreshIn profile names given b → a ≡ b
+one_fresh One names given a b f g = one_least names a b f g
+one_fresh Two names given a b f g = one_index names given a b f g
+one_fresh Three names given a b f g = one_index names given a b f g
+
+-- what is fresh in the one state is so in the other
+pub fresh_alike : (task name : ℕ) (s t : State) → t.naming task ≡ s.naming task → GivesAlike s t → IsFreshFor t task name → IsFreshFor s task name
+fresh_alike task name s t naming alike fresh =
+    subst (λ (p : Profile). IsFreshIn p (s.naming task) (s.given task) name) alike.profile
+    (subst (λ (g : ℕ → ℕ → ℕ). IsFreshIn t.profile (s.naming task) (g task) name) alike.given
+    (subst (λ (m : Names). IsFreshIn t.profile m (t.given task) name) naming fresh))
 
 -- a fresh name for what has none
 still_one : (names : Names) (name : ℕ) (target : Target) → HasOneName names → ((n p : ℕ) → target ≡ Target.port p → map.get names n ≢ Some (Target.port p)) → HasOneName (map.insert names name target)
@@ -76,7 +127,22 @@ still_one names name target one none n m p e f = grind (arith, inserted)
 
 named_same : (task v w : ℕ) (target : Target) (s t new other : State) → SameNames task s t → ((n p : ℕ) → target ≡ Target.port p → lookup s task n ≢ Some (Target.port p)) →
     Named task v target s new → Named task w target t other → (w ≡ v) × SameNames task new other
-named_same task v w target s t new other r none a b = grind (arith, one_fresh, at_same, still_one)
+named_same task v w target s t new other r none a b =
+    let same : w ≡ v = one_fresh s.profile (s.naming task) (s.given task) w v (fresh_alike task w s t r.naming r.fresh b.fresh) a.fresh in
+    let mine : new.naming task ≡ map.insert (s.naming task) v target = ap (λ (x : State). x.naming task) a.rest ∙ at_same s.naming task (map.insert (s.naming task) v target) task refl in
+    let theirs : other.naming task ≡ map.insert (t.naming task) w target = ap (λ (x : State). x.naming task) b.rest ∙ at_same t.naming task (map.insert (t.naming task) w target) task refl in (
+      same,
+      record {
+        naming = theirs ∙ ap (λ (x : Names). map.insert x w target) r.naming ∙ ap (λ (x : ℕ). map.insert (s.naming task) x target) same ∙ sym mine;
+        live = ap (λ (x : State). x.live_port) b.rest ∙ r.live ∙ sym (ap (λ (x : State). x.live_port) a.rest);
+        fresh = record {
+          profile = ap (λ (x : State). x.profile) b.rest ∙ r.fresh.profile ∙ sym (ap (λ (x : State). x.profile) a.rest);
+          given = ap (λ (x : State). x.given) b.rest ∙ ap (λ (p : Profile). given_with p task w t.given) r.fresh.profile ∙ ap (λ (g : ℕ → ℕ → ℕ). given_with s.profile task w g) r.fresh.given
+              ∙ ap (λ (n : ℕ). given_with s.profile task n s.given) same ∙ sym (ap (λ (x : State). x.given) a.rest);
+        };
+        one = subst HasOneName (sym mine) (still_one (s.naming task) v target r.one none);
+      },
+    )
 
 -- ---- words
 
@@ -98,8 +164,11 @@ mark_given task place elsewhere kind null v w s t new other r a b = (b.0 ∙ sym
 mark_given task place elsewhere kind dead v w s t new other r a b = (b.0 ∙ sym a.0, names_stay task s t new other r a.1 b.1)
 mark_given task place elsewhere kind (to_port p) v w s t new other r a b =
     both (s.live_port p) _ _ _ _ _ (λ x y.
-    let n = named_for kind task v w p s t x.named_state y.named_state r x.named y.named in
-    (n.0, names_after task x.named_state y.named_state new other n.1 (ap (λ (z : State). z.naming) x.rest) (ap (λ (z : State). z.live_port) x.rest) (ap (λ (z : State). z.naming) y.rest) (ap (λ (z : State). z.live_port) y.rest)))
+    let n = named_for kind task v w p s t x.named_state y.named_state r x.named y.named in (
+      n.0,
+      names_after task x.named_state y.named_state new other n.1 (ap (λ (z : State). z.naming) x.rest) (ap (λ (z : State). z.live_port) x.rest) (ap (λ (z : State). z.naming) y.rest) (ap (λ (z : State). z.live_port) y.rest)
+          (ap (λ (z : State). z.profile) x.rest) (ap (λ (z : State). z.given) x.rest) (ap (λ (z : State). z.profile) y.rest) (ap (λ (z : State). z.given) y.rest),
+    ))
     (λ x y. (y.0 ∙ sym x.0, names_stay task s t new other r x.1 y.1)) a
     (subst (λ (f : ℕ → Bool). MatchBool (f p) (GiveRight task elsewhere kind p t w other) ((w ≡ dead_word) × (other ≡ t))) r.live b)
 
@@ -157,11 +226,12 @@ rights_lack task place elsewhere (w ∷ ws) (m ∷ ms) s t new r (inr (mid, (wor
 -- The same names, as many rights, and the same receive rights of the task.
 pub record IsAlike (task : ℕ) (s t : State) : Type 0 where
   pub naming : t.naming ≡ s.naming
+  pub fresh : GivesAlike s t
   pub rights : length t.ledger ≡ length s.ledger
   pub receives : (p : ℕ) → held t task receive p ≡ held s task receive p
 
 alike_back : (task : ℕ) (s t : State) → IsAlike task s t → IsAlike task t s
-alike_back task s t a = record { naming = sym a.naming; rights = sym a.rights; receives = λ p. sym (a.receives p) }
+alike_back task s t a = record { naming = sym a.naming; fresh = record { profile = sym a.fresh.profile; given = sym a.fresh.given }; rights = sym a.rights; receives = λ p. sym (a.receives p) }
 
 alike_same : (task : ℕ) (s t : State) → t ≡ s → IsAlike task s t
 alike_same task s t e = grind arith
@@ -251,11 +321,11 @@ module _ (s : State) (task name variant sync notify number : ℕ) (good : NoneHo
 
   -- what is refused isn't done
   pub request_taken : (code previous : ℕ) (mid : State) (owed : Owed) → code ≢ kern_number ResourceShortage → RequestRefuses s task name variant sync notify number code →
-      Requests task name variant sync notify number previous s mid owed → ⊥
-  request_taken code previous mid owed not (copied, how, inr is_short) x = not is_short.1
-  request_taken code previous mid owed not (copied, how, inl first) x =
+      (x : Requests task name variant sync notify number previous s mid owed) → NoneHolds (noted_guards s x.copied task name variant sync notify) → ⊥
+  request_taken code previous mid owed not (copied, how, inr is_short) x unrefused = not is_short.1
+  request_taken code previous mid owed not (copied, how, inl first) x unrefused =
       none_is_first (noted_guards s copied task name variant sync notify) (noted_guards s x.copied task name variant sync notify) code
-      (noted_same s task name variant sync notify copied x.copied (all_alike task notify number s copied x.copied by_those (refused_copies copied how) (done_copies previous mid owed x))) first x.unrefused
+      (noted_same s task name variant sync notify copied x.copied (all_alike task notify number s copied x.copied by_those (refused_copies copied how) (done_copies previous mid owed x))) first unrefused
 
   -- two refusals have one code
   pub request_alike : (code other : ℕ) → code ≢ kern_number ResourceShortage → other ≢ kern_number ResourceShortage → RequestRefuses s task name variant sync notify number code →
@@ -302,7 +372,8 @@ module _ (s : State) (task name variant sync notify number : ℕ) (good : NoneHo
   back_alike request x y n m new other a (inr (inl g)) (inr (inr (q, named, stands, lies, fresh, moves, rest))) = absurd (kept_some request q lies g.1)
   back_alike request x y n m new other a (inr (inr (q, named, stands, lies, fresh, moves, rest))) (inl h) = absurd (let e = h.0 in cc)
   back_alike request x y n m new other a (inr (inr (q, named, stands, lies, fresh, moves, rest))) (inr (inl h)) = absurd (kept_some request q lies h.1)
-  back_alike request x y n m new other a (inr (inr (q, named, stands, lies, g, moves, rest))) (inr (inr (r, also, stood, lie, h, move, more))) = grind (arith, one_fresh)
+  back_alike request x y n m new other a (inr (inr (q, named, stands, lies, g, moves, rest))) (inr (inr (r, also, stood, lie, h, move, more))) =
+      one_fresh x.profile (x.naming task) (x.given task) n m g.fresh (fresh_alike task m x y (ap (λ (f : ℕ → Names). f task) a.naming) a.fresh h.fresh)
 
   pub previous_alike : (n m : ℕ) (mid other : State) (owed owes : Owed) → Requests task name variant sync notify number n s mid owed → Requests task name variant sync notify number m s other owes → n ≡ m
   previous_alike n m mid other owed owes a b =
@@ -321,9 +392,9 @@ text_taken s task bytes header written code good spells not (inr (g, w, also, in
 text_taken s task bytes header written code good spells not (inr (g, w, also, inr h)) = grind (arith, one_message bytes g header w written also spells)
 
 send_taken : (now : ℕ) (s : State) (task : ℕ) (bytes : List ℕ) (code : ℕ) (mid : State) → NoneHolds (header_guards bytes) → ¬ (IsMemoryCode code) → SendRefuses s task bytes code →
-    Sends now task bytes s mid → ⊥
-send_taken now s task bytes code mid good not h d =
-    rights_taken task d.header d.written s d.m d.copied_state code d.copied d.unrefused (text_taken s task bytes d.header d.written code good d.spells not h)
+    (d : Sends now task bytes s mid) → NoneHolds (sent_guards d.m (place_at s d.m.destination) d.copied_state) → ⊥
+send_taken now s task bytes code mid good not h d unrefused =
+    rights_taken task d.header d.written s d.m d.copied_state code d.copied unrefused (text_taken s task bytes d.header d.written code good d.spells not h)
 
 -- ---- receipts
 
@@ -369,35 +440,37 @@ memory_only (Event.Allocate task right) code e = inl (cc)
 memory_only (Event.AllocateName task right name) code e = inl (cc)
 memory_only (Event.Names task) code e = inl (cc)
 memory_only (Event.Rename task o n) code e = inl (cc)
+memory_only (Event.InsertMember task member set) code e = inl (cc)
 memory_only (Event.SetStatus task name) code e = inl (cc)
 memory_only event code e = absurd (cc)
 
 later_taken : (now : ℕ) (s : State) (event : Event) (code : ℕ) (reply : Reply) (mid : State) (owed : Owed) → IsLawful s → ¬ (IsMemoryCode code) →
-    (IsBySet s event → code ≢ msg_number ReceiveBodyErrorNames) → NoneHolds (guards s event) → RefusesLater s event code → Does now s event reply mid owed → ⊥
-later_taken now s (Event.InsertRight task name from poly number) code (Reply.Code is_zero) mid owed l not other good h d =
+    (IsBySet s event → code ≢ msg_number ReceiveBodyErrorNames) → NoneHolds (guards s event) → RefusesLater s event code →
+    (does : Does now s event reply mid owed) → Judged now s event reply mid owed does → ⊥
+later_taken now s (Event.InsertRight task name from poly number) code (Reply.Code is_zero) mid owed l not other good h d j =
     hand_taken from (in_task task) number poly s (λ p kind copied. inserted_guards copied task name p kind) (λ x y r p kind. inserted_same x y r task name p kind)
-    d.1.p d.1.copied code d.1.copy d.1.unrefused h (λ e. not (inl e))
-later_taken now s (Event.InsertRight task name from poly number) code reply mid owed l not other good h d = d
-later_taken now s (Event.ExtractRight task name number to) code (Reply.Right new_name kind) mid owed l not other good h d =
+    d.1.p d.1.copied code d.1.copy j h (λ e. not (inl e))
+later_taken now s (Event.InsertRight task name from poly number) code reply mid owed l not other good h d j = d
+later_taken now s (Event.ExtractRight task name number to) code (Reply.Right new_name kind) mid owed l not other good h d j =
     hand_taken task (in_task to) number name s (λ p kind copied. extracted_guards copied to p kind) (λ x y r p kind. extracted_same x y r to p kind)
-    d.0.p d.0.copied code d.0.copy d.0.unrefused h (λ e. not (inl e))
-later_taken now s (Event.ExtractRight task name number to) code reply mid owed l not other good h d = d
-later_taken now s (Event.RequestNotification task name variant sync notify number) code (Reply.Previous previous) mid owed l not other good h d =
-    request_taken s task name variant sync notify number good.1 code previous mid owed (λ e. not (inl e)) h d
-later_taken now s (Event.RequestNotification task name variant sync notify number) code reply mid owed l not other good h d = d
-later_taken now s (Event.Send task bytes) code (Reply.Code is_zero) mid owed l not other good h d = send_taken now s task bytes code mid good.1 not h d.1
-later_taken now s (Event.Send task bytes) code reply mid owed l not other good h d = d
-later_taken now s (Event.Receive task name room large) code reply mid owed l not other good h d =
+    d.0.p d.0.copied code d.0.copy j h (λ e. not (inl e))
+later_taken now s (Event.ExtractRight task name number to) code reply mid owed l not other good h d j = d
+later_taken now s (Event.RequestNotification task name variant sync notify number) code (Reply.Previous previous) mid owed l not other good h d j =
+    request_taken s task name variant sync notify number good.1 code previous mid owed (λ e. not (inl e)) h d j
+later_taken now s (Event.RequestNotification task name variant sync notify number) code reply mid owed l not other good h d j = d
+later_taken now s (Event.Send task bytes) code (Reply.Code is_zero) mid owed l not other good h d j = send_taken now s task bytes code mid good.1 not h d.1 j
+later_taken now s (Event.Send task bytes) code reply mid owed l not other good h d j = d
+later_taken now s (Event.Receive task name room large) code reply mid owed l not other good h d j =
     receipt_taken s task h.0 room large code reply mid owed l not (λ set. other (by_set s task name room large h.0 h.1 set)) h.2
     (subst (λ (x : Waited). Receipt s task x room large reply mid owed) (one_waited s task name h.0 d.0 h.1 d.1) d.2)
-later_taken now s (Event.ReceiveAgain task waited room large) code reply mid owed l not other good h d = receipt_taken s task waited room large code reply mid owed l not other h d
-later_taken now s event code reply mid owed l not other good h d = not (memory_only event code h)
+later_taken now s (Event.ReceiveAgain task waited room large) code reply mid owed l not other good h d j = receipt_taken s task waited room large code reply mid owed l not other h d
+later_taken now s event code reply mid owed l not other good h d j = not (memory_only event code h)
 
 -- An event that is refused, not for want of memory, is not done.
 pub refused_not_done : (now : ℕ) (s : State) (event : Event) (code : ℕ) (reply : Reply) (new : State) → IsLawful s → Refuses s event code → ¬ (IsMemoryCode code) →
     (IsBySet s event → code ≢ msg_number ReceiveBodyErrorNames) → ¬ (Done now s event reply new)
 refused_not_done now s event code reply new l (inl first) not other d = none_is_first (guards s event) (guards s event) code (itself (guards s event)) first d.unrefused
-refused_not_done now s event code reply new l (inr (good, h)) not other d = later_taken now s event code reply d.mid d.owed l not other good h d.does
+refused_not_done now s event code reply new l (inr (good, h)) not other d = later_taken now s event code reply d.mid d.owed l not other good h d.does d.judged
 
 -- ---- The bytes of a received message are as many as its length.
 
@@ -461,22 +534,14 @@ refused_alike s event code other not nor (inr a) (inr b) = later_alike s event c
 -- ---- what a call tells
 
 -- the only member of a list
-lone : (xs : List ℕ) (a b : ℕ) → length xs ≤ 1 → Contains xs a → Contains xs b → b ≡ a
-lone [] a b few (k, within, is) y = absurd (omega (arith, within))
-lone (x ∷ []) a b few (zero, within, is) (zero, below, at) = sym at ∙ is
-lone (x ∷ []) a b few (suc k, within, is) y = absurd (omega (arith, within))
-lone (x ∷ []) a b few (zero, within, is) (suc j, below, at) = absurd (omega (arith, below))
-lone (x ∷ y ∷ zs) a b few c d = absurd (omega (arith, few))
-
 no_member : (xs : List ℕ) (a : ℕ) → xs ≡ [] → Contains xs a → ⊥
 no_member xs a none (k, within, is) = let e = ap length none in omega (arith, within, e)
 
 set_alike : (s : State) (task p n m : ℕ) → IsLawful s → NamesSetOf s task p n → NamesSetOf s task p m → n ≡ m
 set_alike s task p n m l (inl a) (inl b) = a.1 ∙ sym b.1
-set_alike s task p n m l (inl a) (inr (t, b, is)) = absurd (no_member (s.sets_of p) t a.0 b)
-set_alike s task p n m l (inr (t, a, is)) (inl b) = absurd (no_member (s.sets_of p) t b.0 a)
-set_alike s task p n m l (inr (t, a, is)) (inr (u, b, at)) =
-    l.one_set_name task n m t is (at ∙ ap (λ (x : ℕ). Some (Target.set x)) (lone (s.sets_of p) t u (l.one_set p) a b))
+set_alike s task p n m l (inl a) (inr (t, b, is, least)) = absurd (no_member (s.sets_of p) t a.0 b)
+set_alike s task p n m l (inr (t, a, is, least)) (inl b) = absurd (no_member (s.sets_of p) t b.0 a)
+set_alike s task p n m l (inr (t, a, is, least)) (inr (u, b, at, lesser)) = let x = least u m b at in let y = lesser t n a is in omega (arith, x, y)
 
 one_status : (a b : Status) → a.set ≡ b.set → a.sequence ≡ b.sequence → a.make_send ≡ b.make_send → a.limit ≡ b.limit → a.queued ≡ b.queued → a.send_once ≡ b.send_once →
     a.has_send ≡ b.has_send → a.port_destroyed ≡ b.port_destroyed → a.no_senders ≡ b.no_senders → a ≡ b
@@ -508,6 +573,7 @@ extracts_alike s task name number to n m k j mid other l a b =
     let same : SameNames to a.copied b.copied = record {
       naming = ap (λ (x : State). x.naming to) r.rest;
       live = ap (λ (x : State). x.live_port) r.rest;
+      fresh = record { profile = ap (λ (x : State). x.profile) r.rest; given = ap (λ (x : State). x.given) r.rest };
       one = (half.copies.keeps.naming to).one_name;
     } in
     let named = subst (λ (d : _). NamedFor (kind_sent d) to m b.p b.copied b.named_state) w.given b.named in
@@ -526,6 +592,7 @@ bytes_alike s task p room bytes others mid other l a b =
     let start : SameNames task a.taken b.taken = record {
       naming = y.naming ∙ sym x.naming;
       live = y.live ∙ sym x.live;
+      fresh = record { profile = y.fresh.profile ∙ sym x.fresh.profile; given = y.fresh.given ∙ sym x.fresh.given };
       one = subst HasOneName (sym x.naming) x.one;
     } in
     let place = in_message p (s.taken p) in
@@ -572,63 +639,67 @@ receipts_alike s task p room large a b mid other owed owes l x d = absurd x
 code_alike : (a b : ℕ) → a ≡ 0 → b ≡ 0 → Reply.Code a ≡ Reply.Code b
 code_alike a b e f = ap Reply.Code (e ∙ sym f)
 
-name_alike : (s : State) (task n m : ℕ) → IsFresh (s.naming task) n → IsFresh (s.naming task) m → Reply.Name n ≡ Reply.Name m
-name_alike s task n m a b = ap Reply.Name (one_fresh (s.naming task) n m a b)
+name_alike : (s : State) (task n m : ℕ) → IsFreshFor s task n → IsFreshFor s task m → Reply.Name n ≡ Reply.Name m
+name_alike s task n m a b = ap Reply.Name (one_fresh s.profile (s.naming task) (s.given task) n m a b)
 
 done_alike : (now : ℕ) (s : State) (event : Event) (a b : Reply) (mid other : State) (owed owes : Owed) → IsLawful s → ¬ (IsBySet s event) → NoneHolds (guards s event) →
-    Does now s event a mid owed → Does now s event b other owes → a ≡ b
-done_alike now s Event.TaskCreate (Reply.Task t) (Reply.Task u) mid other owed owes l one g d e = ap Reply.Task (d.0.task_is ∙ sym e.0.task_is)
-done_alike now s Event.TaskCreate (Reply.Task t) b mid other owed owes l one g d e = absurd e
-done_alike now s (Event.TaskTerminate task) (Reply.Code c) (Reply.Code k) mid other owed owes l one g d e = code_alike c k d.0 e.0
-done_alike now s (Event.TaskTerminate task) (Reply.Code c) b mid other owed owes l one g d e = absurd e
-done_alike now s (Event.Allocate task right) (Reply.Name n) (Reply.Name m) mid other owed owes l one g d e = name_alike s task n m d.0 e.0
-done_alike now s (Event.Allocate task right) (Reply.Name n) b mid other owed owes l one g d e = absurd e
-done_alike now s (Event.AllocateName task right name) (Reply.Name n) (Reply.Name m) mid other owed owes l one g d e = ap Reply.Name (d.0 ∙ sym e.0)
-done_alike now s (Event.AllocateName task right name) (Reply.Name n) b mid other owed owes l one g d e = absurd e
-done_alike now s (Event.Deallocate task name) (Reply.Code c) (Reply.Code k) mid other owed owes l one g d e = code_alike c k d.0 e.0
-done_alike now s (Event.Deallocate task name) (Reply.Code c) b mid other owed owes l one g d e = absurd e
-done_alike now s (Event.Destroy task name) (Reply.Code c) (Reply.Code k) mid other owed owes l one g d e = code_alike c k d.0 e.0
-done_alike now s (Event.Destroy task name) (Reply.Code c) b mid other owed owes l one g d e = absurd e
-done_alike now s (Event.ModRefs task name right delta) (Reply.Code c) (Reply.Code k) mid other owed owes l one g d e = code_alike c k d.0 e.0
-done_alike now s (Event.ModRefs task name right delta) (Reply.Code c) b mid other owed owes l one g d e = absurd e
-done_alike now s (Event.GetRefs task name right) (Reply.Refs n) (Reply.Refs m) mid other owed owes l one g ((t, is, tells), same, x) ((u, at, told), alike, y) = grind (arith, one_target)
-done_alike now s (Event.GetRefs task name right) (Reply.Refs n) b mid other owed owes l one g d e = absurd e
-done_alike now s (Event.NameType task name) (Reply.NameType n) (Reply.NameType m) mid other owed owes l one g ((t, is, tells), same, x) ((u, at, told), alike, y) = grind (arith, one_target)
-done_alike now s (Event.NameType task name) (Reply.NameType n) b mid other owed owes l one g d e = absurd e
-done_alike now s (Event.Names task) (Reply.Names xs) (Reply.Names ys) mid other owed owes l one g d e = ap Reply.Names (d.0 ∙ sym e.0)
-done_alike now s (Event.Names task) (Reply.Names xs) b mid other owed owes l one g d e = absurd e
-done_alike now s (Event.Rename task o n) (Reply.Code c) (Reply.Code k) mid other owed owes l one g d e = code_alike c k d.0 e.0
-done_alike now s (Event.Rename task o n) (Reply.Code c) b mid other owed owes l one g d e = absurd e
-done_alike now s (Event.ReceiveStatus task name) (Reply.Status a) (Reply.Status b) mid other owed owes l one g d e = ap Reply.Status (status_alike s task name a b l d.0 e.0)
-done_alike now s (Event.ReceiveStatus task name) (Reply.Status a) b mid other owed owes l one g d e = absurd e
-done_alike now s (Event.SetQlimit task name n) (Reply.Code c) (Reply.Code k) mid other owed owes l one g d e = code_alike c k d.0 e.0
-done_alike now s (Event.SetQlimit task name n) (Reply.Code c) b mid other owed owes l one g d e = absurd e
-done_alike now s (Event.SetMscount task name n) (Reply.Code c) (Reply.Code k) mid other owed owes l one g d e = code_alike c k d.0 e.0
-done_alike now s (Event.SetMscount task name n) (Reply.Code c) b mid other owed owes l one g d e = absurd e
-done_alike now s (Event.SetSeqno task name n) (Reply.Code c) (Reply.Code k) mid other owed owes l one g d e = code_alike c k d.0 e.0
-done_alike now s (Event.SetSeqno task name n) (Reply.Code c) b mid other owed owes l one g d e = absurd e
-done_alike now s (Event.SetStatus task name) (Reply.Members xs) (Reply.Members ys) mid other owed owes l one g d e = ap Reply.Members (members_alike s task name xs ys d.0 e.0)
-done_alike now s (Event.SetStatus task name) (Reply.Members xs) b mid other owed owes l one g d e = absurd e
-done_alike now s (Event.MoveMember task member after) (Reply.Code c) (Reply.Code k) mid other owed owes l one g d e = code_alike c k d.0 e.0
-done_alike now s (Event.MoveMember task member after) (Reply.Code c) b mid other owed owes l one g d e = absurd e
-done_alike now s (Event.InsertRight task name from poly number) (Reply.Code c) (Reply.Code k) mid other owed owes l one g d e = code_alike c k d.0 e.0
-done_alike now s (Event.InsertRight task name from poly number) (Reply.Code c) b mid other owed owes l one g d e = absurd e
-done_alike now s (Event.ExtractRight task name number to) (Reply.Right n k) (Reply.Right m j) mid other owed owes l one g d e = grind (
+    (d : Does now s event a mid owed) (e : Does now s event b other owes) → Judged now s event a mid owed d → Judged now s event b other owes e → a ≡ b
+done_alike now s Event.TaskCreate (Reply.Task t) (Reply.Task u) mid other owed owes l one g d e v w = ap Reply.Task (d.0.task_is ∙ sym e.0.task_is)
+done_alike now s Event.TaskCreate (Reply.Task t) b mid other owed owes l one g d e v w = absurd e
+done_alike now s (Event.TaskTerminate task) (Reply.Code c) (Reply.Code k) mid other owed owes l one g d e v w = code_alike c k d.0 e.0
+done_alike now s (Event.TaskTerminate task) (Reply.Code c) b mid other owed owes l one g d e v w = absurd e
+done_alike now s (Event.Allocate task right) (Reply.Name n) (Reply.Name m) mid other owed owes l one g d e v w = name_alike s task n m d.0 e.0
+done_alike now s (Event.Allocate task right) (Reply.Name n) b mid other owed owes l one g d e v w = absurd e
+done_alike now s (Event.AllocateName task right name) (Reply.Name n) (Reply.Name m) mid other owed owes l one g d e v w = ap Reply.Name (d.0 ∙ sym e.0)
+done_alike now s (Event.AllocateName task right name) (Reply.Name n) b mid other owed owes l one g d e v w = absurd e
+done_alike now s (Event.Deallocate task name) (Reply.Code c) (Reply.Code k) mid other owed owes l one g d e v w = code_alike c k d.0 e.0
+done_alike now s (Event.Deallocate task name) (Reply.Code c) b mid other owed owes l one g d e v w = absurd e
+done_alike now s (Event.Destroy task name) (Reply.Code c) (Reply.Code k) mid other owed owes l one g d e v w = code_alike c k d.0 e.0
+done_alike now s (Event.Destroy task name) (Reply.Code c) b mid other owed owes l one g d e v w = absurd e
+done_alike now s (Event.ModRefs task name right delta) (Reply.Code c) (Reply.Code k) mid other owed owes l one g d e v w = code_alike c k d.0 e.0
+done_alike now s (Event.ModRefs task name right delta) (Reply.Code c) b mid other owed owes l one g d e v w = absurd e
+done_alike now s (Event.GetRefs task name right) (Reply.Refs n) (Reply.Refs m) mid other owed owes l one g d e (t, is, tells) (u, at, told) = grind (arith, one_target)
+done_alike now s (Event.GetRefs task name right) (Reply.Refs n) b mid other owed owes l one g d e v w = absurd e
+done_alike now s (Event.NameType task name) (Reply.NameType n) (Reply.NameType m) mid other owed owes l one g d e (t, is, tells) (u, at, told) = grind (arith, one_target)
+done_alike now s (Event.NameType task name) (Reply.NameType n) b mid other owed owes l one g d e v w = absurd e
+done_alike now s (Event.Names task) (Reply.Names xs) (Reply.Names ys) mid other owed owes l one g d e v w = ap Reply.Names (v ∙ sym w)
+done_alike now s (Event.Names task) (Reply.Names xs) b mid other owed owes l one g d e v w = absurd e
+done_alike now s (Event.Rename task o n) (Reply.Code c) (Reply.Code k) mid other owed owes l one g d e v w = code_alike c k d.0 e.0
+done_alike now s (Event.Rename task o n) (Reply.Code c) b mid other owed owes l one g d e v w = absurd e
+done_alike now s (Event.ReceiveStatus task name) (Reply.Status a) (Reply.Status b) mid other owed owes l one g d e v w = ap Reply.Status (status_alike s task name a b l v w)
+done_alike now s (Event.ReceiveStatus task name) (Reply.Status a) b mid other owed owes l one g d e v w = absurd e
+done_alike now s (Event.SetQlimit task name n) (Reply.Code c) (Reply.Code k) mid other owed owes l one g d e v w = code_alike c k d.0 e.0
+done_alike now s (Event.SetQlimit task name n) (Reply.Code c) b mid other owed owes l one g d e v w = absurd e
+done_alike now s (Event.SetMscount task name n) (Reply.Code c) (Reply.Code k) mid other owed owes l one g d e v w = code_alike c k d.0 e.0
+done_alike now s (Event.SetMscount task name n) (Reply.Code c) b mid other owed owes l one g d e v w = absurd e
+done_alike now s (Event.SetSeqno task name n) (Reply.Code c) (Reply.Code k) mid other owed owes l one g d e v w = code_alike c k d.0 e.0
+done_alike now s (Event.SetSeqno task name n) (Reply.Code c) b mid other owed owes l one g d e v w = absurd e
+done_alike now s (Event.SetStatus task name) (Reply.Members xs) (Reply.Members ys) mid other owed owes l one g d e v w = ap Reply.Members (members_alike s task name xs ys v w)
+done_alike now s (Event.SetStatus task name) (Reply.Members xs) b mid other owed owes l one g d e v w = absurd e
+done_alike now s (Event.MoveMember task member after) (Reply.Code c) (Reply.Code k) mid other owed owes l one g d e v w = code_alike c k d.0 e.0
+done_alike now s (Event.MoveMember task member after) (Reply.Code c) b mid other owed owes l one g d e v w = absurd e
+done_alike now s (Event.InsertMember task member set) (Reply.Code c) (Reply.Code k) mid other owed owes l one g d e v w = code_alike c k d.0 e.0
+done_alike now s (Event.InsertMember task member set) (Reply.Code c) b mid other owed owes l one g d e v w = absurd e
+done_alike now s (Event.ExtractMember task member set) (Reply.Code c) (Reply.Code k) mid other owed owes l one g d e v w = code_alike c k d.0 e.0
+done_alike now s (Event.ExtractMember task member set) (Reply.Code c) b mid other owed owes l one g d e v w = absurd e
+done_alike now s (Event.InsertRight task name from poly number) (Reply.Code c) (Reply.Code k) mid other owed owes l one g d e v w = code_alike c k d.0 e.0
+done_alike now s (Event.InsertRight task name from poly number) (Reply.Code c) b mid other owed owes l one g d e v w = absurd e
+done_alike now s (Event.ExtractRight task name number to) (Reply.Right n k) (Reply.Right m j) mid other owed owes l one g d e v w = grind (
   arith,
   extracts_alike s task name number to n m k j mid other l d.0 e.0,
 )
-done_alike now s (Event.ExtractRight task name number to) (Reply.Right n k) b mid other owed owes l one g d e = absurd e
-done_alike now s (Event.RequestNotification task name variant sync notify number) (Reply.Previous n) (Reply.Previous m) mid other owed owes l one g d e =
+done_alike now s (Event.ExtractRight task name number to) (Reply.Right n k) b mid other owed owes l one g d e v w = absurd e
+done_alike now s (Event.RequestNotification task name variant sync notify number) (Reply.Previous n) (Reply.Previous m) mid other owed owes l one g d e v w =
     ap Reply.Previous (previous_alike s task name variant sync notify number g.1 n m mid other owed owes d e)
-done_alike now s (Event.RequestNotification task name variant sync notify number) (Reply.Previous n) b mid other owed owes l one g d e = absurd e
-done_alike now s (Event.Send task bytes) (Reply.Code c) (Reply.Code k) mid other owed owes l one g d e = code_alike c k d.0 e.0
-done_alike now s (Event.Send task bytes) (Reply.Code c) b mid other owed owes l one g d e = absurd e
-done_alike now s (Event.Receive task name room large) a b mid other owed owes l one g (Waited.Port p, waits, d) (waited, is, e) =
+done_alike now s (Event.RequestNotification task name variant sync notify number) (Reply.Previous n) b mid other owed owes l one g d e v w = absurd e
+done_alike now s (Event.Send task bytes) (Reply.Code c) (Reply.Code k) mid other owed owes l one g d e v w = code_alike c k d.0 e.0
+done_alike now s (Event.Send task bytes) (Reply.Code c) b mid other owed owes l one g d e v w = absurd e
+done_alike now s (Event.Receive task name room large) a b mid other owed owes l one g (Waited.Port p, waits, d) (waited, is, e) v w =
     receipts_alike s task p room large a b mid other owed owes l d (subst (λ (x : Waited). Receipt s task x room large b other owes) (one_waited s task name (Waited.Port p) waited waits is) e)
-done_alike now s (Event.Receive task name room large) a b mid other owed owes l one g (Waited.Set set, waits, d) e = grind (arith, by_set)
-done_alike now s (Event.ReceiveAgain task (Waited.Port p) room large) a b mid other owed owes l one g d e = grind (arith, receipts_alike)
-done_alike now s (Event.ReceiveAgain task (Waited.Set set) room large) a b mid other owed owes l one g d e = absurd (one tt)
-done_alike now s event a b mid other owed owes l one g d e = absurd d
+done_alike now s (Event.Receive task name room large) a b mid other owed owes l one g (Waited.Set set, waits, d) e v w = grind (arith, by_set)
+done_alike now s (Event.ReceiveAgain task (Waited.Port p) room large) a b mid other owed owes l one g d e v w = grind (arith, receipts_alike)
+done_alike now s (Event.ReceiveAgain task (Waited.Set set) room large) a b mid other owed owes l one g d e v w = absurd (one tt)
+done_alike now s event a b mid other owed owes l one g d e v w = absurd d
 
 -- ---- steps
 
@@ -644,4 +715,4 @@ one_reply now s event a b new other l (inl x) (inr y) not nor one =
     absurd (refused_not_done now s event x.code b other l x.refuses (told_code a x.code x.told not) (λ h. absurd (one h)) y)
 one_reply now s event a b new other l (inr x) (inl y) not nor one =
     absurd (refused_not_done now s event y.code a new l y.refuses (told_code b y.code y.told nor) (λ h. absurd (one h)) x)
-one_reply now s event a b new other l (inr x) (inr y) not nor one = done_alike now s event a b x.mid y.mid x.owed y.owed l one x.unrefused x.does y.does
+one_reply now s event a b new other l (inr x) (inr y) not nor one = done_alike now s event a b x.mid y.mid x.owed y.owed l one x.unrefused x.does y.does x.judged y.judged

@@ -70,12 +70,12 @@ sixth_requests = record {
   back = e6_copied;
   copy = inr ((λ e. cc), (0, copies, inr (inr ((λ h. h), (λ n is at. let f = name_found in cc), refl, refl))));
   on = inr (inr (refl, refl));
-  unrefused = name_noted e5 e6_copied 1 1 0 2 1 name_found (omega arith) (grind (gets, rules));
   given_back = inl (fifth.1.quiet.none_stands asked, refl, refl);
 }
 
 sixth : Step 5 e5 (Event.RequestNotification 1 1 72 0 2 18) (Reply.Previous 0) e6 × IsLawful e6
-sixth = requested asked 0 (token send_once 0 (in_task 1) ∷ []) fifth.1 sixth_guards sixth_requests (λ h. omega arith) refl (λ p. omega arith) (λ p. omega arith) (not_made e6_copied.stands asked)
+unfolding sixth_requests
+sixth = requested asked 0 (token send_once 0 (in_task 1) ∷ []) fifth.1 sixth_guards sixth_requests (name_noted e5 e6_copied 1 1 0 2 1 name_found (omega arith) (grind (gets, rules))) (λ h. omega arith) refl (λ p. omega arith) (λ p. omega arith) (not_made e6_copied.stands asked)
 
 -- ---- the task ends
 
@@ -93,7 +93,7 @@ good : NoneHolds (guards e6 (Event.TaskTerminate 1))
 good = ((λ h. cc), tt)
 
 mid : MidLawful e7_mid []
-mid = Does-mid 6 e6 (Event.TaskTerminate 1) (Reply.Code 0) e7_mid [] good (refl, ends_task) sixth.1
+mid = Does-mid 6 e6 (Event.TaskTerminate 1) (Reply.Code 0) e7_mid [] good (refl, ends_task) tt sixth.1
 
 abbrev told : Begun
 told = (false, (token send_once 0 (in_request asked), port_deleted 1)) ∷ []
@@ -133,7 +133,7 @@ abbrev e7 : State
 e7 = end_of 6 e7_mid buried
 
 dies : Leads 6 e6 e7_mid (Event.TaskTerminate 1) (Reply.Code 0) e7
-dies = ends sixth.1 good (refl, ends_task) buried reached done
+dies = ends sixth.1 good (refl, ends_task) tt buried reached done
 
 seventh : Plays 6 e6 (Event.TaskTerminate 1) (Reply.Code 0) e7
 seventh = grind (arith, dies, none_carried, not_carried, none_stands)

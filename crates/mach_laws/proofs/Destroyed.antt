@@ -22,7 +22,7 @@ asked : (large : Bool) → NoneHolds (guards s3 (Event.Receive 0 1 8 large))
 asked large = ((λ h. cc), ((λ h. h (inl (0, named, omega arith))), ((λ h. h.2 (ap s3.sets_of (one_port (lookup s3 0 1) h.0 0 h.1 named))), tt)))
 
 fourth : Plays 3 s3 (Event.Receive 0 1 8 true) (Reply.TooLarge 24) s3
-fourth = plays third.1 tt refl (asked true) (Waited.Port 0, (named, omega arith), (0, entry 2 greeting, (refl, omega arith, refl), refl, refl, omega arith, (refl, refl)))
+fourth = plays third.1 tt refl (asked true) (Waited.Port 0, (named, omega arith), (0, entry 2 greeting, (refl, omega arith, refl), refl, refl, omega arith, (refl, refl))) tt
 
 abbrev d5 : State
 d5 = without_front 0 s2.ledger s3
@@ -38,7 +38,7 @@ destroys = record {
 
 fifth : Plays 4 s3 (Event.Receive 0 1 8 false) (Reply.TooLarge 24) d5
 fifth =
-    passes fourth.1 (asked false) (Waited.Port 0, (named, omega arith), (0, entry 2 greeting, (refl, omega arith, refl), refl, refl, omega arith, destroys))
+    passes fourth.1 (asked false) (Waited.Port 0, (named, omega arith), (0, entry 2 greeting, (refl, omega arith, refl), refl, refl, omega arith, destroys)) tt
     (loses_send fourth.1 0 (in_message 0 0) (λ h. omega arith) refl fourth.1.quiet.none_stands)
 
 named_still : lookup d5 0 1 ≡ Some (Target.port 0)
@@ -48,7 +48,9 @@ none_left : (p : ℕ) → TakesFrom d5 0 (Waited.Port 0) p → queue d5 p ≡ []
 none_left p t = elim (eqb_tells p 0) [ inl h ↦ rw h.0 refl | inr h ↦ rw h.0 refl ]
 
 sixth : Plays 5 d5 (Event.Receive 0 1 24 false) (Reply.Empty (Waited.Port 0)) d5
-sixth = grind (arith, plays, fifth, named_still, one_port, none_left)
+sixth =
+    plays fifth.1 tt tt ((λ h. cc), ((λ h. h (inl (0, named_still, omega arith))), ((λ h. h.2 (ap d5.sets_of (one_port (lookup d5 0 1) h.0 0 h.1 named_still))), tt)))
+    (Waited.Port 0, (named_still, omega arith), (refl, none_left, refl, refl)) tt
 
 pub destroying_run : (s : State) × Run destroying_events destroying_replies s
 destroying_run = (d5, (s1, first.0, (s2, second.0, (s3, third.0, (s3, fourth.0, (d5, fifth.0, (d5, sixth.0, refl)))))))

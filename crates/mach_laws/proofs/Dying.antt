@@ -17,12 +17,13 @@ use Rattle.mach_types.specs.declared.rights.Disposition.{Disposition}
 use Rattle.mach_types.specs.Numbers.{disposition, most_names, most_rights}
 use Rattle.mach_types.specs.declared.rights.Disposition.TheVariants.{MoveSendOnce}
 use Rattle.mach_types.specs.Grammar.{WireBody, port_item}
-use Rattle.mach_model.specs.State.{State, at, lookup, Target, IsFresh, senders, same_request, request_at, Holds, queue, without_name, opening}
+use Rattle.mach_model.specs.State.{State, at, lookup, Target, IsFresh, senders, same_request, request_at, Holds, queue, without_name, opening_in}
 use Rattle.mach_model.specs.Death.{same_place, IsOrphan, IsSaved}
 use Rattle.mach_model.specs.Notices.{Notice, notice_message, carried_by, Owed, Posted, port_sent}
 use Rattle.mach_model.specs.Settles.{Settles, NamesSettle, settled_target}
 use Rattle.mach_model.specs.Refusals.{guards}
-use Rattle.mach_model.specs.Machine.{Does, Step, Run}
+use Rattle.mach_model.specs.Machine.{Step, Run, Judged, RunIn}
+use Rattle.mach_model.specs.Acts.{Does}
 use Rattle.mach_model.specs.Lawful.{IsLawful, IsRight}
 use Rattle.mach_model.specs.Midway.{MidLawful}
 use Rattle.mach_model.proofs.Names.{at_other, at_own}
@@ -32,7 +33,8 @@ use Rattle.mach_model.proofs.Midway.{NoRequests, calm_lawful, NoneCarried}
 use Rattle.mach_model.proofs.StepLawful.{Does-mid, IsCalm, Quietly, still, same_rights}
 use Rattle.mach_model.specs.Carried.{lying}
 use Rattle.mach_model.specs.CopyIn.{IsLegal, CopyRight}
-use Rattle.mach_model.specs.Requests.{IsVariant, noted_guards, Requests}
+use Rattle.mach_model.specs.Requests.{Requests}
+use Rattle.mach_model.specs.RequestRefusals.{IsVariant, noted_guards}
 use Rattle.mach_model.specs.Turns.{Ending, has_ended, outcome, listed, is_among, lives_after, is_judged, IsFound, AreJudged, IsAtDoomed, IsRequestOf, IsReached, turns, IsDone, begins}
 use Rattle.mach_model.proofs.SettledReceives.{place_is, and_false, or_left}
 use Rattle.mach_model.specs.Tasks.{ends_with, is_owner, EndsTask}
@@ -43,14 +45,16 @@ use Rattle.mach_model.proofs.TurnsCounted.{one_all}
 use Rattle.mach_model.proofs.TurnsBounded.{turns_end}
 use Rattle.mach_model.specs.CopyOut.{GiveWord}
 use Rattle.mach_model.specs.Receive.{Receives}
-use Rattle.mach_laws.proofs.Playing.{Plays, with_inserted, fresh_one, fresh_next, send_inserted, used, with_receive, with_extracted, without_front, spelled, one_word, port_allocated, once_extracted, receives, type_told, one_port, s1, first}
+use Rattle.mach_laws.proofs.Playing.{Plays, with_inserted, fresh_one, fresh_next, send_inserted, used, with_receive, with_extracted, without_front, spelled, one_word, port_allocated, once_extracted, receives, type_told, one_port, s1, first, there}
 use Rattle.mach_laws.proofs.Gathering.{b4, fourth, b2, b3, second, third}
 use Rattle.mach_laws.specs.SendingAway.{port_sent_text, sending_away_events, sending_away_replies}
-use Rattle.mach_laws.specs.Paths.{Stage, PathFrom, Path}
+use Rattle.mach_laws.specs.Paths.{Stage, PathBy}
 use Rattle.mach_laws.specs.Headline.{Headline}
-use Rattle.mach_laws.specs.Queued.{queued, unused, MakesAsNeeded, MakesSlots, SlotsWithin}
+use Rattle.mach_laws.specs.Queued.{queued, unused_onces, MakesAsNeeded, MakesSlots, SlotsWithin}
+use Rattle.mach_laws.specs.JudgedPaths.{JudgedPath}
 use Rattle.mach_laws.proofs.Steps.{path_runs, path_push}
 use Rattle.mach_laws.proofs.Promised.{path_headline}
+use Rattle.mach_types.specs.declared.profiles.Profile.{Profile}
 
 -- ---- Steps that tell at once: the step's own part loses one right, which is owed a notice, and leaves all else lawful.
 
@@ -156,15 +160,15 @@ keeps_rights {old} {mid} l moves live stands = same_rights old l.lawful l.quiet 
 
 -- An event that no guard refuses does its part, and the one right that is owed a notice tells it.
 pub tells : {now : ℕ} {old mid : State} {event : Event} {reply : Reply} (kind : Kind) (p : ℕ) (place : Place) (notice : Notice) → IsCalm old → NoneHolds (guards old event) →
-    Does now old event reply mid ((token kind p place, notice) ∷ []) → Quietly old mid → mid.live_port p ≡ true → ((place : Place) → carried_by notice place ≡ []) →
+    (does : Does now old event reply mid ((token kind p place, notice) ∷ [])) → Judged now old event reply mid ((token kind p place, notice) ∷ []) does → Quietly old mid → mid.live_port p ≡ true → ((place : Place) → carried_by notice place ≡ []) →
     Plays now old event reply (with_notice now p notice mid)
-tells {now} {old} {mid} {event} {reply} kind p place notice l good does q live brings =
+tells {now} {old} {mid} {event} {reply} kind p place notice l good does judged q live brings =
     let owed : Owed = (token kind p place, notice) ∷ [] in
-    let m = Does-mid now old event reply mid owed good does l.lawful in
+    let m = Does-mid now old event reply mid owed good does judged l.lawful in
     let lawful = calm_lawful mid (unowed mid owed m) (λ r lives. q.receives r ∙ l.one_receive r (q.live r lives))
     (λ t n ended k r. let a = q.kept k r (dead_name t n) in let b = l.ended (dead_name t n) (l.quiet.none_stands (dead_name t n)) k r in omega (arith, a, b)) in
     let settles = owed_settles now old mid kind p place notice lawful (λ r stands some. absurd (let e = q.none_stands (no_senders r) in cc)) live brings in (
-      inr (record { unrefused = good; mid = mid; owed = owed; does = does; settles = settles }),
+      inr (record { performed = record { mid = mid; owed = owed; does = does; settles = settles }; unrefused = good; judged = judged }),
       record {
         lawful = settled_lawful now old mid owed (with_notice now p notice mid) m settles;
         quiet = record { none_carried = λ o k r. let z = q.carried o k r in omega (arith, z); none_stands = q.none_stands };
@@ -182,10 +186,11 @@ loses_send {old} {mid} l p place moves live stands = record {
   none_stands = stands;
 }
 
-pub passes : {now : ℕ} {old new : State} {event : Event} {reply : Reply} → IsCalm old → NoneHolds (guards old event) → Does now old event reply new [] → Quietly old new → Plays now old event reply new
-passes {now} {old} {new} {event} {reply} l good does q =
-    let m = still old new [] l.lawful l.quiet refl (Does-mid now old event reply new [] good does l.lawful) q in
-    (inr (record { unrefused = good; mid = new; owed = []; does = does; settles = mid_settles now old new [] m }), record { lawful = m.lawful; quiet = m.quiet })
+pub passes : {now : ℕ} {old new : State} {event : Event} {reply : Reply} → IsCalm old → NoneHolds (guards old event) →
+    (does : Does now old event reply new []) → Judged now old event reply new [] does → Quietly old new → Plays now old event reply new
+passes {now} {old} {new} {event} {reply} l good does judged q =
+    let m = still old new [] l.lawful l.quiet refl (Does-mid now old event reply new [] good does judged l.lawful) q in
+    (inr (record { performed = record { mid = new; owed = []; does = does; settles = mid_settles now old new [] m }; unrefused = good; judged = judged }), record { lawful = m.lawful; quiet = m.quiet })
 
 -- ---- Two tasks with a port each, of which the first has a send right for the second's port.
 
@@ -236,12 +241,12 @@ port_noted before copied task name variant sync notify p is_port found holds few
 
 -- Where no request stood, an event that no guard refuses and that owes nothing does its part, which ends the step: no receive right is
 -- lost, no request that doesn't stand gets a right, and senders stay where a request would tell of them.
-pub leads_on : {now : ℕ} {old mid : State} {event : Event} {reply : Reply} (gone come : List Token) → IsLawful old → NoRequests old.stands → NoneHolds (guards old event) → Does now old event reply mid [] →
-    Moves old.ledger mid.ledger gone come → mid.live_port ≡ old.live_port → ((p : ℕ) → count (is_of receive p) come ≡ count (is_of receive p) gone) →
+pub leads_on : {now : ℕ} {old mid : State} {event : Event} {reply : Reply} (gone come : List Token) → IsLawful old → NoRequests old.stands → NoneHolds (guards old event) →
+    (does : Does now old event reply mid []) → Judged now old event reply mid [] does → Moves old.ledger mid.ledger gone come → mid.live_port ≡ old.live_port → ((p : ℕ) → count (is_of receive p) come ≡ count (is_of receive p) gone) →
     ((r : Request) → mid.stands r ≡ false → (kind : Kind) (p : ℕ) → count (is_at kind p (in_request r)) come ≡ 0) → KeepsSenders old mid → Step now old event reply mid × IsLawful mid
-leads_on {now} {old} {mid} {event} {reply} gone come l none good does moves live receives unkept keeps =
-    let lawful = calm_lawful mid (Does-mid now old event reply mid [] good does l) one ended in
-    (inr (record { unrefused = good; mid = mid; owed = []; does = does; settles = calm_settles now old mid lawful keeps }), lawful)
+leads_on {now} {old} {mid} {event} {reply} gone come l none good does judged moves live receives unkept keeps =
+    let lawful = calm_lawful mid (Does-mid now old event reply mid [] good does judged l) one ended in
+    (inr (record { performed = record { mid = mid; owed = []; does = does; settles = calm_settles now old mid lawful keeps }; unrefused = good; judged = judged }), lawful)
   where
     one : (p : ℕ) → mid.live_port p ≡ true → count (is_of receive p) mid.ledger ≡ 1
     one p lives = grind (arith, l.one_receive p (sym (ap (λ (f : ℕ → Bool). f p) live) ∙ lives), moves (λ x. if is_of receive p x then 1 else 0), receives p)
@@ -256,23 +261,26 @@ leads_on {now} {old} {mid} {event} {reply} gone come l none good does moves live
 
 -- A request comes to stand that keeps a send-once right.
 pub requested : {now : ℕ} {old mid : State} {event : Event} {reply : Reply} (request : Request) (q : ℕ) (gone : List Token) → IsCalm old → NoneHolds (guards old event) →
-    Does now old event reply mid [] → Moves old.ledger mid.ledger gone (token send_once q (in_request request) ∷ []) → mid.live_port ≡ old.live_port → ((p : ℕ) → count (is_of receive p) gone ≡ 0) →
+    (does : Does now old event reply mid []) → Judged now old event reply mid [] does → Moves old.ledger mid.ledger gone (token send_once q (in_request request) ∷ []) → mid.live_port ≡ old.live_port → ((p : ℕ) → count (is_of receive p) gone ≡ 0) →
     ((p : ℕ) → senders mid p ≡ senders old p) → ((r : Request) → mid.stands r ≡ false → same_request r request ≡ false) → Step now old event reply mid × IsLawful mid
-requested request q gone l good does moves live no_receive same stands =
-    leads_on gone (token send_once q (in_request request) ∷ []) l.lawful l.quiet.none_stands good does moves live (λ p. sym (no_receive p)) (λ r is kind p. off r kind p (stands r is))
+requested request q gone l good does judged moves live no_receive same stands =
+    leads_on gone (token send_once q (in_request request) ∷ []) l.lawful l.quiet.none_stands good does judged moves live (λ p. sym (no_receive p)) (λ r is kind p. off r kind p (stands r is))
     (λ p is some. let e = same p in omega (arith, e, some))
   where
     off : (r : Request) (kind : Kind) (p : ℕ) → same_request r request ≡ false → count (is_at kind p (in_request r)) (token send_once q (in_request request) ∷ []) ≡ 0
     off r kind p e = rw (e, and_false (is_of kind p (token send_once q (in_request request)))) refl
 
 -- An answer that only tells leaves the state as it is.
-pub looked : {now : ℕ} {s : State} {event : Event} {reply : Reply} → IsLawful s → NoneHolds (guards s event) → Does now s event reply s [] → Step now s event reply s
-looked {now} {s} l good does = inr (record { unrefused = good; mid = s; owed = []; does = does; settles = calm_settles now s s l (λ p stands some. some) })
+pub looked : {now : ℕ} {s : State} {event : Event} {reply : Reply} → IsLawful s → NoneHolds (guards s event) → (does : Does now s event reply s []) → Judged now s event reply s [] does → Step now s event reply s
+looked {now} {s} l good does judged =
+    inr (record { performed = record { mid = s; owed = []; does = does; settles = calm_settles now s s l (λ p stands some. some) }; unrefused = good; judged = judged })
 
 -- No message is queued at the port under the name.
 pub none_there : {now task name room : ℕ} {s : State} (p : ℕ) → IsLawful s → s.live_task task ≡ true → lookup s task name ≡ Some (Target.port p) → Holds s task receive p → s.sets_of p ≡ [] → queue s p ≡ [] →
     Step now s (Event.Receive task name room false) (Reply.Empty (Waited.Port p)) s
-none_there {task = task} {name = name} {s = s} p l lives found holds alone none = grind (arith, looked, one_port)
+none_there {task = task} {name = name} {s = s} p l lives found holds alone none =
+    looked l (there s task lives, ((λ h. h (inl (p, found, holds))), ((λ h. h.2 (ap s.sets_of (one_port (lookup s task name) h.0 p h.1 found) ∙ alone)), tt)))
+    (Waited.Port p, (found, holds), (refl, (λ q from. ap (queue s) from.0 ∙ none), refl, refl)) tt
 
 -- ---- it alone stands
 
@@ -308,11 +316,11 @@ pub record Leads (now : ℕ) (old mid : State) (event : Event) (reply : Reply) (
   pub names : NamesSettle mid new
 
 -- An event that no guard refuses does its part, and a chain of turns that is done ends the step.
-pub ends : {now : ℕ} {old mid : State} {event : Event} {reply : Reply} {owed : Owed} → IsLawful old → NoneHolds (guards old event) → Does now old event reply mid owed →
+pub ends : {now : ℕ} {old mid : State} {event : Event} {reply : Reply} {owed : Owed} → IsLawful old → NoneHolds (guards old event) → (does : Does now old event reply mid owed) → Judged now old event reply mid owed does →
     (e : Ending) → IsReached old mid owed e → IsDone old mid e → Leads now old mid event reply (end_of now mid e)
-ends {now} {old} {mid} {event} {reply} {owed} l good does e reached done =
-    let s = turns_end now old mid owed e (Does-mid now old event reply mid owed good does l) reached done in
-    record { step = inr (record { unrefused = good; mid = mid; owed = owed; does = does; settles = s.0 }); lawful = s.1; names = s.0.names }
+ends {now} {old} {mid} {event} {reply} {owed} l good does judged e reached done =
+    let s = turns_end now old mid owed e (Does-mid now old event reply mid owed good does judged l) reached done in
+    record { step = inr (record { performed = record { mid = mid; owed = owed; does = does; settles = s.0 }; unrefused = good; judged = judged }); lawful = s.1; names = s.0.names }
 
 -- ---- a task ends
 
@@ -462,12 +470,12 @@ ninth_requests = record {
   back = y9_copied;
   copy = inr ((λ e. cc), (0, copies, inr (inr ((λ h. h), (λ n is at. cc), refl, refl))));
   on = inl (refl, (1, name_found, refl));
-  unrefused = port_noted y8 y9_copied 1 1 69 0 3 1 (inl refl) name_found (omega arith) (omega arith) (grind (gets, rules));
   given_back = inl (eighth.1.quiet.none_stands asked, refl, refl);
 }
 
 ninth : Step 8 y8 (Event.RequestNotification 1 1 69 0 3 18) (Reply.Previous 0) y9 × IsLawful y9
-ninth = requested asked 0 (token send_once 0 (in_task 1) ∷ []) eighth.1 ninth_guards ninth_requests (λ h. omega arith) refl (λ p. omega arith) (λ p. omega arith) (not_made y9_copied.stands asked)
+unfolding ninth_requests
+ninth = requested asked 0 (token send_once 0 (in_task 1) ∷ []) eighth.1 ninth_guards ninth_requests (port_noted y8 y9_copied 1 1 69 0 3 1 (inl refl) name_found (omega arith) (omega arith) (grind (gets, rules))) (λ h. omega arith) refl (λ p. omega arith) (λ p. omega arith) (not_made y9_copied.stands asked)
 
 -- ---- the task ends
 
@@ -488,7 +496,7 @@ good : NoneHolds (guards y9 (Event.TaskTerminate 1))
 good = ((λ h. cc), tt)
 
 mid : MidLawful z_mid []
-mid = Does-mid 9 y9 (Event.TaskTerminate 1) (Reply.Code 0) z_mid [] good (refl, ends_task) ninth.1
+mid = Does-mid 9 y9 (Event.TaskTerminate 1) (Reply.Code 0) z_mid [] good (refl, ends_task) tt ninth.1
 
 abbrev saved : IsSaved z_mid 1
 saved = record { stands = refl; notify = 0; kept = omega arith; task = 0; with_task = omega arith }
@@ -531,7 +539,7 @@ abbrev z : State
 z = end_of 9 z_mid buried
 
 dies : Leads 9 y9 z_mid (Event.TaskTerminate 1) (Reply.Code 0) z
-dies = ends ninth.1 good (refl, ends_task) buried reached done
+dies = ends ninth.1 good (refl, ends_task) tt buried reached done
 
 none_stands : NoRequests z.stands
 none_stands = none_stand_after z_mid buried asked alone refl
@@ -579,7 +587,7 @@ off_requests r kind p = rw (and_false (is_of kind p (token receive 1 (in_task 0)
 eleventh : Step 10 z (Event.Receive 0 1 32 false) (Reply.Message port_sent_text) z11 × IsLawful z11
 eleventh =
     leads_on (token send_once 0 (in_message 0 0) ∷ token receive 1 (in_message 0 0) ∷ []) (token receive 1 (in_task 0) ∷ []) dies.lawful none_stands eleventh_guards
-    (Waited.Port 0, (own_still, omega arith), (0, (refl, omega arith, refl), takes_notice, refl))
+    (Waited.Port 0, (own_still, omega arith), (0, (refl, omega arith, refl), takes_notice, refl)) tt
     (λ h. omega arith) refl (λ p. omega arith) (λ r is. off_requests r) (λ p is. absurd (let f = none_stands (no_senders p) in cc))
 
 calm : IsCalm z11
@@ -608,70 +616,71 @@ pub made_as_needed : (spare more waiting left free accepted taken told gone : �
     left + taken + gone ≡ waiting + accepted + told → more + left ≤ max (spare + waiting) (left + free)
 made_as_needed spare more waiting left free accepted taken told gone step counted = omega (arith, step, counted)
 
-pub slots_start : SlotsWithin 0 [] opening
-slots_start most bound last = omega arith
+pub slots_start : (profile : Profile) → SlotsWithin 0 [] (opening_in profile)
+slots_start profile most bound last = omega arith
 
 abbrev NeedsWithin : ℕ → Stage → Type 0
-NeedsWithin most x = queued x.before + unused x.before ≤ most
+NeedsWithin most x = queued x.before + unused_onces x.before ≤ most
 
 pub slots_push : (spare more : ℕ) (path : List Stage) (s : State) (event : Event) (reply : Reply) (t : State) → MakesAsNeeded spare more s t → SlotsWithin spare path s →
     SlotsWithin more (path ++ record { before = s; event = event; reply = reply; after = t } ∷ []) t
 slots_push spare more path s event reply t fits within most bound last =
     let stage : Stage = record { before = s; event = event; reply = reply; after = t } in
     let parts = All-pop (NeedsWithin most) (path ++ stage ∷ []) path (Some stage) refl bound in
-    slots_kept most spare more (queued s) (queued t) (unused t) fits last (within most parts.0 parts.1)
+    slots_kept most spare more (queued s) (queued t) (unused_onces t) fits last (within most parts.0 parts.1)
 
 -- what is needed where the stages begin
-begins_within : (most now : ℕ) (old : State) (path : List Stage) (s : State) → PathFrom now old path s → All (NeedsWithin most) path → queued s + unused s ≤ most → queued old + unused old ≤ most
-begins_within most now old [] s is bound last = subst (λ (x : State). queued x + unused x ≤ most) is last
-begins_within most now old (x ∷ xs) s is bound last = subst (λ (y : State). queued y + unused y ≤ most) is.0 (All-head (NeedsWithin most) x xs bound)
+begins_within : (most now : ℕ) (old : State) (path : List Stage) (s : State) → PathBy Step now old path s → All (NeedsWithin most) path → queued s + unused_onces s ≤ most → queued old + unused_onces old ≤ most
+begins_within most now old [] s is bound last = subst (λ (x : State). queued x + unused_onces x ≤ most) is last
+begins_within most now old (x ∷ xs) s is bound last = subst (λ (y : State). queued y + unused_onces y ≤ most) is.0 (All-head (NeedsWithin most) x xs bound)
 
-slots_from : (most now spare : ℕ) (old : State) (path : List Stage) (s : State) (spares : List ℕ) (left : ℕ) → PathFrom now old path s → MakesSlots spare path spares left →
-    All (NeedsWithin most) path → queued s + unused s ≤ most → spare + queued old ≤ most → left + queued s ≤ most
+slots_from : (most now spare : ℕ) (old : State) (path : List Stage) (s : State) (spares : List ℕ) (left : ℕ) → PathBy Step now old path s → MakesSlots spare path spares left →
+    All (NeedsWithin most) path → queued s + unused_onces s ≤ most → spare + queued old ≤ most → left + queued s ≤ most
 slots_from most now spare old [] s [] left is slots bound last before = subst (λ (x : State). left + queued x ≤ most) (sym is) (omega (arith, slots, before))
 slots_from most now spare old (x ∷ xs) s (n ∷ ns) left is slots bound last before =
     let rest = All-tail (NeedsWithin most) x xs bound in
     let needs = begins_within most (now + 1) x.after xs s is.2 rest last in
     let was = subst (λ (y : State). spare + queued y ≤ most) (sym is.0) before in
-    slots_from most (now + 1) n x.after xs s ns left is.2 slots.1 rest last (slots_kept most spare n (queued x.before) (queued x.after) (unused x.after) slots.0 needs was)
+    slots_from most (now + 1) n x.after xs s ns left is.2 slots.1 rest last (slots_kept most spare n (queued x.before) (queued x.after) (unused_onces x.after) slots.0 needs was)
 slots_from most now spare old [] s (n ∷ ns) left is slots bound last before = absurd slots
 slots_from most now spare old (x ∷ xs) s [] left is slots bound last before = absurd slots
 
-pub slots_bounded : (path : List Stage) (s : State) → Path path s → (spares : List ℕ) (last : ℕ) → MakesSlots 0 path spares last → SlotsWithin last path s
-slots_bounded path s is spares last slots most bound end = slots_from most 0 0 opening path s spares last is slots bound end (omega arith)
+pub slots_bounded : (profile : Profile) (path : List Stage) (s : State) → JudgedPath profile path s → (spares : List ℕ) (last : ℕ) → MakesSlots 0 path spares last → SlotsWithin last path s
+slots_bounded profile path s is spares last slots most bound end = slots_from most 0 0 (opening_in profile) path s spares last is slots bound end (omega arith)
 
 -- ---- a run so far
 
 -- These events and replies lead from nothing to the state, and the slots are within their bound.
-pub record Followed (events : List Event) (replies : List Reply) (s : State) (spare : ℕ) : Type 0 where
+pub record Followed (profile : Profile) (events : List Event) (replies : List Reply) (s : State) (spare : ℕ) : Type 0 where
   pub stages : List Stage
-  pub path : Path stages s
+  pub path : JudgedPath profile stages s
   pub events_are : list_map (λ (x : Stage). x.event) stages ≡ events
   pub replies_are : list_map (λ (x : Stage). x.reply) stages ≡ replies
   pub slots : SlotsWithin spare stages s
 
-pub followed_start : Followed [] [] opening 0
-followed_start = record { stages = []; path = refl; events_are = refl; replies_are = refl; slots = slots_start }
+pub followed_start : (profile : Profile) → Followed profile [] [] (opening_in profile) 0
+followed_start profile = record { stages = []; path = refl; events_are = refl; replies_are = refl; slots = slots_start profile }
 
-pub followed_push : (events : List Event) (replies : List Reply) (s : State) (spare : ℕ) (event : Event) (reply : Reply) (t : State) (more : ℕ) → Followed events replies s spare →
-    Step (length events) s event reply t → MakesAsNeeded spare more s t → Followed (events ++ event ∷ []) (replies ++ reply ∷ []) t more
-followed_push events replies s spare event reply t more f step fits =
+pub followed_push : (profile : Profile) (events : List Event) (replies : List Reply) (s : State) (spare : ℕ) (event : Event) (reply : Reply) (t : State) (more : ℕ) → Followed profile events replies s spare →
+    Step (length events) s event reply t → MakesAsNeeded spare more s t → Followed profile (events ++ event ∷ []) (replies ++ reply ∷ []) t more
+followed_push profile events replies s spare event reply t more f step fits =
     let stage : Stage = record { before = s; event = event; reply = reply; after = t } in
     let long : length events ≡ length f.stages = sym (ap length f.events_are) ∙ length-map f.stages (λ (x : Stage). x.event) in
     record {
       stages = f.stages ++ stage ∷ [];
-      path = path_push 0 opening f.stages s event reply t f.path (subst (λ (n : ℕ). Step n s event reply t) (omega (arith, long)) step);
+      path = path_push 0 (opening_in profile) f.stages s event reply t f.path (subst (λ (n : ℕ). Step n s event reply t) (omega (arith, long)) step);
       events_are = map-append (λ (x : Stage). x.event) f.stages (stage ∷ []) ∙ ap (λ (es : List Event). es ++ event ∷ []) f.events_are;
       replies_are = map-append (λ (x : Stage). x.reply) f.stages (stage ∷ []) ∙ ap (λ (rs : List Reply). rs ++ reply ∷ []) f.replies_are;
       slots = slots_push spare more f.stages s event reply t fits f.slots;
     }
 
-pub followed_run : (events : List Event) (replies : List Reply) (s : State) (spare : ℕ) → Followed events replies s spare → Run events replies s
-followed_run events replies s spare f = grind (arith, path_runs)
+pub followed_run : (profile : Profile) (events : List Event) (replies : List Reply) (s : State) (spare : ℕ) → Followed profile events replies s spare →
+    RunIn profile events replies s
+followed_run profile events replies s spare f = grind (arith, path_runs)
 
 -- the headline over the same stages
-pub followed_headline : (events : List Event) (replies : List Reply) (s : State) (spare : ℕ) → Followed events replies s spare →
-    (h : Headline events replies s) × SlotsWithin spare h.stages s
-followed_headline events replies s spare f =
-    let h = path_headline events replies s f.stages f.path f.events_are f.replies_are in
-    (h.0, subst (λ (xs : List Stage). SlotsWithin spare xs s) (sym h.1) f.slots)
+pub followed_headline : (profile : Profile) (events : List Event) (replies : List Reply) (s : State) (spare : ℕ) → Followed profile events replies s spare →
+    (h : Headline profile events replies s) × JudgedPath profile h.stages s × SlotsWithin spare h.stages s
+followed_headline profile events replies s spare f =
+    let h = path_headline profile events replies s f.stages f.path f.events_are f.replies_are in
+    (h.0, subst (λ (xs : List Stage). JudgedPath profile xs s) (sym h.1) f.path, subst (λ (xs : List Stage). SlotsWithin spare xs s) (sym h.1) f.slots)

@@ -43,7 +43,6 @@ fifth_extracts = record {
   p = 0;
   copied = h5;
   copy = record { given = MoveReceive; is_given = refl; target = Target.port 0; found = from_found; legal = omega arith; mark_is = refl; rest = refl; tokens = λ h. omega arith };
-  unrefused = ((λ h. elim h [ inl e ↦ e.1 1 to_found | inr e ↦ omega (arith, e) ]), tt);
   kind_is = refl;
   named_state = h5;
   named = inl (to_found, refl);
@@ -52,7 +51,8 @@ fifth_extracts = record {
 }
 
 fifth : Plays 4 h4 (Event.ExtractRight 0 1 16 1) (Reply.Right 1 16) h5
-fifth = plays fourth.1 tt tt fifth_guards (fifth_extracts, refl)
+unfolding fifth_extracts
+fifth = plays fourth.1 tt tt fifth_guards (fifth_extracts, refl) ((λ h. elim h [ inl e ↦ e.1 1 to_found | inr e ↦ omega (arith, e) ]), tt)
 
 sixth : Plays 5 h5 (Event.NameType 1 1) (Reply.NameType 0x00030000) h5
 sixth = type_told fifth.1 refl (Target.port 0) to_found

@@ -17,7 +17,7 @@ use Rattle.mach_model.specs.Death.{same_place, IsOrphan}
 use Rattle.mach_model.specs.Notices.{Owed}
 use Rattle.mach_model.specs.Requests.{GivesBack, Keeps, Requests}
 use Rattle.mach_model.specs.Refusals.{guards}
-use Rattle.mach_model.specs.Machine.{Does}
+use Rattle.mach_model.specs.Acts.{Does}
 use Rattle.mach_model.specs.Lawful.{IsLawful}
 use Rattle.mach_model.specs.Carried.{lying}
 use Rattle.mach_model.proofs.Names.{left_of, right_of, count_le}

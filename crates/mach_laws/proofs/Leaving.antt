@@ -11,7 +11,7 @@ use Rattle.mach_types.specs.Tokens.{Kind, receive, send, send_once, same_kind, P
 use Rattle.mach_types.specs.Messages.{Mark, to_port, null, dead, Entry}
 use Rattle.mach_types.specs.Bodies.{Through, message_rights}
 use Rattle.mach_types.specs.Guards.{NoneHolds}
-use Rattle.mach_model.specs.State.{State, Target, lookup, held}
+use Rattle.mach_model.specs.State.{State, Target, lookup, held, gives}
 use Rattle.mach_model.specs.Tasks.{EndsTask}
 use Rattle.mach_model.specs.Carried.{lying}
 use Rattle.mach_types.specs.declared.rights.Disposition.{Disposition}
@@ -22,14 +22,14 @@ use Rattle.mach_model.specs.CopyOut.{NamedOnce, NamedFor, given_to, GiveMark, Gi
 use Rattle.mach_model.specs.Death.{IsOrphan, same_place}
 use Rattle.mach_model.specs.Notices.{Owed, right_unused}
 use Rattle.mach_model.specs.Settles.{tokens_of}
-use Rattle.mach_model.specs.References.{LosesAll, is_either, unused_once, unused, Deallocates, DestroysTarget, with_dead, AddsTo, RemovesRight, Modifies}
-use Rattle.mach_model.specs.Names.{Makes}
-use Rattle.mach_model.specs.Sets.{JoinsSet}
+use Rattle.mach_model.specs.References.{LosesAll, is_either, unused_once, unused_among, Deallocates, DestroysTarget, with_dead, AddsTo, RemovesRight, Modifies}
+use Rattle.mach_model.specs.Names.{Makes, JoinsSet}
 use Rattle.mach_model.specs.Transfer.{pegged, Extracts}
 use Rattle.mach_model.specs.Receive.{TakesFrom, Takes, Receives, DestroysFront, Receipt}
 use Rattle.mach_model.specs.ReceivedMeans.{received_words}
 use Rattle.mach_model.specs.Refusals.{guards}
-use Rattle.mach_model.specs.Machine.{Does, Done}
+use Rattle.mach_model.specs.Machine.{Done}
+use Rattle.mach_model.specs.Acts.{Does}
 use Rattle.mach_model.specs.Lawful.{IsLawful}
 use Rattle.mach_model.specs.Midway.{IsOwed, MidLawful}
 use Rattle.mach_model.proofs.SettledReceives.{none_pass, none_paid, of_kind}
@@ -119,21 +119,23 @@ module _ (kind : Kind) (p : ℕ) where
   does_keep : (now : ℕ) (old : State) (event : Event) (reply : Reply) (mid : State) (owed : Owed) → ¬ (MayDropSends event) → Does now old event reply mid owed → Least old mid owed
   does_keep now old Event.TaskCreate (Reply.Task task) mid owed not d = by_state old mid _ owed d.0.rest refl
   does_keep now old (Event.TaskTerminate task) reply mid owed not d = absurd (not tt)
-  does_keep now old (Event.Allocate task right) (Reply.Name name) mid owed not d = makes task right name old mid owed d.1
+  does_keep now old (Event.Allocate task right) (Reply.Name name) mid owed not d = makes task right name (gives task name old) mid owed d.1
   does_keep now old (Event.AllocateName task right name) (Reply.Name told) mid owed not d = makes task right name old mid owed d.1
   does_keep now old (Event.Deallocate task name) reply mid owed not d = absurd (not tt)
   does_keep now old (Event.Destroy task name) reply mid owed not d = absurd (not tt)
   does_keep now old (Event.ModRefs task name right delta) reply mid owed not d = absurd (not tt)
-  does_keep now old (Event.GetRefs task name right) (Reply.Refs n) mid owed not d = by_state old mid old owed d.1 refl
-  does_keep now old (Event.NameType task name) (Reply.NameType n) mid owed not d = by_state old mid old owed d.1 refl
-  does_keep now old (Event.Names task) (Reply.Names entries) mid owed not d = by_state old mid old owed d.1 refl
+  does_keep now old (Event.GetRefs task name right) (Reply.Refs n) mid owed not d = by_state old mid old owed d.0 refl
+  does_keep now old (Event.NameType task name) (Reply.NameType n) mid owed not d = by_state old mid old owed d.0 refl
+  does_keep now old (Event.Names task) (Reply.Names entries) mid owed not d = by_state old mid old owed d.0 refl
   does_keep now old (Event.Rename task o n) (Reply.Code code) mid owed not d = let a = renames kind p task o n old mid d.1 in omega (arith, a)
-  does_keep now old (Event.ReceiveStatus task name) (Reply.Status status) mid owed not d = by_state old mid old owed d.1 refl
+  does_keep now old (Event.ReceiveStatus task name) (Reply.Status status) mid owed not d = by_state old mid old owed d.0 refl
   does_keep now old (Event.SetQlimit task name n) (Reply.Code code) mid owed not d = by_state old mid _ owed d.1.3 refl
   does_keep now old (Event.SetMscount task name n) (Reply.Code code) mid owed not d = by_state old mid _ owed d.2.3 refl
   does_keep now old (Event.SetSeqno task name n) (Reply.Code code) mid owed not d = by_state old mid _ owed d.2.3 refl
-  does_keep now old (Event.SetStatus task name) (Reply.Members members) mid owed not d = by_state old mid old owed d.1 refl
+  does_keep now old (Event.SetStatus task name) (Reply.Members members) mid owed not d = by_state old mid old owed d.0 refl
   does_keep now old (Event.MoveMember task member after) (Reply.Code code) mid owed not d = joins task member after old mid owed d.1
+  does_keep now old (Event.InsertMember task member set) (Reply.Code code) mid owed not d = by_state old mid _ owed d.1.rest refl
+  does_keep now old (Event.ExtractMember task member set) (Reply.Code code) mid owed not d = by_state old mid _ owed d.1.rest refl
   does_keep now old (Event.InsertRight task name from poly number) (Reply.Code code) mid owed not d = let a = inserts kind p task name from poly number old mid d.1 in omega (arith, a)
   does_keep now old (Event.ExtractRight task name number to) reply mid owed not d = absurd (not tt)
   does_keep now old (Event.RequestNotification task name variant sync notify number) (Reply.Previous previous) mid owed not d = (asks kind p task name variant sync notify number previous old mid owed d).1
@@ -433,7 +435,7 @@ module _ (p : ℕ) where
 
 module _ (now : ℕ) (old : State) (event : Event) (reply : Reply) (new : State) (l : IsLawful old) (d : Done now old event reply new) (p : ℕ) (live : new.live_port p ≡ true) where
   m : MidLawful d.mid d.owed
-  m = Does-mid now old event reply d.mid d.owed d.unrefused d.does l
+  m = Does-mid now old event reply d.mid d.owed d.unrefused d.does d.judged l
 
   no_once : send_once ≡ send → ⊥
   no_once e = cc
@@ -468,16 +470,16 @@ module _ (p : ℕ) where
   abbrev Stay : State → State → Owed → ℕ → Type 0
   Stay old mid owed t = onces old ≤ onces mid + owing owed + t
 
-  all_unused : (xs : List Token) → owing (unused xs) ≡ count (is_of send_once p) xs
+  all_unused : (xs : List Token) → owing (unused_among xs) ≡ count (is_of send_once p) xs
   all_unused [] = refl
   all_unused (x ∷ xs) = by (same_kind send_once x.kind) refl (all_unused xs)
     where
-      by : (b : Bool) → same_kind send_once x.kind ≡ b → owing (unused xs) ≡ count (is_of send_once p) xs →
+      by : (b : Bool) → same_kind send_once x.kind ≡ b → owing (unused_among xs) ≡ count (is_of send_once p) xs →
           owing (list_map (λ x. (x, right_unused)) (if b then x ∷ filter (λ x. same_kind send_once x.kind) xs else filter (λ x. same_kind send_once x.kind) xs)) ≡ count (is_of send_once p) (x ∷ xs)
       by true e h = omega (arith, h)
       by false e h = let z : (if same_kind send_once x.kind && x.port == p then suc zero else zero) ≡ zero = rw e refl in omega (arith, h, z)
 
-  loses : (old mid : State) (test : Token → Bool) (owed : Owed) → (x : LosesAll test old.ledger mid.ledger) → owed ≡ unused x.gone → Stay old mid owed 0
+  loses : (old mid : State) (test : Token → Bool) (owed : Owed) → (x : LosesAll test old.ledger mid.ledger) → owed ≡ unused_among x.gone → Stay old mid owed 0
   loses old mid test owed x is = let a = gone_less send_once p old mid x.gone x.moves in let b = all_unused x.gone in let c = ap owing is in omega (arith, a, b, c)
 
   by_gone : (old mid : State) (owed : Owed) (gone : List Token) → Moves old.ledger mid.ledger gone [] → count (is_of send_once p) gone ≡ 0 → Stay old mid owed 0
@@ -683,6 +685,6 @@ pub onces_leave : (now : ℕ) (old : State) (event : Event) (reply : Reply) (new
     count (is_of send_once p) old.ledger + old.taken p ≤ count (is_of send_once p) new.ledger + new.taken p
 onces_leave now old event reply new l d p live =
     let a = does_leave p now old event reply d.mid d.owed l d.unrefused d.does in
-    let e = once_kept now old d.mid d.owed new (Does-mid now old event reply d.mid d.owed d.unrefused d.does l) d.settles p live in
+    let e = once_kept now old d.mid d.owed new (Does-mid now old event reply d.mid d.owed d.unrefused d.does d.judged l) d.settles p live in
     let k = ap (λ (s : State). s.taken p) d.settles.rest in
     omega (arith, a, e, k)

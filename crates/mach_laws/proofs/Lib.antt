@@ -19,6 +19,7 @@ mod Answering
 mod Gathering
 mod Handed
 mod Naming
+mod Tagged
 pub mod Refusals
 pub mod Deciding
 mod Rising

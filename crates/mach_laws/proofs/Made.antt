@@ -9,20 +9,21 @@ use Rattle.mach_types.specs.Numbers.{null_word, kind_sent}
 use Rattle.mach_types.specs.Tokens.{Kind, receive, send, send_once, same_kind, Place, in_task, in_message, in_request, Request, Token, token, count, is_of, is_in_task, Moves}
 use Rattle.mach_types.specs.Messages.{Mark, to_port, null, dead, Entry}
 use Rattle.mach_types.specs.Bodies.{Through, body_words, body_rights, message_rights}
-use Rattle.mach_model.specs.State.{State, Target, lookup, held, with_name}
+use Rattle.mach_model.specs.State.{State, Target, lookup, held, with_name, gives}
 use Rattle.mach_model.specs.CopyIn.{taken_by, CopyRight}
 use Rattle.mach_model.specs.CopyOut.{given_to, GiveMark, GiveWord}
 use Rattle.mach_model.specs.Notices.{Owed, right_unused}
 use Rattle.mach_model.specs.Settles.{tokens_of}
-use Rattle.mach_model.specs.References.{LosesAll, unused_once, unused, Deallocates, DestroysTarget, with_dead, AddsTo, added_rights, RemovesRight, Modifies}
-use Rattle.mach_model.specs.Names.{Makes, Renames}
-use Rattle.mach_model.specs.Sets.{JoinsSet}
+use Rattle.mach_model.specs.References.{LosesAll, unused_once, unused_among, Deallocates, DestroysTarget, with_dead, AddsTo, RemovesRight, Modifies}
+use Rattle.mach_model.specs.Refusals.{added_rights}
+use Rattle.mach_model.specs.Names.{Makes, Renames, JoinsSet}
 use Rattle.mach_model.specs.Send.{place_at, Sends}
 use Rattle.mach_model.specs.Transfer.{target_for, pegged, Inserts, Extracts}
 use Rattle.mach_model.specs.Requests.{GivesBack, Keeps, Requests}
 use Rattle.mach_model.specs.Receive.{Receives, DestroysFront, Receipt}
 use Rattle.mach_model.specs.ReceivedMeans.{received_words}
-use Rattle.mach_model.specs.Machine.{Does, Done}
+use Rattle.mach_model.specs.Machine.{Done}
+use Rattle.mach_model.specs.Acts.{Does}
 use Rattle.mach_model.specs.Lawful.{IsLawful}
 use Rattle.mach_model.specs.Midway.{MidLawful}
 use Rattle.mach_model.specs.Death.{IsOrphan}
@@ -57,16 +58,16 @@ module _ (kind : Kind) (p : ℕ) where
   pub gone_less : (old mid : State) (gone : List Token) → Moves old.ledger mid.ledger gone [] → rights mid + count (is_of kind p) gone ≡ rights old
   gone_less old mid gone moves = let m = moves (λ x. if is_of kind p x then 1 else 0) in omega (arith, m)
 
-  few_unused : (xs : List Token) → owing (unused xs) ≤ count (is_of kind p) xs
+  few_unused : (xs : List Token) → owing (unused_among xs) ≤ count (is_of kind p) xs
   few_unused [] = omega arith
   few_unused (x ∷ xs) = by (same_kind send_once x.kind) (few_unused xs)
     where
-      by : (b : Bool) → owing (unused xs) ≤ count (is_of kind p) xs →
+      by : (b : Bool) → owing (unused_among xs) ≤ count (is_of kind p) xs →
           owing (list_map (λ x. (x, right_unused)) (if b then x ∷ filter (λ x. same_kind send_once x.kind) xs else filter (λ x. same_kind send_once x.kind) xs)) ≤ count (is_of kind p) (x ∷ xs)
       by true h = omega (arith, h)
       by false h = omega (arith, h)
 
-  loses : (old mid : State) (test : Token → Bool) (owed : Owed) → (x : LosesAll test old.ledger mid.ledger) → owed ≡ unused x.gone → Most old mid owed 0
+  loses : (old mid : State) (test : Token → Bool) (owed : Owed) → (x : LosesAll test old.ledger mid.ledger) → owed ≡ unused_among x.gone → Most old mid owed 0
   loses old mid test owed x is = let a = gone_less old mid x.gone x.moves in let b = few_unused x.gone in let c = ap owing is in omega (arith, a, b, c)
 
   once_lost : (old mid : State) (task q : ℕ) (owed : Owed) → Moves old.ledger mid.ledger (token send_once q (in_task task) ∷ []) [] → owed ≡ unused_once q task → Most old mid owed 0
@@ -249,21 +250,23 @@ module _ (kind : Kind) (p : ℕ) where
   pub does_make : (now : ℕ) (old : State) (event : Event) (reply : Reply) (mid : State) (owed : Owed) → Does now old event reply mid owed → (n : ℕ) × MakesRights old event kind p n × Most old mid owed n
   does_make now old Event.TaskCreate (Reply.Task task) mid owed d = (0, refl, by_state old mid _ owed 0 d.0.rest refl d.1)
   does_make now old (Event.TaskTerminate task) (Reply.Code code) mid owed d = (0, refl, loses old mid (λ x. is_in_task task x.place) owed d.1.loses d.1.owed_are)
-  does_make now old (Event.Allocate task right) (Reply.Name name) mid owed d = (made_with_port old right kind p, refl, makes task right name old mid owed d.1 d.2)
+  does_make now old (Event.Allocate task right) (Reply.Name name) mid owed d = (made_with_port old right kind p, refl, makes task right name (gives task name old) mid owed d.1 d.2)
   does_make now old (Event.AllocateName task right name) (Reply.Name told) mid owed d = (made_with_port old right kind p, refl, makes task right name old mid owed d.1 d.2)
   does_make now old (Event.Deallocate task name) (Reply.Code code) mid owed d = (0, refl, deallocates task name old mid owed d.1)
   does_make now old (Event.Destroy task name) (Reply.Code code) mid owed d = (0, refl, destroys task name d.1.0 old mid owed d.1.2)
   does_make now old (Event.ModRefs task name right delta) (Reply.Code code) mid owed d = (by_references old task name right delta, refl, modifies task name right delta old mid owed d.1)
-  does_make now old (Event.GetRefs task name right) (Reply.Refs n) mid owed d = (0, refl, by_state old mid old owed 0 d.1 refl d.2)
-  does_make now old (Event.NameType task name) (Reply.NameType n) mid owed d = (0, refl, by_state old mid old owed 0 d.1 refl d.2)
-  does_make now old (Event.Names task) (Reply.Names entries) mid owed d = (0, refl, by_state old mid old owed 0 d.1 refl d.2)
+  does_make now old (Event.GetRefs task name right) (Reply.Refs n) mid owed d = (0, refl, by_state old mid old owed 0 d.0 refl d.1)
+  does_make now old (Event.NameType task name) (Reply.NameType n) mid owed d = (0, refl, by_state old mid old owed 0 d.0 refl d.1)
+  does_make now old (Event.Names task) (Reply.Names entries) mid owed d = (0, refl, by_state old mid old owed 0 d.0 refl d.1)
   does_make now old (Event.Rename task o n) (Reply.Code code) mid owed d = (0, refl, (let a = renames task o n old mid d.1 in by_count old mid owed 0 (omega (arith, a)) d.2))
-  does_make now old (Event.ReceiveStatus task name) (Reply.Status status) mid owed d = (0, refl, by_state old mid old owed 0 d.1 refl d.2)
+  does_make now old (Event.ReceiveStatus task name) (Reply.Status status) mid owed d = (0, refl, by_state old mid old owed 0 d.0 refl d.1)
   does_make now old (Event.SetQlimit task name n) (Reply.Code code) mid owed d = (0, refl, by_state old mid _ owed 0 d.1.3 refl d.2)
   does_make now old (Event.SetMscount task name n) (Reply.Code code) mid owed d = (0, refl, by_state old mid _ owed 0 d.2.3 refl d.3)
   does_make now old (Event.SetSeqno task name n) (Reply.Code code) mid owed d = (0, refl, by_state old mid _ owed 0 d.2.3 refl d.3)
-  does_make now old (Event.SetStatus task name) (Reply.Members members) mid owed d = (0, refl, by_state old mid old owed 0 d.1 refl d.2)
+  does_make now old (Event.SetStatus task name) (Reply.Members members) mid owed d = (0, refl, by_state old mid old owed 0 d.0 refl d.1)
   does_make now old (Event.MoveMember task member after) (Reply.Code code) mid owed d = (0, refl, joins task member after old mid owed d.1 d.2)
+  does_make now old (Event.InsertMember task member set) (Reply.Code code) mid owed d = (0, refl, by_state old mid _ owed 0 d.1.rest refl d.2)
+  does_make now old (Event.ExtractMember task member set) (Reply.Code code) mid owed d = (0, refl, by_state old mid _ owed 0 d.1.rest refl d.2)
   does_make now old (Event.InsertRight task name from poly number) (Reply.Code code) mid owed d =
       (made_by_word (old.naming from) kind p (number, poly), refl, (let a = inserts task name from poly number old mid d.1 in by_count old mid owed (made_by_word (old.naming from) kind p (number, poly)) (omega (arith, a)) d.2))
   does_make now old (Event.ExtractRight task name number to) (Reply.Right new_name k) mid owed d =
@@ -285,7 +288,7 @@ module _ (kind : Kind) (p : ℕ) where
 
 module _ (now : ℕ) (old : State) (event : Event) (reply : Reply) (new : State) (l : IsLawful old) (d : Done now old event reply new) (p : ℕ) where
   m : MidLawful d.mid d.owed
-  m = Does-mid now old event reply d.mid d.owed d.unrefused d.does l
+  m = Does-mid now old event reply d.mid d.owed d.unrefused d.does d.judged l
 
   lawful : IsLawful new
   lawful = Step-lawful now old event reply new (inr d) l

@@ -6,7 +6,8 @@ use Rattle.std.proofs.lemmas.Bool.{eq-eqb}
 use Rattle.std.proofs.lemmas.Bool.Decides.{eqb_tells}
 use Rattle.mach_types.specs.declared.rights.Disposition.{Disposition}
 use Rattle.mach_types.specs.declared.rights.Disposition.TheVariants.{MoveReceive, MoveSend, MoveSendOnce, CopySend, MakeSend, MakeSendOnce}
-use Rattle.mach_types.specs.Numbers.{null_word, dead_word, disposition, disposition_number}
+use Rattle.mach_types.specs.Numbers.{null_word, dead_word, disposition}
+use Rattle.mach_types.specs.Rights.{disposition_number}
 use Rattle.mach_types.specs.Tokens.{Kind, receive, send, send_once, Place, Token, token, count, is_of}
 use Rattle.mach_types.specs.Messages.{Mark, ReplyRight, absent, present}
 use Rattle.mach_types.specs.Bodies.{Through}

@@ -31,15 +31,17 @@ use Rattle.mach_model.proofs.Walks.{SameBody-each}
 use Rattle.mach_model.specs.Death.{Dies, IsOrphan, IsSentAway}
 use Rattle.mach_model.specs.Notices.{Notice, notice_message, Owed, Posted}
 use Rattle.mach_model.specs.Settles.{PlaceStays, settled_target, due_notices, Settles}
-use Rattle.mach_model.specs.Machine.{Done, Does, Step}
+use Rattle.mach_model.specs.Machine.{Done, Step}
+use Rattle.mach_model.specs.Acts.{Does}
 use Rattle.mach_model.specs.Lawful.{is_once, IsLawful}
 use Rattle.mach_model.specs.Midway.{MidLawful}
 use Rattle.mach_model.proofs.Settling.{Dies-least, IsReordered, looks_reorder}
 use Rattle.mach_model.proofs.SettledReceives.{with_task, made_of, kept_there}
+use Rattle.mach_model.proofs.NamesLawful.{fresh_unused}
 use Rattle.mach_laws.proofs.Bodies.{right_asof, rights_asof, reply_same, body_same}
 use Rattle.mach_laws.specs.Notices.{IsToldBy, Tells}
 use Rattle.mach_laws.specs.Received.{AsksFrom}
-use Rattle.mach_laws.specs.Delivered.{Destroys}
+use Rattle.mach_laws.specs.Delivered.{DestroysTooLong}
 use Rattle.mach_laws.specs.Looks.{IsLook, IsUnchanged}
 
 -- ---- A message that is received means, through the receiver's names after the step, what was queued, read with the ports that are dead.
@@ -79,7 +81,7 @@ Named-gives : (task name : ℕ) (target : Target) (old new : State) → Named ta
 Named-gives task name target old new n = record {
   grows = λ m x e.
       subst (λ (names : Names). map.get names m ≡ Some x) (sym (ap (λ (s : State). s.naming task) n.rest ∙ at_same old.naming task (map.insert (old.naming task) name target) task refl))
-      (kept (old.naming task) name target m x n.fresh.unused e);
+      (kept (old.naming task) name target m x (fresh_unused old task name n.fresh) e);
   live = ap (λ (s : State). s.live_port) n.rest;
   sequence = ap (λ (s : State). s.sequence) n.rest;
   holds = λ k q. subst (λ (s : State). held old task k q ≤ held s task k q) (sym n.rest) (omega arith);
@@ -115,7 +117,7 @@ unfolding NamedWord
 NamedFor-word task receive w p before old new g h = NamedOnce-gives task w p old new h
 NamedFor-word task send w p before old new g h = NamedOnce-gives task w p old new h
 NamedFor-word task send_once w p before old new g h =
-    (Named-gives task w _ old new h, (Named-has task w _ old new h, unused_before (before.naming task) (old.naming task) w g h.fresh.unused))
+    (Named-gives task w _ old new h, (Named-has task w _ old new h, unused_before (before.naming task) (old.naming task) w g (fresh_unused old task w h.fresh)))
 
 own_token : (k : Kind) (p task : ℕ) → ◌≡◌ {A = ℕ} (if is_held task k p (token k p (in_task task)) then 1 else 0) 1
 own_token receive p task = rw (eq-eqb p p refl, eq-eqb task task refl) refl
@@ -399,7 +401,7 @@ word_unused task place send_once dead old w new ws rs away h u = back task old n
 word_unused task place send_once (to_port p) old w new ws rs away h u =
     either (old.live_port p) _ _ _
     (λ live r. subst (λ (x : Mark). Unused task old (once_words (w ∷ ws) ((send_once, x) ∷ rs))) (same_mark (old.live_port p) p live)
-    (more task w.1 (Target.once p) old new _ r.named.fresh.unused (ap (λ (s : State). lookup s task w.1) r.rest ∙ Named-has task w.1 (Target.once p) old r.named_state r.named)
+    (more task w.1 (Target.once p) old new _ (fresh_unused old task w.1 r.named.fresh) (ap (λ (s : State). lookup s task w.1) r.rest ∙ Named-has task w.1 (Target.once p) old r.named_state r.named)
     (GiveMark-means task place send_once (to_port p) old old w.1 new away (same task old) h).0 u))
     (λ gone r. subst (λ (x : Mark). Unused task old (once_words (w ∷ ws) ((send_once, x) ∷ rs))) (dead_mark (old.live_port p) p gone)
     (back task old new _ (Gives-same task old new r.1) u))
@@ -499,7 +501,7 @@ module _ (now : ℕ) (old : State) (event : Event) (reply : Reply) (new : State)
       let here : slice_get (new.log p) k ≡ Some record { origin = now; message = notice_message p h.1.notice } =
       subst (λ (x : Posted). slice_get (new.log x.port) x.entry ≡ Some record { origin = now; message = notice_message x.port x.notice }) same stands.1 in
       record {
-        done = d;
+        done = d.performed;
         notice = h.1.notice;
         due = subst (λ (x : Posted). Contains {X = ℕ × Notice} (due_notices (s.rights.paying ++ filter (λ x. new.live_port x.0.port) d.owed)) (x.port, x.notice)) same
             (subst (λ (ys : List (ℕ × Notice)). Contains {X = ℕ × Notice} ys (h.1.port, h.1.notice)) s.notices.due (contains_mapped (λ (x : Posted). (x.port, x.notice)) s.notices.posted h.1 one));
@@ -584,11 +586,11 @@ the_first false P Q e h = absurd (cc)
 
 -- the step's own part leaves the state, and owes nothing
 leaves_all : (now : ℕ) (old : State) (event : Event) (reply : Reply) (mid : State) (owed : Owed) → Does now old event reply mid owed → IsLook event reply → (mid ≡ old) × (owed ≡ [])
-leaves_all now old (Event.GetRefs task name right) (Reply.Refs n) mid owed d look = (d.1, d.2)
-leaves_all now old (Event.NameType task name) (Reply.NameType n) mid owed d look = (d.1, d.2)
-leaves_all now old (Event.Names task) (Reply.Names names) mid owed d look = (d.1, d.2)
-leaves_all now old (Event.ReceiveStatus task name) (Reply.Status status) mid owed d look = (d.1, d.2)
-leaves_all now old (Event.SetStatus task name) (Reply.Members members) mid owed d look = (d.1, d.2)
+leaves_all now old (Event.GetRefs task name right) (Reply.Refs n) mid owed d look = (d.0, d.1)
+leaves_all now old (Event.NameType task name) (Reply.NameType n) mid owed d look = (d.0, d.1)
+leaves_all now old (Event.Names task) (Reply.Names names) mid owed d look = (d.0, d.1)
+leaves_all now old (Event.ReceiveStatus task name) (Reply.Status status) mid owed d look = (d.0, d.1)
+leaves_all now old (Event.SetStatus task name) (Reply.Members members) mid owed d look = (d.0, d.1)
 leaves_all now old (Event.Receive task name room large) (Reply.Empty told) mid owed d look = (d.2.2, d.2.3)
 leaves_all now old (Event.Receive task name room large) (Reply.TooLarge n) mid owed d look = grind (arith, the_first)
 leaves_all now old (Event.Receive task name room large) (Reply.Refs n) mid owed d look = absurd d.2
@@ -619,14 +621,14 @@ Step-looks now old event reply new l (inr d) look =
 -- ---- a message that is too long
 
 destroyed : (now n : ℕ) (event : Event) (task p : ℕ) (e : Entry) (large : Bool) (old mid : State) (owed : Owed) (new : State) → AsksFrom old event task p → n ≡ message_length e.message → ¬ (large ≡ true) →
-    MatchBool large ((mid ≡ old) × (owed ≡ [])) (DestroysFront p e old mid owed) → Settles now old mid owed new → Destroys event n old new
+    MatchBool large ((mid ≡ old) × (owed ≡ [])) (DestroysFront p e old mid owed) → Settles now old mid owed new → DestroysTooLong event n old new
 destroyed now n event task p e true old mid owed new asks long not what s = absurd (not refl)
 destroyed now n event task p e false old mid owed new asks long not what s = grind (arith, at_own, at_other)
 
 no_length : (n code : ℕ) → Reply.TooLarge n ≡ Reply.Code code → ⊥
 no_length n code e = cc
 
-pub Step-destroys : (now : ℕ) (old : State) (event : Event) (n : ℕ) (new : State) → Step now old event (Reply.TooLarge n) new → ¬ (IsLook event (Reply.TooLarge n)) → Destroys event n old new
+pub Step-destroys : (now : ℕ) (old : State) (event : Event) (n : ℕ) (new : State) → Step now old event (Reply.TooLarge n) new → ¬ (IsLook event (Reply.TooLarge n)) → DestroysTooLong event n old new
 Step-destroys now old event n new (inl r) not = absurd (no_length n r.code r.told)
 Step-destroys now old (Event.Receive task name room large) n new (inr d) not =
     let x = d.does in

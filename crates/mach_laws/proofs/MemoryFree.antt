@@ -1,14 +1,15 @@
 -- An event that takes no memory is refused by a guard of the state before alone, and never for want of memory.
 use Rattle.std.proofs.Common.{◌≡◌, ℕ, ◌∷◌, [], subst, arith, inl, inr, None, Some}
-use Rattle.mach_types.specs.Numbers.{kern_number}
-use Rattle.mach_types.specs.declared.codes.KernReturn.TheVariants.{InvalidName, InvalidTask, InvalidRight, InvalidValue, UrefsOverflow, NoSpace, NotInSet}
+use Rattle.mach_types.specs.Codes.{kern_number}
+use Rattle.mach_types.specs.declared.codes.KernReturn.TheVariants.{InvalidName, InvalidTask, InvalidRight, InvalidValue, UrefsOverflow, NoSpace, NotInSet, InvalidArgument}
 use Rattle.mach_types.specs.Guards.{Guards, FirstIs, NoneHolds}
 use Rattle.mach_types.specs.declared.calls.Event.{Event}
 use Rattle.mach_types.specs.declared.calls.Reply.{Reply}
 use Rattle.mach_model.specs.State.{State}
 use Rattle.mach_model.specs.Notices.{Owed}
 use Rattle.mach_model.specs.Refusals.{guards, Refuses}
-use Rattle.mach_model.specs.Machine.{Does, Done, Step}
+use Rattle.mach_model.specs.Machine.{Done, Step}
+use Rattle.mach_model.specs.Acts.{Does}
 use Rattle.mach_laws.specs.Judging.{IsMemoryCode, LacksMemory}
 use Rattle.mach_laws.specs.MemoryFree.{TakesNoMemory}
 use Rattle.mach_laws.proofs.Refusals.{itself, none_is_first}
@@ -46,6 +47,9 @@ no_space h = omega (arith, h)
 no_member : ¬ (IsMemoryCode (kern_number NotInSet))
 no_member h = omega (arith, h)
 
+no_argument : ¬ (IsMemoryCode (kern_number InvalidArgument))
+no_argument h = omega (arith, h)
+
 no_success : ¬ (IsMemoryCode 0)
 no_success h = omega (arith, h)
 
@@ -61,6 +65,7 @@ guards_other s (Event.SetQlimit task name n) free = (no_task, (no_value, (no_nam
 guards_other s (Event.SetMscount task name n) free = (no_task, (no_name, (no_right, tt)))
 guards_other s (Event.SetSeqno task name n) free = (no_task, (no_name, (no_right, tt)))
 guards_other s (Event.MoveMember task member after) free = (no_task, (no_name, (no_right, (no_member, tt))))
+guards_other s (Event.ExtractMember task member set) free = (no_task, (no_argument, (no_name, (no_right, (no_member, tt)))))
 guards_other s event free = absurd free
 
 -- ---- refusals
@@ -81,6 +86,7 @@ guarded s (Event.SetQlimit task name n) code free (inr h) = absurd (no_later cod
 guarded s (Event.SetMscount task name n) code free (inr h) = absurd (no_later code h.1)
 guarded s (Event.SetSeqno task name n) code free (inr h) = absurd (no_later code h.1)
 guarded s (Event.MoveMember task member after) code free (inr h) = absurd (no_later code h.1)
+guarded s (Event.ExtractMember task member set) code free (inr h) = absurd (no_later code h.1)
 guarded s event code free (inr h) = absurd free
 
 pub free_refused : (s : State) (event : Event) (code : ℕ) → TakesNoMemory event → Refuses s event code → FirstIs (guards s event) code × ¬ (IsMemoryCode code)
@@ -103,6 +109,8 @@ done_other now s (Event.SetQlimit task name n) (Reply.Code code) mid owed free d
 done_other now s (Event.SetMscount task name n) (Reply.Code code) mid owed free d = code_other code d.0
 done_other now s (Event.SetSeqno task name n) (Reply.Code code) mid owed free d = code_other code d.0
 done_other now s (Event.MoveMember task member after) (Reply.Code code) mid owed free d = code_other code d.0
+done_other now s (Event.ExtractMember task member set) (Reply.Code code) mid owed free d = code_other code d.0
+done_other now s (Event.InsertMember task member set) reply mid owed free d = absurd free
 done_other now s Event.TaskCreate reply mid owed free d = absurd free
 done_other now s (Event.Allocate task right) reply mid owed free d = absurd free
 done_other now s (Event.AllocateName task right name) reply mid owed free d = absurd free

@@ -12,8 +12,9 @@ use Rattle.mach_types.specs.declared.calls.Event.{Event}
 use Rattle.mach_types.specs.declared.calls.Reply.{Reply}
 use Rattle.mach_types.specs.Guards.{NoneHolds}
 use Rattle.mach_model.specs.State.{State, Target, at, lookup, with_name, without_name}
-use Rattle.mach_model.specs.Names.{type_of, names_of, renamed_requests}
-use Rattle.mach_model.specs.References.{HasReference}
+use Rattle.mach_model.specs.Names.{renamed_requests}
+use Rattle.mach_model.specs.Telling.{names_of, type_of}
+use Rattle.mach_model.specs.NameGuards.{HasReference}
 use Rattle.mach_model.specs.Refusals.{guards}
 use Rattle.mach_model.specs.Machine.{Run}
 use Rattle.mach_model.proofs.Names.{alike}
@@ -38,7 +39,7 @@ third_guards : NoneHolds (guards n2 (Event.ModRefs 0 1 4 (pos 2)))
 third_guards = grind (arith, one_at_one, used)
 
 third : Plays 2 n2 (Event.ModRefs 0 1 4 (pos 2)) (Reply.Code 0) n3
-third = plays second.1 tt (λ h. elim h.0 [ inl e ↦ omega (arith, e) | inr e ↦ omega (arith, e) ]) third_guards (refl, inr (inl (1, 3, refl, one_at_one, refl, refl, refl)))
+third = plays second.1 tt (λ h. elim h.0 [ inl e ↦ omega (arith, e) | inr e ↦ omega (arith, e) ]) third_guards (refl, inr (inl (1, 3, refl, one_at_one, refl, refl, refl))) tt
 
 -- ---- another name, and a reference less
 
@@ -64,13 +65,13 @@ fourth : Plays 3 n3 (Event.Rename 0 1 7) (Reply.Code 0) n4
 fourth =
     plays third.1 tt tt
     ((λ h. cc), ((λ h. elim h [ inl e ↦ omega (arith, e) | inr e ↦ omega (arith, e) ]), (used three_at_one, ((λ h. h (grind (gets, rules))), tt))))
-    (refl, record { target = Target.dead 3; found = three_at_one; rest = refl; tokens = λ h. refl }, refl)
+    (refl, record { target = Target.dead 3; found = three_at_one; rest = refl; tokens = λ h. refl }, refl) tt
 
 fifth : Plays 4 n4 (Event.Deallocate 0 7) (Reply.Code 0) n5
 fifth =
     plays fourth.1 tt (λ h. let e = three_at_seven in let f = h.1 in cc)
     ((λ h. cc), (used three_at_seven, ((λ h. h (subst (HasReference n4 0) (sym three_at_seven) tt)), tt)))
-    (refl, inr (inr (3, record { found = three_at_seven; rest = refl; tokens = λ h. refl }, refl)))
+    (refl, inr (inr (3, record { found = three_at_seven; rest = refl; tokens = λ h. refl }, refl))) tt
 
 -- ---- it is the one name
 
@@ -84,7 +85,7 @@ listed : (7, 0x00100000) ∷ [] ≡ names_of n5 0
 listed = sym (ap (list_map (λ e. (e.0, type_of n5 0 e.0 e.1))) (ap map.entries only_seven ∙ entries-insert nat_cmp_total map.empty 7 (Target.dead 2) ∙ ap (put nat_cmp 7 (Target.dead 2)) no_entries))
 
 sixth : Plays 5 n5 (Event.Names 0) (Reply.Names ((7, 0x00100000) ∷ [])) n5
-sixth = plays fifth.1 tt tt ((λ h. cc), tt) (listed, refl, refl)
+sixth = plays fifth.1 tt tt ((λ h. cc), tt) (refl, refl) listed
 
 seventh : Plays 6 n5 (Event.GetRefs 0 7 4) (Reply.Refs 2) n5
 seventh = references_told sixth.1 refl (Target.dead 2) two_at_seven (omega arith)
@@ -101,7 +102,7 @@ ninth_guards : NoneHolds (guards n5 (Event.Destroy 0 7))
 ninth_guards = grind (arith, used, two_at_seven)
 
 ninth : Plays 8 n5 (Event.Destroy 0 7) (Reply.Code 0) n6
-ninth = plays eighth.1 tt (λ h. elim h [ inl e ↦ (let f = two_at_seven in let g = e.1 in cc) | inr e ↦ (let f = two_at_seven in let g = e.1 in cc) ]) ninth_guards (refl, (Target.dead 2, two_at_seven, (refl, refl)))
+ninth = plays eighth.1 tt (λ h. elim h [ inl e ↦ (let f = two_at_seven in let g = e.1 in cc) | inr e ↦ (let f = two_at_seven in let g = e.1 in cc) ]) ninth_guards (refl, (Target.dead 2, two_at_seven, (refl, refl))) tt
 
 tenth : Plays 9 n6 (Event.NameType 0 7) (Reply.Code 15) n6
 tenth = no_type ninth.1 refl (grind (gets, rules))

@@ -39,7 +39,7 @@ module _ (now : ℕ) (old : State) (event : Event) (reply : Reply) (new : State)
   mid = d.mid
 
   m : MidLawful mid d.owed
-  m = Does-mid now old event reply mid d.owed d.unrefused d.does l
+  m = Does-mid now old event reply mid d.owed d.unrefused d.does d.judged l
 
   none_dies : ((p : ℕ) → ¬ (IsOrphan mid p)) → (p : ℕ) → ¬ (Dies mid p)
   none_dies none p dies = Dies-least mid (λ q. ⊥) (record { orphans = λ q is not. none q is; carried = λ q r bad at not. bad }) p dies

@@ -12,24 +12,25 @@ use Rattle.mach_types.specs.Numbers.{null_word}
 use Rattle.mach_types.specs.Tokens.{Kind, receive, send, send_once, Place, in_task, in_request, Request, Token, token, count, Moves}
 use Rattle.mach_types.specs.Messages.{Mark, to_port, null, dead, Entry}
 use Rattle.mach_types.specs.Bodies.{Through}
-use Rattle.mach_model.specs.State.{State, Target, at}
+use Rattle.mach_model.specs.State.{State, Target, at, gives}
 use Rattle.mach_model.specs.CopyIn.{IsLegal, taken_by, put_by, CopyRight}
 use Rattle.mach_model.specs.CopyOut.{given_to, GiveMark, GiveWord}
 use Rattle.mach_model.specs.Notices.{Owed, right_unused}
-use Rattle.mach_model.specs.Sets.{JoinsSet}
-use Rattle.mach_model.specs.References.{LosesOne, Deallocates, DestroysTarget, with_dead, RemovesRight, Modifies, unused as unused_of}
-use Rattle.mach_model.specs.Names.{Makes, Renames}
+use Rattle.mach_model.specs.Names.{JoinsSet, Makes, Renames}
+use Rattle.mach_model.specs.References.{LosesOne, Deallocates, DestroysTarget, with_dead, RemovesRight, Modifies, unused_among as unused_of}
 use Rattle.mach_model.specs.Requests.{GivesBack, Keeps}
 use Rattle.mach_model.specs.Receive.{Takes, DestroysFront, Receipt}
 use Rattle.mach_types.specs.Guards.{NoneHolds}
 use Rattle.mach_model.specs.Refusals.{guards}
-use Rattle.mach_model.specs.Machine.{Does, Step}
+use Rattle.mach_model.specs.Machine.{Step, Judged}
+use Rattle.mach_model.specs.Acts.{Does}
 use Rattle.mach_model.specs.Lawful.{tally, LawfulLogs, IsLawful}
 use Rattle.mach_model.specs.Midway.{MidLawful}
 use Rattle.mach_model.specs.Unused.{came_by_once}
+use Rattle.mach_model.specs.RequestRefusals.{noted_guards}
 use Rattle.mach_model.proofs.Names.{at_own, at_other}
 use Rattle.mach_model.proofs.StepLawful.{Does-mid}
-use Rattle.mach_laws.specs.Queued.{sum_below, queued, unused}
+use Rattle.mach_laws.specs.Queued.{sum_below, queued, unused_onces}
 use Rattle.mach_laws.specs.Counts.{once_rights, by_send_at, queued_by_send, MayNeedSlots}
 use Rattle.mach_laws.proofs.Steps.{Effect, Does-effect}
 use Rattle.mach_laws.proofs.Counted.{sum_one, sum_more, queue_long}
@@ -143,7 +144,7 @@ receipt_lost old task waited room large reply mid owed x = absurd x
 Does-onces : (now : ℕ) (old : State) (event : Event) (reply : Reply) (mid : State) (owed : Owed) → ¬ (MayNeedSlots event) → Does now old event reply mid owed → FewerOnces old mid owed
 Does-onces now old Event.TaskCreate (Reply.Task task) mid owed not d = same_state old mid _ owed d.0.rest refl d.1
 Does-onces now old (Event.TaskTerminate task) (Reply.Code code) mid owed not d = all_owed old.ledger mid.ledger d.1.loses.gone owed d.1.loses.moves d.1.owed_are
-Does-onces now old (Event.Allocate task right) (Reply.Name name) mid owed not d = makes_lost task right name old mid owed d.1 d.2
+Does-onces now old (Event.Allocate task right) (Reply.Name name) mid owed not d = makes_lost task right name (gives task name old) mid owed d.1 d.2
 Does-onces now old (Event.AllocateName task right name) (Reply.Name told) mid owed not d = makes_lost task right name old mid owed d.1 d.2
 Does-onces now old (Event.Deallocate task name) (Reply.Code code) mid owed not d = deallocates_lost task name old mid owed d.1
 Does-onces now old (Event.Destroy task name) (Reply.Code code) mid owed not d = target_lost task name d.1.0 old mid owed d.1.2
@@ -152,12 +153,14 @@ Does-onces now old (Event.Rename task o n) (Reply.Code code) mid owed not d = re
 Does-onces now old (Event.SetQlimit task name n) (Reply.Code code) mid owed not d = same_state old mid _ owed d.1.3 refl d.2
 Does-onces now old (Event.SetMscount task name n) (Reply.Code code) mid owed not d = same_state old mid _ owed d.2.3 refl d.3
 Does-onces now old (Event.SetSeqno task name n) (Reply.Code code) mid owed not d = same_state old mid _ owed d.2.3 refl d.3
-Does-onces now old (Event.Names task) (Reply.Names entries) mid owed not d = same_state old mid old owed d.1 refl d.2
-Does-onces now old (Event.GetRefs task name right) (Reply.Refs n) mid owed not d = same_state old mid old owed d.1 refl d.2
-Does-onces now old (Event.NameType task name) (Reply.NameType n) mid owed not d = same_state old mid old owed d.1 refl d.2
-Does-onces now old (Event.ReceiveStatus task name) (Reply.Status status) mid owed not d = same_state old mid old owed d.1 refl d.2
-Does-onces now old (Event.SetStatus task name) (Reply.Members members) mid owed not d = same_state old mid old owed d.1 refl d.2
+Does-onces now old (Event.Names task) (Reply.Names entries) mid owed not d = same_state old mid old owed d.0 refl d.1
+Does-onces now old (Event.GetRefs task name right) (Reply.Refs n) mid owed not d = same_state old mid old owed d.0 refl d.1
+Does-onces now old (Event.NameType task name) (Reply.NameType n) mid owed not d = same_state old mid old owed d.0 refl d.1
+Does-onces now old (Event.ReceiveStatus task name) (Reply.Status status) mid owed not d = same_state old mid old owed d.0 refl d.1
+Does-onces now old (Event.SetStatus task name) (Reply.Members members) mid owed not d = same_state old mid old owed d.0 refl d.1
 Does-onces now old (Event.MoveMember task member after) (Reply.Code code) mid owed not d = joins_lost task member after old mid owed d.1 d.2
+Does-onces now old (Event.InsertMember task member set) (Reply.Code code) mid owed not d = same_state old mid _ owed d.1.rest refl d.2
+Does-onces now old (Event.ExtractMember task member set) (Reply.Code code) mid owed not d = same_state old mid _ owed d.1.rest refl d.2
 Does-onces now old (Event.InsertRight task name from poly number) reply mid owed not d = absurd (not tt)
 Does-onces now old (Event.ExtractRight task name number to) reply mid owed not d = absurd (not tt)
 Does-onces now old (Event.RequestNotification task name variant sync notify number) reply mid owed not d = absurd (not tt)
@@ -220,10 +223,10 @@ module _ (old : State) (event : Event) (reply : Reply) (mid : State) (owed : Owe
 -- ---- a step
 
 -- The own part of a step of another call needs no more slots than there were, with what it owes.
-pub part_needs : (now : ℕ) (old : State) (event : Event) (reply : Reply) (mid : State) (owed : Owed) → IsLawful old → NoneHolds (guards old event) → Does now old event reply mid owed →
-    ¬ (MayNeedSlots event) → queued mid + unused mid + length owed ≤ queued old + unused old
-part_needs now old event reply mid owed l good does not =
-    let m = Does-mid now old event reply mid owed good does l in
+pub part_needs : (now : ℕ) (old : State) (event : Event) (reply : Reply) (mid : State) (owed : Owed) → IsLawful old → NoneHolds (guards old event) →
+    (does : Does now old event reply mid owed) → Judged now old event reply mid owed does → ¬ (MayNeedSlots event) → queued mid + unused_onces mid + length owed ≤ queued old + unused_onces old
+part_needs now old event reply mid owed l good does judged not =
+    let m = Does-mid now old event reply mid owed good does judged l in
     let onces = Does-onces now old event reply mid owed not does in
     let sends = fewer_by_send old event reply mid owed l m (λ task bytes is. not (subst MayNeedSlots (sym is) tt)) (Does-effect now old event reply mid owed l good does) in
     let before = needed old l.ports l.logs l.messages in
@@ -279,10 +282,11 @@ kept_or_told task name sync request q old mid owed (inr (inr h)) = same_state ol
 -- The own part of a request needs no more slots than there were, with what it owes, but one for the right that it makes.
 pub request_needs : (now : ℕ) (old : State) (task name variant sync notify number previous : ℕ) (mid : State) (owed : Owed) → IsLawful old →
     NoneHolds (guards old (Event.RequestNotification task name variant sync notify number)) →
-    Does now old (Event.RequestNotification task name variant sync notify number) (Reply.Previous previous) mid owed →
-    queued mid + unused mid + length owed ≤ queued old + unused old + made_by_request notify number
-request_needs now old task name variant sync notify number previous mid owed l good does =
-    let m = Does-mid now old event reply mid owed good does l in
+    (does : Does now old (Event.RequestNotification task name variant sync notify number) (Reply.Previous previous) mid owed) →
+    NoneHolds (noted_guards old does.copied task name variant sync notify) →
+    queued mid + unused_onces mid + length owed ≤ queued old + unused_onces old + made_by_request notify number
+request_needs now old task name variant sync notify number previous mid owed l good does judged =
+    let m = Does-mid now old event reply mid owed good does judged l in
     let onces = fewer does.copy in
     let sends = fewer_by_send old event reply mid owed l m (λ task bytes is. unsent task bytes is) (Does-effect now old event reply mid owed l good does) in
     let before = needed old l.ports l.logs l.messages in
@@ -354,15 +358,15 @@ module _ (old mid : State) (owed : Owed) (p : ℕ) (e : Entry) (l : IsLawful old
       let made = ap (sum_below (by_send_at mid)) same_made in omega (arith, less, made)
 
   -- The message's slot isn't needed any more, and neither is one for what it owes.
-  pub destroyed_needs : queued mid + unused mid + length owed + 1 ≤ queued old + unused old
+  pub destroyed_needs : queued mid + unused_onces mid + length owed + 1 ≤ queued old + unused_onces old
   destroyed_needs = grind (arith, needed, is_once_right, all_owed, cases_Bool, no_more_by_send, one_by_send)
 
 -- A step of another call needs no more slots than there were.
 pub needs_no_more : (now : ℕ) (old : State) (event : Event) (reply : Reply) (new : State) → IsLawful old → Step now old event reply new → ¬ (MayNeedSlots event) →
-    queued new + unused new ≤ queued old + unused old
-needs_no_more now old event reply new l (inl r) not = let e = ap (λ (s : State). queued s + unused s) r.same in omega (arith, e)
+    queued new + unused_onces new ≤ queued old + unused_onces old
+needs_no_more now old event reply new l (inl r) not = let e = ap (λ (s : State). queued s + unused_onces s) r.same in omega (arith, e)
 needs_no_more now old event reply new l (inr d) not =
-    let m = Does-mid now old event reply d.mid d.owed d.unrefused d.does l in
+    let m = Does-mid now old event reply d.mid d.owed d.unrefused d.does d.judged l in
     let ending = ending_needs now old d.mid d.owed new m d.settles in
-    let part = part_needs now old event reply d.mid d.owed l d.unrefused d.does not in
+    let part = part_needs now old event reply d.mid d.owed l d.unrefused d.does d.judged not in
     omega (arith, ending, part)

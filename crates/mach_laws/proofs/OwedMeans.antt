@@ -19,12 +19,12 @@ use Rattle.mach_model.specs.Tasks.{EndsTask}
 use Rattle.mach_model.specs.CopyIn.{changed_by, CopyRight}
 use Rattle.mach_model.specs.Death.{LiesAt, same_place}
 use Rattle.mach_model.specs.Notices.{Notice, no_more_senders, right_unused, name_died, Owed}
-use Rattle.mach_model.specs.References.{LosesAll, unused_once, unused, Deallocates, DestroysTarget, RemovesRight, Modifies}
+use Rattle.mach_model.specs.References.{LosesAll, unused_once, unused_among, Deallocates, DestroysTarget, RemovesRight, Modifies}
 use Rattle.mach_model.specs.Receive.{DestroysFront, Receipt}
 use Rattle.mach_model.specs.Requests.{RequestOn, GivesBack, HasNoSenders, Keeps, Requests}
 use Rattle.mach_model.specs.Refusals.{guards}
 use Rattle.mach_model.specs.Turns.{IsNameOf}
-use Rattle.mach_model.specs.Machine.{Does}
+use Rattle.mach_model.specs.Acts.{Does}
 use Rattle.mach_model.proofs.Names.{at_own, at_same, at_other, left, inserted, count_some}
 use Rattle.mach_model.proofs.Settling.{is_at, own_test}
 use Rattle.mach_model.proofs.SettledReceives.{kind_is, place_is, in_task_is}
@@ -50,19 +50,19 @@ module _ (old : State) (event : Event) (new : State) where
       (All-cons (λ (y : Token × Notice). OwedMeans old event new y.0.port y.1) (x, notice) [] means (λ k t below. absurd (omega (arith, below))))
 
   -- each right of these, if it is a send-once right
-  unused_owed : (xs : List Token) → All (λ (x : Token). x.kind ≡ send_once → WentUnused old event new x.port) xs → AllMean old event new (unused xs)
+  unused_owed : (xs : List Token) → All (λ (x : Token). x.kind ≡ send_once → WentUnused old event new x.port) xs → AllMean old event new (unused_among xs)
   unused_owed [] all = λ k t below. absurd (omega (arith, below))
   unused_owed (x ∷ xs) all = by (same_kind send_once x.kind) refl (unused_owed xs (All-tail (λ (x : Token). x.kind ≡ send_once → WentUnused old event new x.port) x xs all))
     where
-      by : (b : Bool) → same_kind send_once x.kind ≡ b → AllMean old event new (unused xs) →
+      by : (b : Bool) → same_kind send_once x.kind ≡ b → AllMean old event new (unused_among xs) →
           AllMean old event new (list_map (λ x. (x, right_unused)) (if b then x ∷ filter (λ x. same_kind send_once x.kind) xs else filter (λ x. same_kind send_once x.kind) xs))
-      by true is rest = All-cons (λ (y : Token × Notice). OwedMeans old event new y.0.port y.1) (x, right_unused) (unused xs)
+      by true is rest = All-cons (λ (y : Token × Notice). OwedMeans old event new y.0.port y.1) (x, right_unused) (unused_among xs)
           (inl (refl, All-head (λ (x : Token). x.kind ≡ send_once → WentUnused old event new x.port) x xs all (kind_is send_once x.kind is))) rest
       by false is rest = rest
 
   -- rights that leave places of which each is lost
   all_unused : (test : Token → Bool) (before after : List Token) (owed : Owed) → (x : LosesAll test before after) → ((f : Token → Bool) → count f before ≤ count f old.ledger) →
-      ((t : Token) → test t ≡ true → WasLost old event new t.place) → owed ≡ unused x.gone → AllMean old event new owed
+      ((t : Token) → test t ≡ true → WasLost old event new t.place) → owed ≡ unused_among x.gone → AllMean old event new owed
   all_unused test before after owed x le lost is = subst (AllMean old event new) (sym is) (unused_owed x.gone each)
     where
       each : All (λ (x : Token). x.kind ≡ send_once → WentUnused old event new x.port) x.gone
@@ -267,16 +267,18 @@ owed_mean now old (Event.AllocateName task right name) (Reply.Name told) mid owe
 owed_mean now old (Event.Deallocate task name) (Reply.Code code) mid owed new kept g d = deallocates old (Event.Deallocate task name) new task name mid owed refl d.1
 owed_mean now old (Event.Destroy task name) (Reply.Code code) mid owed new kept g d = destroys old (Event.Destroy task name) new task name d.1.0 mid owed refl d.1.2
 owed_mean now old (Event.ModRefs task name right delta) (Reply.Code code) mid owed new kept g d = modifies old (Event.ModRefs task name right delta) new task name right delta mid owed refl d.1
-owed_mean now old (Event.GetRefs task name right) (Reply.Refs n) mid owed new kept g d = no_owed old (Event.GetRefs task name right) new owed d.2
-owed_mean now old (Event.NameType task name) (Reply.NameType n) mid owed new kept g d = no_owed old (Event.NameType task name) new owed d.2
-owed_mean now old (Event.Names task) (Reply.Names entries) mid owed new kept g d = no_owed old (Event.Names task) new owed d.2
+owed_mean now old (Event.GetRefs task name right) (Reply.Refs n) mid owed new kept g d = no_owed old (Event.GetRefs task name right) new owed d.1
+owed_mean now old (Event.NameType task name) (Reply.NameType n) mid owed new kept g d = no_owed old (Event.NameType task name) new owed d.1
+owed_mean now old (Event.Names task) (Reply.Names entries) mid owed new kept g d = no_owed old (Event.Names task) new owed d.1
 owed_mean now old (Event.Rename task o n) (Reply.Code code) mid owed new kept g d = no_owed old (Event.Rename task o n) new owed d.2
-owed_mean now old (Event.ReceiveStatus task name) (Reply.Status status) mid owed new kept g d = no_owed old (Event.ReceiveStatus task name) new owed d.2
+owed_mean now old (Event.ReceiveStatus task name) (Reply.Status status) mid owed new kept g d = no_owed old (Event.ReceiveStatus task name) new owed d.1
 owed_mean now old (Event.SetQlimit task name n) (Reply.Code code) mid owed new kept g d = no_owed old (Event.SetQlimit task name n) new owed d.2
 owed_mean now old (Event.SetMscount task name n) (Reply.Code code) mid owed new kept g d = no_owed old (Event.SetMscount task name n) new owed d.3
 owed_mean now old (Event.SetSeqno task name n) (Reply.Code code) mid owed new kept g d = no_owed old (Event.SetSeqno task name n) new owed d.3
-owed_mean now old (Event.SetStatus task name) (Reply.Members members) mid owed new kept g d = no_owed old (Event.SetStatus task name) new owed d.2
+owed_mean now old (Event.SetStatus task name) (Reply.Members members) mid owed new kept g d = no_owed old (Event.SetStatus task name) new owed d.1
 owed_mean now old (Event.MoveMember task member after) (Reply.Code code) mid owed new kept g d = no_owed old (Event.MoveMember task member after) new owed d.2
+owed_mean now old (Event.InsertMember task member set) (Reply.Code code) mid owed new kept g d = no_owed old (Event.InsertMember task member set) new owed d.2
+owed_mean now old (Event.ExtractMember task member set) (Reply.Code code) mid owed new kept g d = no_owed old (Event.ExtractMember task member set) new owed d.2
 owed_mean now old (Event.InsertRight task name from poly number) (Reply.Code code) mid owed new kept g d = no_owed old (Event.InsertRight task name from poly number) new owed d.2
 owed_mean now old (Event.ExtractRight task name number to) (Reply.Right new_name kind) mid owed new kept g d = no_owed old (Event.ExtractRight task name number to) new owed d.1
 owed_mean now old (Event.RequestNotification task name variant sync notify number) (Reply.Previous previous) mid owed new kept g d =

@@ -18,12 +18,16 @@ use Rattle.mach_types.specs.Grammar.{port_item, NamesPorts, IsWire, WireBody, He
 use Rattle.mach_types.specs.Bodies.{reply_words, body_words, message_rights, SameReply, SameBody, Through}
 use Rattle.mach_types.specs.Guards.{NoneHolds}
 use Rattle.mach_types.specs.TextGuards.{BadHeader, header_guards, word_at}
-use Rattle.mach_model.specs.State.{State, Target, lookup, queue, Names, held, Holds, senders, at, with_name, IsFresh, opening, without_name}
+use Rattle.mach_model.specs.State.{State, Target, lookup, queue, Names, held, Holds, senders, at, with_name, IsFresh, without_name, gives, IsFreshFor}
+use Rattle.mach_model.specs.Machine.{opening, Step, Run, Judged}
 use Rattle.mach_model.specs.Receive.{waits_for, TakesFrom, IsEmptyFor, IsFront, with_taken, Receives}
 use Rattle.mach_model.specs.Notices.{Owed}
-use Rattle.mach_model.specs.Machine.{Does, Step, Run}
-use Rattle.mach_model.specs.Tasks.{IsNoTask}
-use Rattle.mach_model.specs.Names.{with_port, Makes, IsNoMaking, IsFull, type_of, with_set}
+use Rattle.mach_model.specs.Acts.{Does}
+use Rattle.mach_model.specs.NameGuards.{IsNoTask, IsSet}
+use Rattle.mach_model.specs.Names.{with_port, Makes, with_set}
+use Rattle.mach_model.specs.Refusals.{IsNoMaking, guards, Refuses}
+use Rattle.mach_model.specs.Room.{IsFull}
+use Rattle.mach_model.specs.Telling.{type_of, references, one_if, TellsMembers}
 use Rattle.mach_model.specs.CopyIn.{IsLegal, taken_by, changed_by, CopyRight}
 use Rattle.mach_model.specs.SentMeans.{target_mark}
 use Rattle.mach_model.specs.CopyOut.{GiveWord}
@@ -31,18 +35,19 @@ use Rattle.mach_model.specs.ReceivedMeans.{IsReceived}
 use Rattle.mach_model.specs.Carried.{lying, message_count}
 use Rattle.mach_model.specs.Transfer.{Inserts, pegged, Extracts}
 use Rattle.mach_model.specs.Send.{place_at, entry, Copied, Sends}
-use Rattle.mach_model.specs.References.{references}
-use Rattle.mach_model.specs.ReceiveRight.{one_if}
-use Rattle.mach_model.specs.Refusals.{guards, Refuses}
 use Rattle.mach_model.proofs.MessagesLawful.{Adds, Copied-adds}
 use Rattle.mach_model.proofs.Moving.{moving}
 use Rattle.mach_model.proofs.Names.{get_own, get_other}
 use Rattle.mach_model.proofs.Midway.{LosesNone}
 use Rattle.mach_model.proofs.StepLawful.{IsCalm, BringsNone, quiet_step, opening-calm}
-use Rattle.mach_model.specs.Sets.{without_set, TellsMembers, IsSet}
+use Rattle.mach_model.proofs.Failing.{refusal_fails}
+use Rattle.mach_model.specs.References.{without_set}
+use Rattle.mach_model.specs.SendRefusals.{sent_guards}
+use Rattle.mach_model.specs.TransferRefusals.{inserted_guards, extracted_guards}
 use Rattle.mach_laws.specs.Received.{AsksFrom}
 use Rattle.mach_laws.specs.FirstMessage.{sent_text, received_text, status_after, first_events, first_replies}
 use Rattle.mach_laws.specs.Grouping.{grouping_events, grouping_replies}
+use Rattle.mach_types.specs.declared.profiles.Profile.TheVariants.{One}
 
 -- ---- What a refusal leaves, and when a receive may answer that there is no message.
 
@@ -59,6 +64,8 @@ does_code now old (Event.InsertRight task name from poly number) code mid owed d
 does_code now old (Event.Send task bytes) code mid owed d = d.0
 does_code now old (Event.Receive task name room large) code mid owed d = absurd d.2
 does_code now old (Event.MoveMember task member after) code mid owed d = d.0
+does_code now old (Event.InsertMember task member set) code mid owed d = d.0
+does_code now old (Event.ExtractMember task member set) code mid owed d = d.0
 does_code now old event code mid owed d = absurd d
 
 -- A step that is answered with another code than 0 leaves the state.
@@ -142,7 +149,7 @@ with_inserted task name from poly p s = with_name task name (Target.port p) (wit
 
 -- a send-once right for the task's port, come out with another task under a fresh name
 abbrev pub with_extracted : (task name to new_name port : ℕ) → State → State
-with_extracted task name to new_name p s = with_name to new_name (Target.once p) (with_made MakeSendOnce p task name (in_task to) s)
+with_extracted task name to new_name p s = with_name to new_name (Target.once p) (gives to new_name (with_made MakeSendOnce p task name (in_task to) s))
 
 -- what is told of a port that is in no set
 abbrev pub status_of : State → ℕ → Status
@@ -220,26 +227,29 @@ copies_plain {new = new} no_answer null right is_kind =
 
 -- An event that is refused changes nothing.
 pub refused : {now : ℕ} {s : State} {event : Event} {code : ℕ} → IsCalm s → Refuses s event code → Plays now s event (Reply.Code code) s
-refused {code = code} l refuses = (inl (record { code = code; told = refl; refuses = refuses; same = refl }), l)
+refused {s = s} {event = event} {code = code} l refuses =
+    (inl (record { declined = record { code = code; failed = refusal_fails s event code refuses; told = refl; same = refl }; refuses = refuses }), l)
 
 -- An event that no guard refuses does its part, and no right is lost.
-pub plays : {now : ℕ} {old new : State} {event : Event} {reply : Reply} → IsCalm old → BringsNone old event new → LosesNone old event reply → NoneHolds (guards old event) → Does now old event reply new [] → Plays now old event reply new
-plays {now} {old} {new} {event} {reply} l brings none good does = grind (arith, quiet_step now old event reply new l.lawful l.quiet brings none good does)
+pub plays : {now : ℕ} {old new : State} {event : Event} {reply : Reply} → IsCalm old → BringsNone old event new → LosesNone old event reply → NoneHolds (guards old event) →
+    (does : Does now old event reply new []) → Judged now old event reply new [] does → Plays now old event reply new
+plays {now} {old} {new} {event} {reply} l brings none good does judged =
+    let x = quiet_step now old event reply new l.lawful l.quiet brings none good does judged in (x.0, record { lawful = x.1; quiet = x.2 })
 
 pub task_made : {now : ℕ} {s : State} → IsCalm s → s.tasks_made < most_tasks → Plays now s Event.TaskCreate (Reply.Task s.tasks_made) (with_task s)
-task_made {now} {s} l few = plays l tt tt ((λ dead. dead), ((λ h. omega (arith, h, few)), tt)) (record { task_is = refl; rest = refl }, refl)
+task_made {now} {s} l few = plays l tt tt ((λ dead. dead), ((λ h. omega (arith, h, few)), tt)) (record { task_is = refl; rest = refl }, refl) tt
 
-there : (s : State) (task : ℕ) → s.live_task task ≡ true → ¬ (IsNoTask s task)
+pub there : (s : State) (task : ℕ) → s.live_task task ≡ true → ¬ (IsNoTask s task)
 there s task lives h = cc
 
 module _ {now : ℕ} {s : State} (l : IsCalm s) {task : ℕ} (lives : s.live_task task ≡ true) where
   -- Of what the right's number says one is made, under a fresh name.
-  pub allocated : {right name : ℕ} {new : State} → IsFresh (s.naming task) name → map.len (s.naming task) < most_names → length s.ledger + s.ports_made + s.sets_made < most_rights →
-      Makes task right name s new → Plays now s (Event.Allocate task right) (Reply.Name name) new
+  pub allocated : {right name : ℕ} {new : State} → IsFreshFor s task name → map.len (s.naming task) < most_names → length s.ledger + s.ports_made + s.sets_made < most_rights →
+      Makes task right name (gives task name s) new → Plays now s (Event.Allocate task right) (Reply.Name name) new
   allocated {right} {name} {new} fresh room few makes =
-      plays l tt tt (there s task lives, (made makes, (not_full, tt))) (fresh, makes, refl)
+      plays l tt tt (there s task lives, (made makes, (not_full, tt))) (fresh, makes, refl) tt
     where
-      made : Makes task right name s new → ¬ (IsNoMaking right)
+      made : Makes task right name (gives task name s) new → ¬ (IsNoMaking right)
       made (inl m) h = h.0 m.0
       made (inr (inl m)) h = h.1 m.0
       made (inr (inr m)) h = h.2 m.0
@@ -249,8 +259,8 @@ module _ {now : ℕ} {s : State} (l : IsCalm s) {task : ℕ} (lives : s.live_tas
       not_full (inr (inl h)) = elim h.1 [ inl g ↦ omega (arith, g, few) | inr g ↦ omega (arith, g, few) ]
       not_full (inr (inr h)) = omega (arith, h.1, few)
 
-  pub port_allocated : {name : ℕ} → IsFresh (s.naming task) name → map.len (s.naming task) < most_names → length s.ledger + s.ports_made + s.sets_made < most_rights →
-      Plays now s (Event.Allocate task 1) (Reply.Name name) (with_receive task name s)
+  pub port_allocated : {name : ℕ} → IsFreshFor s task name → map.len (s.naming task) < most_names → length s.ledger + s.ports_made + s.sets_made < most_rights →
+      Plays now s (Event.Allocate task 1) (Reply.Name name) (with_receive task name (gives task name s))
   port_allocated fresh room few = allocated fresh room few (inl (refl, record { rest = refl; tokens = λ h. omega arith }))
 
   -- The bytes spell a message, whose rights can be copied in; none of them is a receive right.
@@ -259,7 +269,7 @@ module _ {now : ℕ} {s : State} (l : IsCalm s) {task : ℕ} (lives : s.live_tas
       length (queue copied m.destination) < copied.limit m.destination → length copied.ledger ≤ most_rights →
       Plays now s (Event.Send task bytes) (Reply.Code 0) (with_entry now m copied)
   sent {bytes} header written m copied good spells is_copied no_receive room few =
-      plays l none tt (there s task lives, good) (refl, sends, refl)
+      plays l none tt (there s task lives, good) (refl, sends, refl) unrefused
     where
       m_end : ℕ
       m_end = length (s.log m.destination)
@@ -281,12 +291,14 @@ module _ {now : ℕ} {s : State} (l : IsCalm s) {task : ℕ} (lives : s.live_tas
         m = m;
         copied_state = copied;
         copied = is_copied;
-        unrefused = (
-          (λ loop. let none = l.no_entry m.destination (length (s.log m.destination)) (omega arith) receive loop.0 in let e = no_receive loop.0 in let lies = loop.1 in omega (arith, none, e, lies)),
-          ((λ full. omega (arith, full.1, room)), ((λ many. omega (arith, many, few)), tt)),
-        );
         rest = refl;
       }
+
+      unrefused : NoneHolds (sent_guards m (place_at s m.destination) copied)
+      unrefused = (
+        (λ loop. let none = l.no_entry m.destination (length (s.log m.destination)) (omega arith) receive loop.0 in let e = no_receive loop.0 in let lies = loop.1 in omega (arith, none, e, lies)),
+        ((λ full. omega (arith, full.1, room)), ((λ many. omega (arith, many, few)), tt)),
+      )
 
   -- The front message of the port under the name is received.
   pub received : {name p room : ℕ} {bytes : List ℕ} {new : State} → lookup s task name ≡ Some (Target.port p) → Holds s task receive p → s.sets_of p ≡ [] → Receives task p room bytes s new →
@@ -294,20 +306,34 @@ module _ {now : ℕ} {s : State} (l : IsCalm s) {task : ℕ} (lives : s.live_tas
   received {name} {p} {room} {bytes} {new} found holds alone receives =
       plays l tt tt
       (there s task lives, ((λ h. h (inl (p, found, holds))), ((λ h. h.2 (ap s.sets_of (one_port (lookup s task name) h.0 p h.1 found) ∙ alone)), tt)))
-      (Waited.Port p, (found, holds), (p, (refl, holds, alone), receives, refl))
+      (Waited.Port p, (found, holds), (p, (refl, holds, alone), receives, refl)) tt
 
   pub type_told : {name : ℕ} (target : Target) → lookup s task name ≡ Some target → Plays now s (Event.NameType task name) (Reply.NameType (type_of s task name target)) s
-  type_told {name} target found = grind (arith, plays, there, used)
+  type_told {name} target found = plays l tt tt (there s task lives, (used found, tt)) (refl, refl) (target, found, refl)
 
   pub no_type : {name : ℕ} → lookup s task name ≡ None → Plays now s (Event.NameType task name) (Reply.Code 15) s
   no_type none = refused l (inl (inr (there s task lives, inl (none, refl))))
 
   pub references_told : {name right : ℕ} (target : Target) → lookup s task name ≡ Some target → right ≤ 4 →
       Plays now s (Event.GetRefs task name right) (Reply.Refs (references s task target right)) s
-  references_told {name} {right} target found is_right = grind (arith, plays, there, used)
+  references_told {name} {right} target found is_right =
+      plays l tt tt (there s task lives, ((λ h. omega (arith, h, is_right)), (used found, tt))) (refl, refl) (target, found, refl)
 
   pub status_told : {name : ℕ} (p : ℕ) → lookup s task name ≡ Some (Target.port p) → Holds s task receive p → s.sets_of p ≡ [] → Plays now s (Event.ReceiveStatus task name) (Reply.Status (status_of s p)) s
-  status_told {name} p found holds alone = grind (arith, plays, there, used)
+  status_told {name} p found holds alone =
+      plays l tt tt (there s task lives, (used found, ((λ h. h (p, found, holds)), tt))) (refl, refl) (record {
+        p = p;
+        found = found;
+        set = inl (alone, refl);
+        sequence = refl;
+        make_send = refl;
+        limit = refl;
+        queued = refl;
+        send_once = refl;
+        has_send = refl;
+        port_destroyed = refl;
+        no_senders = refl;
+      })
 
   -- A send right is made for another task's port, and put into the task under a name that it has not.
   pub send_inserted : {name from poly : ℕ} (p : ℕ) → s.live_task from ≡ true → lookup s from poly ≡ Some (Target.port p) → Holds s from receive p →
@@ -325,7 +351,7 @@ module _ {now : ℕ} {s : State} (l : IsCalm s) {task : ℕ} (lives : s.live_tas
           ),
         ),
       )
-      (refl, inserts, refl)
+      (refl, inserts, refl) unrefused
     where
       no_null : poly ≡ null_word → ⊥
       no_null e = used found (ap (lookup s from) e ∙ (l.naming from).not_null)
@@ -338,15 +364,17 @@ module _ {now : ℕ} {s : State} (l : IsCalm s) {task : ℕ} (lives : s.live_tas
         p = p;
         copied = with_made MakeSend p from poly (in_task task) s;
         copy = makes p MakeSend refl found holds refl refl;
-        unrefused = (
-          (λ h. let has = (l.naming task).has_right h.1.0 p h.1.2 in omega (arith, has, unheld)),
-          ((λ h. h.0 unused), ((λ h. omega (arith, h, few_references)), ((λ h. elim h [ inl e ↦ omega (arith, e.0, room) | inr e ↦ omega (arith, e, few) ]), tt))),
-        );
         named = inr (unused, refl);
       }
 
+      unrefused : NoneHolds (inserted_guards inserts.copied task name p (kind_sent inserts.copy.given))
+      unrefused = (
+        (λ h. let has = (l.naming task).has_right h.1.0 p h.1.2 in omega (arith, has, unheld)),
+        ((λ h. h.0 unused), ((λ h. omega (arith, h, few_references)), ((λ h. elim h [ inl e ↦ omega (arith, e.0, room) | inr e ↦ omega (arith, e, few) ]), tt))),
+      )
+
   -- A send-once right is made for the task's port, and comes out with a task under a fresh name.
-  pub once_extracted : {name to new_name : ℕ} (p : ℕ) → s.live_task to ≡ true → lookup s task name ≡ Some (Target.port p) → Holds s task receive p → IsFresh (s.naming to) new_name →
+  pub once_extracted : {name to new_name : ℕ} (p : ℕ) → s.live_task to ≡ true → lookup s task name ≡ Some (Target.port p) → Holds s task receive p → IsFreshFor s to new_name →
       map.len (s.naming to) < most_names → length s.ledger < most_rights → pegged to p (with_made MakeSendOnce p task name (in_task to) s) ≡ [] →
       Plays now s (Event.ExtractRight task name 21 to) (Reply.Right new_name 18) (with_extracted task name to new_name p s)
   once_extracted {name} {to} {new_name} p to_lives found holds fresh room few none =
@@ -357,20 +385,22 @@ module _ {now : ℕ} {s : State} (l : IsCalm s) {task : ℕ} (lives : s.live_tas
           (used found, ((λ h. elim h [ inl e ↦ e (MakeSendOnce, Target.port p, refl, found, holds) | inr e ↦ let f = found in let g = e.1 in cc ]), tt)),
         ),
       )
-      (extracts, refl)
+      (extracts, refl) unrefused
     where
       extracts : Extracts task name 21 to new_name 18 s (with_extracted task name to new_name p s)
       extracts = record {
         p = p;
         copied = with_made MakeSendOnce p task name (in_task to) s;
         copy = makes p MakeSendOnce refl found holds refl refl;
-        unrefused = ((λ h. elim h [ inl e ↦ omega (arith, e.0, room) | inr e ↦ omega (arith, e, few) ]), tt);
         kind_is = refl;
         named_state = with_extracted task name to new_name p s;
         named = record { room = room; fresh = fresh; rest = refl };
         rest = refl;
         tokens = λ h. (let e = ap (weigh h) none in omega (arith, e));
       }
+
+      unrefused : NoneHolds (extracted_guards extracts.copied to p (kind_sent extracts.copy.given))
+      unrefused = ((λ h. elim h [ inl e ↦ omega (arith, e.0, room) | inr e ↦ omega (arith, e, few) ]), tt)
 
 -- A receipt of the port's front message: what is under which names afterwards, and so the bytes.
 pub receives : {task p room : ℕ} {bytes : List ℕ} {old new : State} (remote_kind remote local : ℕ) (e : Entry) (written : WireBody) (ledger : List Token) → IsFront old p e →
@@ -409,7 +439,7 @@ abbrev pub s2 : State
 s2 = with_receive 0 1 s1
 
 pub first : Plays 0 opening Event.TaskCreate (Reply.Task 0) s1
-first = task_made opening-calm (omega arith)
+first = task_made (opening-calm One) (omega arith)
 
 pub second : Plays 1 s1 (Event.Allocate 0 1) (Reply.Name 1) s2
 second = port_allocated first.1 refl fresh_one (grind (gets, rules)) (omega arith)
@@ -486,7 +516,7 @@ fourth_guards : NoneHolds (guards g3 (Event.MoveMember 0 1 2))
 fourth_guards = grind (arith, used, one_named, set_named, is_set)
 
 fourth_grouped : Plays 3 g3 (Event.MoveMember 0 1 2) (Reply.Code 0) g4
-fourth_grouped = plays third_grouped.1 tt tt fourth_guards (refl, (0, one_named, inr (0, set_named, refl)), refl)
+fourth_grouped = plays third_grouped.1 tt tt fourth_guards (refl, (0, one_named, inr (0, set_named, refl)), refl) tt
 
 -- no other name is a port's
 named_one : (n p : ℕ) → lookup g4 0 n ≡ Some (Target.port p) → 1 ≡ n
@@ -506,7 +536,7 @@ members : TellsMembers g4 0 2 (1 ∷ [])
 members = grind (arith, set_named, one_of, one_named, named_one)
 
 fifth_grouped : Plays 4 g4 (Event.SetStatus 0 2) (Reply.Members (1 ∷ [])) g4
-fifth_grouped = plays fourth_grouped.1 tt tt ((λ h. cc), (used set_named, ((λ h. h is_set), tt))) (members, refl, refl)
+fifth_grouped = plays fourth_grouped.1 tt tt ((λ h. cc), (used set_named, ((λ h. h is_set), tt))) (refl, refl) members
 
 -- ---- by the port there is none
 
@@ -543,13 +573,13 @@ takes =
 ninth : Plays 8 g5 (Event.Receive 0 2 24 false) (Reply.Message received_text) g6
 ninth =
     plays eighth.1 tt tt ((λ h. cc), ((λ h. h (inr is_set)), ((λ h. no_port h.0 h.1), tt)))
-    (Waited.Set 0, set_named, (0, (refl, (0, omega arith, refl)), takes, refl))
+    (Waited.Set 0, set_named, (0, (refl, (0, omega arith, refl)), takes, refl)) tt
 
 none_left : (p : ℕ) → TakesFrom g6 0 (Waited.Set 0) p → queue g6 p ≡ []
 none_left p t = elim (eqb_tells p 0) [ inl h ↦ rw h.0 refl | inr h ↦ rw h.0 refl ]
 
 tenth : Plays 9 g6 (Event.ReceiveAgain 0 (Waited.Set 0) 24 false) (Reply.Empty (Waited.Set 0)) g6
-tenth = plays ninth.1 tt tt ((λ h. cc), ((λ h. cc), ((λ h. h refl), tt))) (refl, none_left, refl, refl)
+tenth = plays ninth.1 tt tt ((λ h. cc), ((λ h. cc), ((λ h. h refl), tt))) (refl, none_left, refl, refl) tt
 
 -- ---- the set goes
 
@@ -559,7 +589,7 @@ g7 = without_set 0 (without_name 0 2 g6)
 eleventh : Plays 10 g6 (Event.Destroy 0 2) (Reply.Code 0) g7
 eleventh =
     plays tenth.1 tt (λ h. elim h [ inl g ↦ no_port g.0 g.1 | inr g ↦ no_once g.0 g.1 ]) ((λ h. cc), (used set_named, tt))
-    (refl, (Target.set 0, set_named, (refl, refl)))
+    (refl, (Target.set 0, set_named, (refl, refl))) tt
 
 twelfth : Plays 11 g7 (Event.ReceiveAgain 0 (Waited.Set 0) 24 false) (Reply.Code 0x10004009) g7
 twelfth = refused eleventh.1 (inl (inr ((λ h. cc), inl (refl, refl))))

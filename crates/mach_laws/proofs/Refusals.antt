@@ -4,7 +4,8 @@ use Rattle.std.specs.Prelude.{if◌then◌else◌, ◌==◌, nat_lt, MatchBool, 
 use Rattle.std.proofs.lemmas.Bool.Decides.{eqb_tells}
 use Rattle.mach_types.specs.declared.rights.Disposition.{Disposition}
 use Rattle.mach_types.specs.declared.rights.Disposition.TheVariants.{MoveReceive, MoveSend, MoveSendOnce, CopySend, MakeSend, MakeSendOnce}
-use Rattle.mach_types.specs.Numbers.{disposition, kind_sent, kern_number, msg_number}
+use Rattle.mach_types.specs.Numbers.{disposition, kind_sent}
+use Rattle.mach_types.specs.Codes.{kern_number, msg_number}
 use Rattle.mach_types.specs.Tokens.{Kind, receive, send, Place, Token, count, is_held, Moves, in_message, is_of, send_once}
 use Rattle.mach_types.specs.Messages.{Mark, ReplyRight, absent, present, Body, to_port, Message, Form, short, long}
 use Rattle.mach_types.specs.Grammar.{WireBody, Header, word, words_text, descriptor_text, Wire, data_item, port_item, wire_text, wires_text, body_text, bits, FitsForm, NamesPorts, IsWire, IsWireBody, IsHeader, Spells}
@@ -20,9 +21,11 @@ use Rattle.mach_model.specs.SentMeans.{IsSent, target_mark}
 use Rattle.mach_model.specs.CopyIn.{IsLegal, taken_by, put_by, name_kept, changed_by, CopyRight, CopyWord, CopyReply, CopyCarried, CopyBody}
 use Rattle.mach_model.proofs.Settling.{IsReordered}
 use Rattle.mach_model.proofs.Walks.{SameBody-each}
-use Rattle.mach_model.specs.Death.{same_place, Reaches, here, there}
-use Rattle.mach_model.specs.Transfer.{inserted_guards, extracted_guards, CopyRefuses}
-use Rattle.mach_model.specs.Send.{place_at, Copied, ClosesLoop, sent_guards, IsLegalName, IsBadWord, IsRefused, DestinationRefuses, ReplyRefuses, BodyRefuses, WholeRefuses, RightsRefuse}
+use Rattle.mach_model.specs.Death.{same_place}
+use Rattle.mach_model.specs.SendRefusals.{there, here, Reaches, ClosesLoop, sent_guards, IsBadWord, IsRefused, DestinationRefuses, ReplyRefuses, BodyRefuses, WholeRefuses, RightsRefuse}
+use Rattle.mach_model.specs.TransferRefusals.{CopyRefuses, extracted_guards, inserted_guards}
+use Rattle.mach_model.specs.Send.{place_at, Copied}
+use Rattle.mach_model.specs.NameGuards.{IsLegalName}
 use Rattle.mach_model.proofs.Names.{length-weigh}
 use Rattle.mach_model.specs.Refusals.{Refuses}
 use Rattle.mach_model.specs.Machine.{Step}

@@ -100,12 +100,12 @@ eighth_requests = record {
   back = w8_copied;
   copy = inr ((λ e. cc), (0, makes 0 MakeSendOnce refl own_found (omega arith) refl refl, inr (inr ((λ h. omega (arith, h.0)), (λ n is at. cc), refl, refl))));
   on = inr (inl (refl, (2, lent_found, refl)));
-  unrefused = port_noted w7 w8_copied 0 3 70 0 1 2 (inr refl) lent_found (omega arith) (omega arith) (grind (gets, rules));
   given_back = inl (seventh.1.quiet.none_stands asked, refl, refl);
 }
 
 eighth : Step 7 w7 (Event.RequestNotification 0 3 70 0 1 21) (Reply.Previous 0) w8 × IsLawful w8
-eighth = requested asked 0 [] seventh.1 eighth_guards eighth_requests (λ h. omega arith) refl (λ p. omega arith) (λ p. omega arith) (not_made w7.stands asked)
+unfolding eighth_requests
+eighth = requested asked 0 [] seventh.1 eighth_guards eighth_requests (port_noted w7 w8_copied 0 3 70 0 1 2 (inr refl) lent_found (omega arith) (omega arith) (grind (gets, rules))) (λ h. omega arith) refl (λ p. omega arith) (λ p. omega arith) (not_made w7.stands asked)
 
 own_asked : lookup w8 0 1 ≡ Some (Target.port 0)
 own_asked = grind (gets, rules)
@@ -128,7 +128,7 @@ good : NoneHolds (guards w8 (Event.Destroy 1 1))
 good = ((λ h. cc), (used other_named, tt))
 
 mid : MidLawful w10_mid []
-mid = Does-mid 9 w8 (Event.Destroy 1 1) (Reply.Code 0) w10_mid [] good (refl, destroys) eighth.1
+mid = Does-mid 9 w8 (Event.Destroy 1 1) (Reply.Code 0) w10_mid [] good (refl, destroys) tt eighth.1
 
 abbrev begun : Ending
 begun = start [] w10_mid.ledger
@@ -172,7 +172,7 @@ abbrev w10 : State
 w10 = end_of 9 w10_mid told
 
 dies : Leads 9 w8 w10_mid (Event.Destroy 1 1) (Reply.Code 0) w10
-dies = ends eighth.1 good (refl, destroys) told reached done
+dies = ends eighth.1 good (refl, destroys) tt told reached done
 
 tenth : Plays 9 w8 (Event.Destroy 1 1) (Reply.Code 0) w10
 tenth = grind (arith, dies, none_carried, not_carried, none_stand_after, alone)

@@ -23,7 +23,7 @@ use Rattle.mach_model.specs.References.{Deallocates, DestroysTarget, RemovesRigh
 use Rattle.mach_model.specs.Requests.{GivesBack, Keeps, Requests}
 use Rattle.mach_model.specs.Receive.{DestroysFront, Receipt}
 use Rattle.mach_model.specs.Refusals.{guards}
-use Rattle.mach_model.specs.Machine.{Does}
+use Rattle.mach_model.specs.Acts.{Does}
 use Rattle.mach_model.specs.Lawful.{IsLawful, IsRight}
 use Rattle.mach_model.proofs.Names.{at_same, at_other, left, inserted}
 use Rattle.mach_model.proofs.StepReceives.{Does-receives}

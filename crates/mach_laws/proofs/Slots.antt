@@ -24,9 +24,9 @@ use Rattle.mach_model.specs.Work.{IsBounded, deaths}
 use Rattle.mach_model.proofs.Settling.{Dies-least, kind_refl, lives, stays_with}
 use Rattle.mach_model.proofs.SettledDetermined.{pays, place_stays, none_weigh, notices_sum, determined}
 use Rattle.mach_model.proofs.TurnsSettle.{DiesUnder, IsPaidAt, HasGone, IsSound, all_saved, dies_after, end_of, all_posted}
-use Rattle.mach_model.proofs.TurnsCounted.{reached_sound, reached_counted, IsCounted}
+use Rattle.mach_model.proofs.TurnsCounted.{reached_sound, reached_counted, AreTurnsCounted}
 use Rattle.mach_model.proofs.TurnsBounded.{turns_end}
-use Rattle.mach_laws.specs.Queued.{sum_below, waiting, queued, unused}
+use Rattle.mach_laws.specs.Queued.{sum_below, waiting, queued, unused_onces}
 use Rattle.mach_laws.specs.Counts.{once_rights, by_send_at, queued_by_send, destroyed}
 use Rattle.mach_laws.proofs.Counted.{sum_same, sum_one, sum_both, queue_long, Settles-counted}
 
@@ -92,7 +92,7 @@ module _ (s : State) (ports : LawfulPorts s.live_port s.ports_made s.ledger) (lo
   unmade : (p : ℕ) → s.ports_made ≤ p → count (is_of send_once p) s.ledger ≡ 0
   unmade p above = grind arith
 
-  pub needed : queued s + unused s ≡ once_rights s + queued_by_send s
+  pub needed : queued s + unused_onces s ≡ once_rights s + queued_by_send s
   needed = grind (
     arith,
     sum_both (waiting s) (unused_at s) (λ p. count (is_of send_once p) s.ledger) (by_send_at s) s.ports_made (λ p within. at_port p (s.live_port p) refl),
@@ -176,7 +176,7 @@ module _ (now : ℕ) (old mid : State) (owed : Owed) (new : State) (l : MidLawfu
   fewer_by_send = grind (arith, sum_fewer, same_by_send)
 
   -- What a step's end needs.
-  pub ending_needs : queued new + unused new ≤ queued mid + unused mid + length owed
+  pub ending_needs : queued new + unused_onces new ≤ queued mid + unused_onces mid + length owed
   ending_needs =
       let after = settled_lawful now old mid owed new l s in
       let a = needed new after.ports after.logs after.messages in
@@ -385,7 +385,7 @@ module _ (now : ℕ) (old mid : State) (owed : Owed) (e : Ending) (new : State) 
   sound : IsSound old mid owed e
   sound = reached_sound old mid owed e r
 
-  counted : IsCounted mid e
+  counted : AreTurnsCounted mid e
   counted = reached_counted old mid owed e r
 
   chain : State
@@ -634,7 +634,7 @@ module _ (now : ℕ) (old mid : State) (owed : Owed) (new : State) (l : MidLawfu
   all_by_send = grind (arith, sum_fewer, more_by_send)
 
   -- Where a step's own part lost no port, its end needs just the slots that this part needs, with what it owes.
-  pub ending_needs_all : queued new + unused new ≡ queued mid + unused mid + length owed
+  pub ending_needs_all : queued new + unused_onces new ≡ queued mid + unused_onces mid + length owed
   ending_needs_all =
       let after = settled_lawful now old mid owed new l s in
       let most = ending_needs now old mid owed new l s in

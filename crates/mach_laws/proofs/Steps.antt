@@ -11,8 +11,8 @@ use Rattle.mach_types.specs.declared.calls.Waited.{Waited}
 use Rattle.mach_types.specs.Guards.{NoneHolds}
 use Rattle.mach_types.specs.Tokens.{receive, in_message, token, is_of, is_held, same_kind}
 use Rattle.mach_types.specs.Messages.{Message, Entry, asof}
-use Rattle.mach_model.specs.State.{State, Holds, at, opening, queue}
-use Rattle.mach_model.specs.Sets.{JoinsSet}
+use Rattle.mach_model.specs.State.{State, Holds, at, queue, gives, opening_in}
+use Rattle.mach_model.specs.Names.{JoinsSet}
 use Rattle.mach_model.specs.Transfer.{Inserts, Extracts}
 use Rattle.mach_model.specs.Send.{Sends, entry}
 use Rattle.mach_model.specs.Receive.{TakesFrom, Receives, IsFront, DestroysFront}
@@ -20,7 +20,8 @@ use Rattle.mach_model.specs.Notices.{Owed}
 use Rattle.mach_model.specs.Settles.{Settles}
 use Rattle.mach_model.specs.ReceivedMeans.{ReceivedMeans}
 use Rattle.mach_model.specs.Refusals.{guards}
-use Rattle.mach_model.specs.Machine.{Does, Refused, Done, Step, RunFrom}
+use Rattle.mach_model.specs.Machine.{Refused, Done, Step, RunFrom}
+use Rattle.mach_model.specs.Acts.{Does}
 use Rattle.mach_model.specs.Lawful.{IsLawful}
 use Rattle.mach_model.specs.Midway.{MidLawful}
 use Rattle.mach_model.proofs.Names.{at_other, at_own, both_test, lying_le_of, snoc_cases}
@@ -28,17 +29,19 @@ use Rattle.mach_model.proofs.Settling.{kind_refl, lives}
 use Rattle.mach_model.proofs.Moving.{shape}
 use Rattle.mach_model.proofs.MessagesLawful.{Sends-adds, Receives-removes, hands_shape}
 use Rattle.mach_model.proofs.StepLawful.{Does-mid, TakesFrom-holds, TakesFrom-live, not_false, opening-lawful, Step-lawful, Run-lawful}
+use Rattle.mach_model.proofs.NamesLawful.{gives-lawful}
 use Rattle.mach_model.specs.SentMeans.{SentMeans}
-use Rattle.mach_laws.specs.Paths.{Stage, PathFrom, Path}
+use Rattle.mach_laws.specs.Paths.{Stage, PathBy}
 use Rattle.mach_laws.specs.Notices.{Tells, IsToldBy}
 use Rattle.mach_laws.specs.Sent.{Accepts}
-use Rattle.mach_laws.specs.Received.{AsksFrom, WasSentOrTold}
-use Rattle.mach_laws.specs.Delivered.{Delivers}
-use Rattle.mach_laws.specs.Order.{unless_large, if_taken, new_entries, IsSentBy, Comes, came, front_entry, went, InOrder}
+use Rattle.mach_laws.specs.Received.{AsksFrom, GivesWhatCame, CameBy, Delivers, IsSentBy}
+use Rattle.mach_laws.specs.Order.{unless_large, if_taken, new_entries, Comes, came, front_entry, went, InOrder}
 use Rattle.mach_laws.specs.Counts.{accepts, takes_from}
+use Rattle.mach_laws.specs.JudgedPaths.{JudgedPath}
 use Rattle.mach_laws.proofs.Untouched.{Untouched, by_same, makes_untouched, deallocates_untouched, destroys_untouched, modifies_untouched, renames_untouched, ends_untouched, requests_untouched, one_destination, same_send}
 use Rattle.mach_laws.proofs.Meanings.{done_tells, tells_nothing, ends_kindly, front_or_behind, Sends-means, Gives, Receives-means, Receives-received, ReceivedMeans-later}
 use Rattle.mach_laws.proofs.Refusals.{same_code, send_code}
+use Rattle.mach_types.specs.declared.profiles.Profile.{Profile}
 
 -- ---- What one step from a lawful state does to the logs, and takes from them.
 
@@ -163,7 +166,8 @@ pub Does-effect : (now : ℕ) (old : State) (event : Event) (reply : Reply) (mid
     Does now old event reply mid owed → Effect old event reply mid
 Does-effect now old Event.TaskCreate (Reply.Task task) mid owed l g d = inl (by_same old mid _ d.0.rest (λ p. refl) (λ p. refl) (λ p. refl) refl, refl, refl)
 Does-effect now old (Event.TaskTerminate task) (Reply.Code code) mid owed l g d = inl (ends_untouched task old mid owed d.1, refl, refl)
-Does-effect now old (Event.Allocate task right) (Reply.Name name) mid owed l g d = inl (makes_untouched task right name old mid l d.1, refl, refl)
+Does-effect now old (Event.Allocate task right) (Reply.Name name) mid owed l g d =
+    let u = makes_untouched task right name (gives task name old) mid (gives-lawful task name old l) d.1 in inl (record { log = u.log; taken = u.taken; live = u.live; made = u.made }, refl, refl)
 Does-effect now old (Event.AllocateName task right name) (Reply.Name told) mid owed l g d = inl (makes_untouched task right name old mid l d.1, refl, refl)
 Does-effect now old (Event.Deallocate task name) (Reply.Code code) mid owed l g d = inl (deallocates_untouched task name old mid owed d.1, refl, refl)
 Does-effect now old (Event.Destroy task name) (Reply.Code code) mid owed l g d = inl (destroys_untouched task name old mid owed d.1, refl, refl)
@@ -172,13 +176,15 @@ Does-effect now old (Event.Rename task o n) (Reply.Code code) mid owed l g d = i
 Does-effect now old (Event.SetQlimit task name n) (Reply.Code code) mid owed l g d = inl (by_same old mid _ d.1.3 (λ p. refl) (λ p. refl) (λ p. refl) refl, refl, refl)
 Does-effect now old (Event.SetMscount task name n) (Reply.Code code) mid owed l g d = inl (by_same old mid _ d.2.3 (λ p. refl) (λ p. refl) (λ p. refl) refl, refl, refl)
 Does-effect now old (Event.SetSeqno task name n) (Reply.Code code) mid owed l g d = inl (by_same old mid _ d.2.3 (λ p. refl) (λ p. refl) (λ p. refl) refl, refl, refl)
-Does-effect now old (Event.Names task) (Reply.Names entries) mid owed l g d = inl (by_same old mid old d.1 (λ p. refl) (λ p. refl) (λ p. refl) refl, refl, refl)
-Does-effect now old (Event.GetRefs task name right) (Reply.Refs n) mid owed l g d = inl (by_same old mid old d.1 (λ p. refl) (λ p. refl) (λ p. refl) refl, refl, refl)
-Does-effect now old (Event.NameType task name) (Reply.NameType n) mid owed l g d = inl (by_same old mid old d.1 (λ p. refl) (λ p. refl) (λ p. refl) refl, refl, refl)
-Does-effect now old (Event.ReceiveStatus task name) (Reply.Status status) mid owed l g d = inl (by_same old mid old d.1 (λ p. refl) (λ p. refl) (λ p. refl) refl, refl, refl)
-Does-effect now old (Event.SetStatus task name) (Reply.Members members) mid owed l g d = inl (by_same old mid old d.1 (λ p. refl) (λ p. refl) (λ p. refl) refl, refl, refl)
+Does-effect now old (Event.Names task) (Reply.Names entries) mid owed l g d = inl (by_same old mid old d.0 (λ p. refl) (λ p. refl) (λ p. refl) refl, refl, refl)
+Does-effect now old (Event.GetRefs task name right) (Reply.Refs n) mid owed l g d = inl (by_same old mid old d.0 (λ p. refl) (λ p. refl) (λ p. refl) refl, refl, refl)
+Does-effect now old (Event.NameType task name) (Reply.NameType n) mid owed l g d = inl (by_same old mid old d.0 (λ p. refl) (λ p. refl) (λ p. refl) refl, refl, refl)
+Does-effect now old (Event.ReceiveStatus task name) (Reply.Status status) mid owed l g d = inl (by_same old mid old d.0 (λ p. refl) (λ p. refl) (λ p. refl) refl, refl, refl)
+Does-effect now old (Event.SetStatus task name) (Reply.Members members) mid owed l g d = inl (by_same old mid old d.0 (λ p. refl) (λ p. refl) (λ p. refl) refl, refl, refl)
 Does-effect now old (Event.MoveMember task member after) (Reply.Code code) mid owed l g d =
     inl (by_same old mid _ (joined_rest task member after old mid d.1) (λ p. refl) (λ p. refl) (λ p. refl) refl, refl, refl)
+Does-effect now old (Event.InsertMember task member set) (Reply.Code code) mid owed l g d = inl (by_same old mid _ d.1.rest (λ p. refl) (λ p. refl) (λ p. refl) refl, refl, refl)
+Does-effect now old (Event.ExtractMember task member set) (Reply.Code code) mid owed l g d = inl (by_same old mid _ d.1.rest (λ p. refl) (λ p. refl) (λ p. refl) refl, refl, refl)
 Does-effect now old (Event.InsertRight task name from poly number) (Reply.Code code) mid owed l g d =
     inl (by_same old mid _ (inserted_shape task name from poly number old mid l g d.1) (λ p. refl) (λ p. refl) (λ p. refl) refl, refl, refl)
 Does-effect now old (Event.ExtractRight task name number to) (Reply.Right new_name kind) mid owed l g d =
@@ -347,7 +353,7 @@ Step-delivers now old event bytes new l (inl r) = absurd (no_code bytes r.code r
     no_code : (bytes : List ℕ) (code : ℕ) → Reply.Message bytes ≡ Reply.Code code → ⊥
     no_code bytes code e = cc
 Step-delivers now old event bytes new l (inr d) =
-    Does-delivers now old event bytes d.mid d.owed new l d.unrefused d.does (Does-mid now old event (Reply.Message bytes) d.mid d.owed d.unrefused d.does l) d.settles
+    Does-delivers now old event bytes d.mid d.owed new l d.unrefused d.does (Does-mid now old event (Reply.Message bytes) d.mid d.owed d.unrefused d.does d.judged l) d.settles
 
 -- ---- what a step takes
 
@@ -383,7 +389,7 @@ Step-taken now old event reply new l (inr d) = by (Does-effect now old event rep
 -- the stages of a run
 pub record Staged (now : ℕ) (old : State) (events : List Event) (replies : List Reply) (new : State) : Type 0 where
   pub path : List Stage
-  pub is_path : PathFrom now old path new
+  pub is_path : PathBy Step now old path new
   pub events_are : list_map (λ (x : Stage). x.event) path ≡ events
   pub replies_are : list_map (λ (x : Stage). x.reply) path ≡ replies
 
@@ -401,7 +407,7 @@ run_stages now old (e ∷ es) (x ∷ xs) new r =
 run_stages now old [] (x ∷ xs) new r = absurd r
 run_stages now old (e ∷ es) [] new r = absurd r
 
-pub path_runs : (now : ℕ) (old : State) (path : List Stage) (new : State) → PathFrom now old path new →
+pub path_runs : (now : ℕ) (old : State) (path : List Stage) (new : State) → PathBy Step now old path new →
     RunFrom now old (list_map (λ (x : Stage). x.event) path) (list_map (λ (x : Stage). x.reply) path) new
 path_runs now old [] new h = h
 path_runs now old (x ∷ xs) new h =
@@ -409,20 +415,20 @@ path_runs now old (x ∷ xs) new h =
 
 -- a path goes on by one stage
 pub path_push : (now : ℕ) (old : State) (path : List Stage) (s : State) (event : Event) (reply : Reply) (t : State) →
-    PathFrom now old path s → Step (now + length path) s event reply t → PathFrom now old (path ++ record { before = s; event = event; reply = reply; after = t } ∷ []) t
+    PathBy Step now old path s → Step (now + length path) s event reply t → PathBy Step now old (path ++ record { before = s; event = event; reply = reply; after = t } ∷ []) t
 path_push now old [] s event reply t path step = (path, subst (λ (n : ℕ). Step n s event reply t) (omega arith) step, refl)
 path_push now old (x ∷ xs) s event reply t path step =
     (path.0, path.1, path_push (now + 1) x.after xs s event reply t path.2 (subst (λ (n : ℕ). Step n s event reply t) (omega arith) step))
 
-pub path_lawful : (path : List Stage) (s : State) → Path path s → IsLawful s
-path_lawful path s is = Run-lawful (list_map (λ (x : Stage). x.event) path) (list_map (λ (x : Stage). x.reply) path) s (path_runs 0 opening path s is)
+pub path_lawful : (profile : Profile) (path : List Stage) (s : State) → JudgedPath profile path s → IsLawful s
+path_lawful profile path s is = Run-lawful profile (list_map (λ (x : Stage). x.event) path) (list_map (λ (x : Stage). x.reply) path) s (path_runs 0 (opening_in profile) path s is)
 
 -- ---- what holds of each state
 
 -- What every step keeps holds before each stage of the path, and at its end.
 module _ (full : List Stage) (P : ℕ → State → Type 0)
     (keeps : (now : ℕ) (x : Stage) → slice_get full now ≡ Some x → Step now x.before x.event x.reply x.after → P now x.before → P (now + 1) x.after) where
-  walk : (now : ℕ) (old : State) (rest : List Stage) (new : State) → ((j : ℕ) → slice_get rest j ≡ slice_get full (now + j)) → PathFrom now old rest new → P now old →
+  walk : (now : ℕ) (old : State) (rest : List Stage) (new : State) → ((j : ℕ) → slice_get rest j ≡ slice_get full (now + j)) → PathBy Step now old rest new → P now old →
       ((j : ℕ) (x : Stage) → slice_get rest j ≡ Some x → P (now + j) x.before × Step (now + j) x.before x.event x.reply x.after) × P (now + length rest) new
   walk now old [] new same path holds = grind arith
   walk now old (y ∷ ys) new same path holds =
@@ -446,95 +452,49 @@ module _ (full : List Stage) (P : ℕ → State → Type 0)
       at before rest (suc j) x is =
           subst (λ (n : ℕ). P n x.before × Step n x.before x.event x.reply x.after) (omega arith) (rest j x is)
 
-  pub at_stages : (s : State) → Path full s → P 0 opening → (k : ℕ) (x : Stage) → slice_get full k ≡ Some x → P k x.before × Step k x.before x.event x.reply x.after
-  at_stages s path holds k x is =
+  pub at_stages : (profile : Profile) (s : State) → JudgedPath profile full s → P 0 (opening_in profile) → (k : ℕ) (x : Stage) → slice_get full k ≡ Some x → P k x.before × Step k x.before x.event x.reply x.after
+  at_stages profile s path holds k x is =
       subst (λ (n : ℕ). P n x.before × Step n x.before x.event x.reply x.after) (omega arith)
-      ((walk 0 opening full s (λ j. ap (slice_get full) (omega arith)) path holds).0 k x is)
+      ((walk 0 (opening_in profile) full s (λ j. ap (slice_get full) (omega arith)) path holds).0 k x is)
 
-  pub at_end : (s : State) → Path full s → P 0 opening → P (length full) s
-  at_end s path holds = subst (λ (n : ℕ). P n s) (omega arith) (walk 0 opening full s (λ j. ap (slice_get full) (omega arith)) path holds).1
+  pub at_end : (profile : Profile) (s : State) → JudgedPath profile full s → P 0 (opening_in profile) → P (length full) s
+  at_end profile s path holds = subst (λ (n : ℕ). P n s) (omega arith) (walk 0 (opening_in profile) full s (λ j. ap (slice_get full) (omega arith)) path holds).1
 
 -- each state that a run passes is lawful
-pub stage_lawful : (path : List Stage) (s : State) → Path path s → (k : ℕ) (x : Stage) → slice_get path k ≡ Some x → IsLawful x.before × Step k x.before x.event x.reply x.after
-stage_lawful path s is = at_stages path (λ n t. IsLawful t) (λ now x at step l. Step-lawful now x.before x.event x.reply x.after step l) s is opening-lawful
+pub stage_lawful : (profile : Profile) (path : List Stage) (s : State) → JudgedPath profile path s → (k : ℕ) (x : Stage) → slice_get path k ≡ Some x → IsLawful x.before × Step k x.before x.event x.reply x.after
+stage_lawful profile path s is = at_stages path (λ n t. IsLawful t) (λ now x at step l. Step-lawful now x.before x.event x.reply x.after step l) profile s is (opening-lawful profile)
 
 -- ---- Each message that is received was sent by an earlier stage of the run, or is a notice that one made.
 
--- An entry of a port's log, at this place, was put there by a stage before.
-record WasAccepted (full : List Stage) (now p k : ℕ) (e : Entry) : Type 0 where
-  earlier : e.origin < now
-  sending : Stage
-  is_stage : slice_get full e.origin ≡ Some sending
-  sender : ℕ
-  sent : List ℕ
-  event : sending.event ≡ Event.Send sender sent
-  reply : sending.reply ≡ Reply.Code 0
-  meant : SentMeans (sending.before.naming sender) sent e.message
-  here : e.message.destination ≡ p
-  place : k ≡ length (sending.before.log p)
-
--- An entry of a port's log, at this place, is a notice of a stage before.
-record WasPosted (full : List Stage) (now p k : ℕ) (e : Entry) : Type 0 where
-  earlier : e.origin < now
-  telling : Stage
-  is_stage : slice_get full e.origin ≡ Some telling
-  told : IsToldBy e.origin telling.before telling.event telling.reply telling.after p k e
-
+-- where an entry of a port's log, at this place, came from: a stage before
 abbrev IsFrom : (full : List Stage) (now p k : ℕ) (e : Entry) → Type 0
-IsFrom full now p k e = WasAccepted full now p k e ⊎ WasPosted full now p k e
+IsFrom full now p k e = (e.origin < now) × CameBy full p k e
 
 record Known (full : List Stage) (now : ℕ) (s : State) : Type 0 where
   lawful : IsLawful s
   from : (p k : ℕ) (e : Entry) → slice_get (s.log p) k ≡ Some e → IsFrom full now p k e
 
 later : (full : List Stage) (now p k : ℕ) (e : Entry) → IsFrom full now p k e → IsFrom full (now + 1) p k e
-later full now p k e (inr w) = inr (record { earlier = let h = w.earlier in omega (arith, h); telling = w.telling; is_stage = w.is_stage; told = w.told })
-later full now p k e (inl w) = inl (record {
-  earlier = let h = w.earlier in omega (arith, h);
-  sending = w.sending;
-  is_stage = w.is_stage;
-  sender = w.sender;
-  sent = w.sent;
-  event = w.event;
-  reply = w.reply;
-  meant = w.meant;
-  here = w.here;
-  place = w.place;
-})
+later full now p k e w = (let h = w.0 in omega (arith, h), w.1)
 
 -- the entry that a stage accepts
 just_accepted : (full : List Stage) (now : ℕ) (x : Stage) → slice_get full now ≡ Some x → (a : AcceptsBy now x.before x.event x.reply x.after) →
-    WasAccepted full (now + 1) a.accepts.m.destination (length (x.before.log a.accepts.m.destination)) (entry now a.accepts.m)
-just_accepted full now x is a = record {
-  earlier = omega arith;
-  sending = x;
-  is_stage = is;
-  sender = a.task;
-  sent = a.bytes;
-  event = a.is_event;
-  reply = a.is_reply;
-  meant = a.accepts.means;
-  here = refl;
-  place = refl;
-}
+    IsFrom full (now + 1) a.accepts.m.destination (length (x.before.log a.accepts.m.destination)) (entry now a.accepts.m)
+just_accepted full now x is a =
+    (omega arith, (x, is, inl (record { sender = a.task; sent = a.bytes; event = a.is_event; reply = a.is_reply; meant = a.accepts.means; here = refl }, refl)))
 
 -- the notices that a stage makes
-just_told : (full : List Stage) (now : ℕ) (x : Stage) (p k : ℕ) (e : Entry) → slice_get full now ≡ Some x → IsToldBy now x.before x.event x.reply x.after p k e → WasPosted full (now + 1) p k e
+just_told : (full : List Stage) (now : ℕ) (x : Stage) (p k : ℕ) (e : Entry) → slice_get full now ≡ Some x → IsToldBy now x.before x.event x.reply x.after p k e → IsFrom full (now + 1) p k e
 just_told full now x p k e is told =
     let same : e.origin ≡ now = ap (λ (y : Entry). y.origin) told.is_notice in
-    record {
-      earlier = omega (arith, same);
-      telling = x;
-      is_stage = ap (slice_get full) same ∙ is;
-      told = subst (λ (n : ℕ). IsToldBy n x.before x.event x.reply x.after p k e) (sym same) told;
-    }
+    (omega (arith, same), (x, ap (slice_get full) same ∙ is, inr (subst (λ (n : ℕ). IsToldBy n x.before x.event x.reply x.after p k e) (sym same) told)))
 
 -- what stands behind these entries in a log after a stage
 from_log : (full : List Stage) (now : ℕ) (x : Stage) (p : ℕ) (before : List Entry) → slice_get full now ≡ Some x → Tells now x.before x.event x.reply x.after p before →
     ((k : ℕ) (e : Entry) → slice_get before k ≡ Some e → IsFrom full (now + 1) p k e) → (k : ℕ) (e : Entry) → slice_get (x.after.log p) k ≡ Some e → IsFrom full (now + 1) p k e
 from_log full now x p before is t there k e at = elim (front_or_behind before t.told k e (ap (λ (xs : List Entry). slice_get xs k) (sym t.log) ∙ at)) [
   | inl h ↦ there k e h
-  | inr h ↦ inr (just_told full now x p k e is (subst (λ (n : ℕ). IsToldBy now x.before x.event x.reply x.after p n e) (sym h.1) (t.are_told h.0 e h.2)))
+  | inr h ↦ just_told full now x p k e is (subst (λ (n : ℕ). IsToldBy now x.before x.event x.reply x.after p n e) (sym h.1) (t.are_told h.0 e h.2))
 ]
 
 stays_known : (full : List Stage) (now : ℕ) (x : Stage) → slice_get full now ≡ Some x → Step now x.before x.event x.reply x.after → Known full now x.before → Known full (now + 1) x.after
@@ -551,8 +511,8 @@ stays_known full now x is step known = record {
         slice_get (x.before.log a.accepts.m.destination ++ entry now a.accepts.m ∷ []) k ≡ Some e → IsFrom full (now + 1) a.accepts.m.destination k e
     sent_there a k e at = elim (snoc_cases (x.before.log a.accepts.m.destination) (entry now a.accepts.m) k e at) [
       | inl g ↦ old a.accepts.m.destination k e g.1
-      | inr g ↦ inl (subst (λ (f : Entry). WasAccepted full (now + 1) a.accepts.m.destination k f) (sym g.1)
-          (subst (λ (n : ℕ). WasAccepted full (now + 1) a.accepts.m.destination n (entry now a.accepts.m)) (sym g.0) (just_accepted full now x is a)))
+      | inr g ↦ subst (λ (f : Entry). IsFrom full (now + 1) a.accepts.m.destination k f) (sym g.1)
+          (subst (λ (n : ℕ). IsFrom full (now + 1) a.accepts.m.destination n (entry now a.accepts.m)) (sym g.0) (just_accepted full now x is a))
     ]
 
     by_logs : (p : ℕ) → ((p : ℕ) → Tells now x.before x.event x.reply x.after p (x.before.log p)) × IsNoSend x.event x.reply ⊎ AcceptsBy now x.before x.event x.reply x.after →
@@ -564,52 +524,19 @@ stays_known full now x is step known = record {
       | inr h ↦ from_log full now x p (x.before.log p) is (stage_tells now x a p _ (a.accepts.others p h.1)) (old p)
     ]
 
-nothing_known : (full : List Stage) → Known full 0 opening
-nothing_known full = grind (arith, opening-lawful)
+nothing_known : (profile : Profile) (full : List Stage) → Known full 0 (opening_in profile)
+nothing_known profile full = record { lawful = opening-lawful profile; from = λ p k e at. absurd (no_entry k e at) }
+  where
+    no_entry : (k : ℕ) (e : Entry) → slice_get [] k ≡ Some e → ⊥
+    no_entry k e at = cc
 
 -- what a stage delivers was accepted before, or told
-delivered : (full : List Stage) (k : ℕ) (bytes : List ℕ) (x : Stage) → Known full k x.before → (d : Delivers x.event bytes x.before x.after) → WasSentOrTold full k bytes x
-delivered full k bytes x known d = by (known.from d.port (x.before.taken d.port) d.e d.front)
-  where
-    by : IsFrom full k d.port (x.before.taken d.port) d.e → WasSentOrTold full k bytes x
-    by (inl w) = inl (record {
-      origin = d.e.origin;
-      earlier = w.earlier;
-      sending = w.sending;
-      is_stage = w.is_stage;
-      sender = w.sender;
-      sent = w.sent;
-      event = w.event;
-      reply = w.reply;
-      m = d.e.message;
-      meant = w.meant;
-      receiver = d.task;
-      means = d.means;
-      front = subst (λ (p : ℕ). IsFront x.before p d.e) (sym w.here) d.front;
-      place = subst (λ (p : ℕ). x.before.taken p ≡ length (w.sending.before.log p)) (sym w.here) w.place;
-      asks = subst (AsksFrom x.before x.event d.task) (sym w.here) d.asks;
-      taken = subst (λ (p : ℕ). x.after.taken p ≡ x.before.taken p + 1) (sym w.here) d.taken;
-      others = subst (λ (p : ℕ). (q : ℕ) → q ≢ p → x.after.taken q ≡ x.before.taken q) (sym w.here) d.others;
-    })
-    by (inr w) = inr (record {
-      origin = d.e.origin;
-      earlier = w.earlier;
-      telling = w.telling;
-      is_stage = w.is_stage;
-      port = d.port;
-      e = d.e;
-      told = w.told;
-      front = d.front;
-      receiver = d.task;
-      means = subst (λ (m : Message). ReceivedMeans d.task x.before x.after bytes (asof x.after.live_port m)) (ap (λ (y : Entry). y.message) w.told.is_notice) d.means;
-      asks = d.asks;
-      taken = d.taken;
-      others = d.others;
-    })
+delivered : (full : List Stage) (k : ℕ) (bytes : List ℕ) (x : Stage) → Known full k x.before → (d : Delivers x.event bytes x.before x.after) → GivesWhatCame full k bytes x
+delivered full k bytes x known d = let w = known.from d.port (x.before.taken d.port) d.e d.front in record { delivers = d; earlier = w.0; came = w.1 }
 
-pub path_told : (path : List Stage) (s : State) → Path path s → (k : ℕ) (bytes : List ℕ) (x : Stage) → slice_get path k ≡ Some x → x.reply ≡ Reply.Message bytes → WasSentOrTold path k bytes x
-path_told path s is k bytes x at reply =
-    let h = at_stages path (Known path) (stays_known path) s is (nothing_known path) k x at in
+pub path_told : (profile : Profile) (path : List Stage) (s : State) → JudgedPath profile path s → (k : ℕ) (bytes : List ℕ) (x : Stage) → slice_get path k ≡ Some x → x.reply ≡ Reply.Message bytes → GivesWhatCame path k bytes x
+path_told profile path s is k bytes x at reply =
+    let h = at_stages path (Known path) (stays_known path) profile s is (nothing_known profile path) k x at in
     let step = subst (λ (r : Reply). Step k x.before x.event r x.after) reply h.1 in
     delivered path k bytes x h.0 (Step-delivers k x.before x.event bytes x.after h.0.lawful step)
 
@@ -715,7 +642,7 @@ stage_takes now x p l step = go (Step-taken now x.before x.event x.reply x.after
 
 -- ---- over all stages
 
-path_comes : (now : ℕ) (old : State) (path : List Stage) (new : State) (p : ℕ) → IsLawful old → PathFrom now old path new → new.log p ≡ old.log p ++ came p path
+path_comes : (now : ℕ) (old : State) (path : List Stage) (new : State) (p : ℕ) → IsLawful old → PathBy Step now old path new → new.log p ≡ old.log p ++ came p path
 path_comes now old [] new p l path = ap (λ (s : State). s.log p) path ∙ sym (append-nil (old.log p))
 path_comes now old (x ∷ xs) new p l path =
     let before : IsLawful x.before = subst IsLawful (sym path.0) l in
@@ -725,7 +652,7 @@ path_comes now old (x ∷ xs) new p l path =
     more ∙ ap (λ (ys : List Entry). ys ++ came p xs) one ∙ append_assoc (x.before.log p) (new_entries p x) (came p xs) in
     subst (λ (s : State). new.log p ≡ s.log p ++ (new_entries p x ++ came p xs)) path.0 all
 
-path_takes : (now : ℕ) (old : State) (path : List Stage) (new : State) (p : ℕ) → IsLawful old → PathFrom now old path new →
+path_takes : (now : ℕ) (old : State) (path : List Stage) (new : State) (p : ℕ) → IsLawful old → PathBy Step now old path new →
     take (new.taken p) (new.log p) ≡ take (old.taken p) (old.log p) ++ went p path
 path_takes now old [] new p l path = ap (λ (s : State). take (s.taken p) (s.log p)) path ∙ sym (append-nil (take (old.taken p) (old.log p)))
 path_takes now old (x ∷ xs) new p l path =
@@ -740,13 +667,13 @@ path_takes now old (x ∷ xs) new p l path =
     more ∙ ap (λ (ys : List Entry). ys ++ went p xs) (kept ∙ one.takes) ∙ append_assoc (take (x.before.taken p) (x.before.log p)) (if_taken x.event x.reply (front_entry p x)) (went p xs) in
     subst (λ (s : State). take (new.taken p) (new.log p) ≡ take (s.taken p) (s.log p) ++ (if_taken x.event x.reply (front_entry p x) ++ went p xs)) path.0 all
 
-pub path_ordered : (path : List Stage) (s : State) → Path path s → (p : ℕ) → InOrder p path s
-path_ordered path s is p =
-    let log : came p path ≡ s.log p = sym (path_comes 0 opening path s p opening-lawful is) in
-    let taken : went p path ≡ take (s.taken p) (s.log p) = sym (path_takes 0 opening path s p opening-lawful is) in
+pub path_ordered : (profile : Profile) (path : List Stage) (s : State) → JudgedPath profile path s → (p : ℕ) → InOrder p path s
+path_ordered profile path s is p =
+    let log : came p path ≡ s.log p = sym (path_comes 0 (opening_in profile) path s p (opening-lawful profile) is) in
+    let taken : went p path ≡ take (s.taken p) (s.log p) = sym (path_takes 0 (opening_in profile) path s p (opening-lawful profile) is) in
     record {
       log = log;
-      each = λ k x at. (let h = stage_lawful path s is k x at in stage_comes k x p h.0 h.1);
+      each = λ k x at. (let h = stage_lawful profile path s is k x at in stage_comes k x p h.0 h.1);
       taken = taken;
       whole = ap (λ (xs : List Entry). xs ++ queue s p) taken ∙ take-append-drop (s.taken p) (s.log p) ∙ sym log;
     }

@@ -10,8 +10,7 @@ use Rattle.mach_types.specs.Guards.{NoneHolds}
 use Rattle.mach_types.specs.Tokens.{send_once, no_senders, dead_name, in_task, in_request, token}
 use Rattle.mach_types.specs.Grammar.{WireBody, word}
 use Rattle.mach_model.specs.State.{State, Target, lookup, with_name, without_name, IsFresh}
-use Rattle.mach_model.specs.References.{HasReference}
-use Rattle.mach_model.specs.Sets.{IsSet}
+use Rattle.mach_model.specs.NameGuards.{HasReference, IsSet}
 use Rattle.mach_model.specs.Requests.{Requests}
 use Rattle.mach_model.specs.Notices.{right_unused, no_more_senders, name_died}
 use Rattle.mach_model.specs.Refusals.{guards}
@@ -45,7 +44,7 @@ none_stands = without_stands 0 2 t3.stands third.1.quiet.none_stands
 fourth : Plays 3 t3 (Event.Deallocate 0 2) (Reply.Code 0) t4
 fourth =
     tells send_once 0 (in_task 0) right_unused third.1 ((λ h. cc), (used once_named, ((λ h. h (subst (HasReference t3 0) (sym once_named) tt)), tt)))
-    (refl, inr (inl (0, record { found = once_named; rest = refl; tokens = λ h. omega arith }, refl)))
+    (refl, inr (inl (0, record { found = once_named; rest = refl; tokens = λ h. omega arith }, refl))) tt
     (loses_once third.1 0 0 (λ h. omega arith) refl none_stands) refl (λ place. refl)
 
 four_named : lookup t4 0 1 ≡ Some (Target.port 0)
@@ -84,12 +83,12 @@ sixth_requests = record {
   back = t6_copied;
   copy = inr ((λ e. cc), (0, makes 0 MakeSendOnce refl five_named (omega arith) refl refl, inl (0, refl, (omega arith, omega arith), (λ h. omega arith), refl, refl)));
   on = inr (inl (refl, (0, five_named, refl)));
-  unrefused = port_noted t5 t6_copied 0 1 70 0 1 0 (inr refl) five_named (omega arith) (omega arith) (grind (gets, rules));
   given_back = inl (third.1.quiet.none_stands (no_senders 0), refl, refl);
 }
 
 sixth : Plays 5 t5 (Event.RequestNotification 0 1 70 0 1 21) (Reply.Previous 0) t6
-sixth = tells send_once 0 (in_request (no_senders 0)) (no_more_senders 0) fifth.1 sixth_guards sixth_requests (keeps_rights fifth.1 (λ h. omega arith) refl none_stands) refl (λ place. refl)
+unfolding sixth_requests
+sixth = tells send_once 0 (in_request (no_senders 0)) (no_more_senders 0) fifth.1 sixth_guards sixth_requests (port_noted t5 t6_copied 0 1 70 0 1 0 (inr refl) five_named (omega arith) (omega arith) (grind (gets, rules))) (keeps_rights fifth.1 (λ h. omega arith) refl none_stands) refl (λ place. refl)
 
 abbrev t7 : State
 t7 = without_front 0 s2.ledger t6
@@ -149,24 +148,15 @@ ninth_requests = record {
   back = t9_copied;
   copy = inr ((λ e. cc), (0, makes 0 MakeSendOnce refl eight_named (omega arith) refl refl, inr (inl (1, refl, one_dead, (λ h. omega arith), refl, refl))));
   on = inr (inr (refl, refl));
-  unrefused = (
-    used one_dead,
-    (
-      (λ h. elim h [ inl e ↦ elim e.0 [ inl f ↦ omega (arith, f) | inr f ↦ omega (arith, f) ] | inr e ↦ subst IsSet one_dead e.1 ]),
-      (
-        (λ h. elim h.2 [ inl e ↦ omega (arith, e) | inr e ↦ omega (arith, e) ]),
-        ((λ h. let e = as_many (lookup t8 0 2) 1 65535 one_dead h.1 in omega (arith, e)), ((λ h. elim h [ inl e ↦ omega (arith, e) | inr e ↦ omega (arith, e.0, few) ]), tt)),
-      ),
-    ),
-  );
   given_back = inl (seventh.1.quiet.none_stands (dead_name 0 2), refl, refl);
 }
-  where
-    few : map.len (t8.naming 0) < 65535
-    few = grind (gets, rules)
+
+few : map.len (t8.naming 0) < 65535
+few = grind (gets, rules)
 
 ninth : Plays 8 t8 (Event.RequestNotification 0 2 72 1 1 21) (Reply.Previous 0) t9
-ninth = tells send_once 0 (in_request (dead_name 0 2)) (name_died 2) eighth.1 ninth_guards ninth_requests (keeps_rights eighth.1 (λ h. omega arith) refl none_stands) refl (λ place. refl)
+unfolding ninth_requests
+ninth = tells send_once 0 (in_request (dead_name 0 2)) (name_died 2) eighth.1 ninth_guards ninth_requests (used one_dead, ((λ h. elim h [ inl e ↦ elim e.0 [ inl f ↦ omega (arith, f) | inr f ↦ omega (arith, f) ] | inr e ↦ subst IsSet one_dead e.1 ]), ((λ h. elim h.2 [ inl e ↦ omega (arith, e) | inr e ↦ omega (arith, e) ]), ((λ h. let e = as_many (lookup t8 0 2) 1 65535 one_dead h.1 in omega (arith, e)), ((λ h. elim h [ inl e ↦ omega (arith, e) | inr e ↦ omega (arith, e.0, few) ]), tt))))) (keeps_rights eighth.1 (λ h. omega arith) refl none_stands) refl (λ place. refl)
 
 nine_named : lookup t9 0 1 ≡ Some (Target.port 0)
 nine_named = grind (gets, rules)

@@ -5,7 +5,7 @@ use Rattle.std.specs.FinMap.{gets}
 use Rattle.mach_types.specs.declared.calls.Event.{Event}
 use Rattle.mach_types.specs.declared.calls.Reply.{Reply}
 use Rattle.mach_types.specs.declared.rights.Disposition.TheVariants.{MakeSendOnce}
-use Rattle.mach_types.specs.Numbers.{request_bit}
+use Rattle.mach_types.specs.Rights.{request_bit}
 use Rattle.mach_types.specs.Guards.{NoneHolds}
 use Rattle.mach_types.specs.Tokens.{receive, send, send_once, Request, dead_name, in_task, in_request, token}
 use Rattle.mach_types.specs.Grammar.{WireBody, word}
@@ -50,15 +50,15 @@ sixth_requests = record {
   back = t6_copied;
   copy = inr ((λ e. cc), (0, makes 0 MakeSendOnce refl own_named (omega arith) refl refl, inr (inr ((λ h. h), (λ n is at. let f = sender_named in cc), refl, refl))));
   on = inr (inr (refl, refl));
-  unrefused = name_noted x5 t6_copied 0 2 0 1 1 sender_named (omega arith) (grind (gets, rules));
   given_back = inl (fifth.1.quiet.none_stands asked, refl, refl);
 }
 
 sixth : Step 5 x5 (Event.RequestNotification 0 2 72 0 1 21) (Reply.Previous 0) t6 × IsLawful t6
-sixth = requested asked 0 [] fifth.1 sixth_guards sixth_requests (λ h. omega arith) refl (λ p. omega arith) (λ p. omega arith) (not_made x5.stands asked)
+unfolding sixth_requests
+sixth = requested asked 0 [] fifth.1 sixth_guards sixth_requests (name_noted x5 t6_copied 0 2 0 1 1 sender_named (omega arith) (grind (gets, rules))) (λ h. omega arith) refl (λ p. omega arith) (λ p. omega arith) (not_made x5.stands asked)
 
 seventh : Step 6 t6 (Event.NameType 0 2) (Reply.NameType 0x80010000) t6
-seventh = looked sixth.1 ((λ h. cc), (used sender_named, tt)) ((Target.port 1, sender_named, refl), refl, refl)
+seventh = looked sixth.1 ((λ h. cc), (used sender_named, tt)) (refl, refl) (Target.port 1, sender_named, refl)
 
 -- ---- the port dies
 
@@ -72,7 +72,7 @@ good : NoneHolds (guards t6 (Event.Destroy 1 1))
 good = ((λ h. cc), (used other_named, tt))
 
 mid : MidLawful t8_mid []
-mid = Does-mid 7 t6 (Event.Destroy 1 1) (Reply.Code 0) t8_mid [] good (refl, destroys) sixth.1
+mid = Does-mid 7 t6 (Event.Destroy 1 1) (Reply.Code 0) t8_mid [] good (refl, destroys) tt sixth.1
 
 own_mid : lookup t8_mid 0 1 ≡ Some (Target.port 0)
 own_mid = grind (gets, rules)
@@ -111,7 +111,7 @@ abbrev t8 : State
 t8 = end_of 7 t8_mid buried
 
 dies : Leads 7 t6 t8_mid (Event.Destroy 1 1) (Reply.Code 0) t8
-dies = ends sixth.1 good (refl, destroys) buried reached done
+dies = ends sixth.1 good (refl, destroys) tt buried reached done
 
 eighth : Plays 7 t6 (Event.Destroy 1 1) (Reply.Code 0) t8
 eighth = grind (arith, dies, none_carried, not_carried, none_stand_after, alone, sender_mid)

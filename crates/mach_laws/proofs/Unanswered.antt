@@ -74,7 +74,7 @@ good : NoneHolds (guards u6 (Event.Destroy 1 1))
 good = ((λ h. cc), (used other_named, tt))
 
 mid : MidLawful u7_mid []
-mid = Does-mid 6 u6 (Event.Destroy 1 1) (Reply.Code 0) u7_mid [] good (refl, destroys) sixth.1.lawful
+mid = Does-mid 6 u6 (Event.Destroy 1 1) (Reply.Code 0) u7_mid [] good (refl, destroys) tt sixth.1.lawful
 
 abbrev begun : Ending
 begun = start [] u7_mid.ledger
@@ -108,7 +108,7 @@ abbrev u7 : State
 u7 = end_of 6 u7_mid buried
 
 dies : Leads 6 u6 u7_mid (Event.Destroy 1 1) (Reply.Code 0) u7
-dies = ends sixth.1.lawful good (refl, destroys) buried reached done
+dies = ends sixth.1.lawful good (refl, destroys) tt buried reached done
 
 seventh : Plays 6 u6 (Event.Destroy 1 1) (Reply.Code 0) u7
 seventh = grind (arith, dies, not_carried, none_stands)

@@ -12,7 +12,7 @@ use Rattle.mach_types.specs.Numbers.{disposition, null_word}
 use Rattle.mach_types.specs.Tokens.{Kind, receive, send, send_once, Place, in_task, in_message, in_request, Request, port_destroyed, Token, token, weigh, count, is_of, is_in_task, is_held, Moves}
 use Rattle.mach_types.specs.Messages.{Mark, to_port, null, dead, ReplyRight, absent, present, Entry}
 use Rattle.mach_types.specs.Bodies.{Through}
-use Rattle.mach_model.specs.State.{State, Target, queue, with_name, without_name}
+use Rattle.mach_model.specs.State.{State, Target, queue, with_name, without_name, gives}
 use Rattle.mach_model.specs.Death.{Dies, IsOrphan, IsSentAway}
 use Rattle.mach_model.specs.Notices.{Owed}
 use Rattle.mach_model.specs.Settles.{Settles}
@@ -20,13 +20,13 @@ use Rattle.mach_model.specs.CopyIn.{IsLegal, name_kept, changed_by, taken_by, pu
 use Rattle.mach_model.specs.CopyOut.{given_to, NamedFor, GiveRight, GiveMark, GiveWord}
 use Rattle.mach_model.specs.Send.{Sends}
 use Rattle.mach_model.specs.Receive.{Takes, DestroysFront, Receipt}
-use Rattle.mach_model.specs.Sets.{JoinsSet}
-use Rattle.mach_model.specs.References.{LosesOne, Deallocates, DestroysTarget, RemovesRight, Modifies, unused as unused_of}
-use Rattle.mach_model.specs.Names.{Makes, Renames}
+use Rattle.mach_model.specs.Names.{JoinsSet, Makes, Renames}
+use Rattle.mach_model.specs.References.{LosesOne, Deallocates, DestroysTarget, RemovesRight, Modifies, unused_among as unused_of}
 use Rattle.mach_model.specs.Transfer.{Inserts, Extracts}
 use Rattle.mach_model.specs.Requests.{GivesBack, Keeps, Requests}
 use Rattle.mach_model.specs.Refusals.{guards}
-use Rattle.mach_model.specs.Machine.{Does, Done}
+use Rattle.mach_model.specs.Machine.{Done}
+use Rattle.mach_model.specs.Acts.{Does}
 use Rattle.mach_model.specs.Lawful.{tally, IsLawful}
 use Rattle.mach_model.specs.Midway.{MidLawful}
 use Rattle.mach_model.specs.Work.{number, total, work_in, has_died, deaths, destroyed_with, is_spent_at, is_spent, IsBounded}
@@ -37,6 +37,7 @@ use Rattle.mach_model.proofs.TurnsSettle.{dies_unsaved}
 use Rattle.mach_laws.specs.Counts.{accepts}
 use Rattle.mach_laws.proofs.Steps.{Effect, Does-effect}
 use Rattle.mach_model.proofs.TurnsBounded.{total_fewer, total_zero, total_both, number_same, one_at, owed_at}
+use Rattle.mach_model.proofs.NamesLawful.{gives-lawful}
 use Rattle.mach_laws.proofs.Counted.{queue_long}
 use Rattle.mach_laws.proofs.Slots.{none_dies}
 
@@ -355,28 +356,38 @@ modifies_leave now old task name right delta code mid owed l g is (inr (inl x)) 
 modifies_leave now old task name right delta code mid owed l g is (inr (inr (inl x))) = inl (refl, same_ledger old mid old owed x.2 refl refl x.3)
 modifies_leave now old task name right delta code mid owed l g is (inr (inr (inr x))) = inl (refl, removes_lost right task name x.0 old mid owed x.3)
 
+fresh_leave : (now : ℕ) (old mid : State) (owed : Owed) → IsLawful old → (event : Event) (reply : Reply) → accepts event reply ≡ 0 → ((p : ℕ) → ¬ (IsOrphan mid p)) → (task right name : ℕ) →
+    Makes task right name (gives task name old) mid → owed ≡ [] → Leaves old event reply mid owed
+fresh_leave now old mid owed l event reply unsent received task right name m none =
+    elim (makes_leave now (gives task name old) mid owed (gives-lawful task name old l) event reply unsent received task right name m none) [
+      | inl x ↦ inl (x.0, record { made = x.1.made; fewer = x.1.fewer })
+      | inr x ↦ inr (record { received = x.received; few = x.few })
+    ]
+
 Does-leaves : (now : ℕ) (old : State) (event : Event) (reply : Reply) (mid : State) (owed : Owed) → IsLawful old → NoneHolds (guards old event) → Does now old event reply mid owed →
     Leaves old event reply mid owed
 Does-leaves now old Event.TaskCreate (Reply.Task task) mid owed l g d = inl (refl, same_ledger old mid _ owed d.0.rest refl refl d.1)
 Does-leaves now old (Event.TaskTerminate task) (Reply.Code code) mid owed l g d =
     inl (refl, all_lost old mid d.1.loses.gone owed (ap (λ (s : State). s.ports_made) d.1.rest) d.1.loses.moves (let a = ap length d.1.owed_are in let b = unused_few d.1.loses.gone in omega (arith, a, b)))
 Does-leaves now old (Event.Allocate task right) (Reply.Name name) mid owed l g d =
-    makes_leave now old mid owed l (Event.Allocate task right) (Reply.Name name) refl (Does-receives now old (Event.Allocate task right) (Reply.Name name) mid owed tt g d l) task right name d.1 d.2
+    fresh_leave now old mid owed l (Event.Allocate task right) (Reply.Name name) refl (Does-receives now old (Event.Allocate task right) (Reply.Name name) mid owed tt g d l) task right name d.1 d.2
 Does-leaves now old (Event.AllocateName task right name) (Reply.Name told) mid owed l g d =
     makes_leave now old mid owed l (Event.AllocateName task right name) (Reply.Name told) refl (Does-receives now old (Event.AllocateName task right name) (Reply.Name told) mid owed tt g d l) task right name d.1 d.2
 Does-leaves now old (Event.Deallocate task name) (Reply.Code code) mid owed l g d = inl (refl, deallocates_lost task name old mid owed d.1)
 Does-leaves now old (Event.Destroy task name) (Reply.Code code) mid owed l g d = inl (refl, target_lost task name d.1.0 old mid owed d.1.2)
 Does-leaves now old (Event.ModRefs task name right delta) (Reply.Code code) mid owed l g d = modifies_leave now old task name right delta code mid owed l g d.0 d.1
-Does-leaves now old (Event.GetRefs task name right) (Reply.Refs n) mid owed l g d = inl (refl, same_ledger old mid old owed d.1 refl refl d.2)
-Does-leaves now old (Event.NameType task name) (Reply.NameType n) mid owed l g d = inl (refl, same_ledger old mid old owed d.1 refl refl d.2)
-Does-leaves now old (Event.Names task) (Reply.Names entries) mid owed l g d = inl (refl, same_ledger old mid old owed d.1 refl refl d.2)
+Does-leaves now old (Event.GetRefs task name right) (Reply.Refs n) mid owed l g d = inl (refl, same_ledger old mid old owed d.0 refl refl d.1)
+Does-leaves now old (Event.NameType task name) (Reply.NameType n) mid owed l g d = inl (refl, same_ledger old mid old owed d.0 refl refl d.1)
+Does-leaves now old (Event.Names task) (Reply.Names entries) mid owed l g d = inl (refl, same_ledger old mid old owed d.0 refl refl d.1)
 Does-leaves now old (Event.Rename task o n) (Reply.Code code) mid owed l g d = inl (refl, renames_lost task o n old mid owed d.1 d.2)
-Does-leaves now old (Event.ReceiveStatus task name) (Reply.Status status) mid owed l g d = inl (refl, same_ledger old mid old owed d.1 refl refl d.2)
+Does-leaves now old (Event.ReceiveStatus task name) (Reply.Status status) mid owed l g d = inl (refl, same_ledger old mid old owed d.0 refl refl d.1)
 Does-leaves now old (Event.SetQlimit task name n) (Reply.Code code) mid owed l g d = inl (refl, same_ledger old mid _ owed d.1.3 refl refl d.2)
 Does-leaves now old (Event.SetMscount task name n) (Reply.Code code) mid owed l g d = inl (refl, same_ledger old mid _ owed d.2.3 refl refl d.3)
 Does-leaves now old (Event.SetSeqno task name n) (Reply.Code code) mid owed l g d = inl (refl, same_ledger old mid _ owed d.2.3 refl refl d.3)
-Does-leaves now old (Event.SetStatus task name) (Reply.Members members) mid owed l g d = inl (refl, same_ledger old mid old owed d.1 refl refl d.2)
+Does-leaves now old (Event.SetStatus task name) (Reply.Members members) mid owed l g d = inl (refl, same_ledger old mid old owed d.0 refl refl d.1)
 Does-leaves now old (Event.MoveMember task member after) (Reply.Code code) mid owed l g d = inl (refl, joins_lost task member after old mid owed d.1 d.2)
+Does-leaves now old (Event.InsertMember task member set) (Reply.Code code) mid owed l g d = inl (refl, same_ledger old mid _ owed d.1.rest refl refl d.2)
+Does-leaves now old (Event.ExtractMember task member set) (Reply.Code code) mid owed l g d = inl (refl, same_ledger old mid _ owed d.1.rest refl refl d.2)
 Does-leaves now old (Event.InsertRight task name from poly number) (Reply.Code code) mid owed l g d =
     inr (held_kept now old mid owed l (Does-receives now old (Event.InsertRight task name from poly number) (Reply.Code code) mid owed tt g d l) (inserts_kept task name from poly number old mid d.1))
 Does-leaves now old (Event.ExtractRight task name number to) (Reply.Right new_name kind) mid owed l g d =
@@ -460,7 +471,7 @@ all_counted test (x ∷ xs) = let a = all_counted test xs in let b : (if test x 
 
 module _ (now : ℕ) (old : State) (event : Event) (reply : Reply) (new : State) (l : IsLawful old) (d : Done now old event reply new) where
   midway : MidLawful d.mid d.owed
-  midway = Does-mid now old event reply d.mid d.owed d.unrefused d.does l
+  midway = Does-mid now old event reply d.mid d.owed d.unrefused d.does d.judged l
 
   effect : Effect old event reply d.mid
   effect = Does-effect now old event reply d.mid d.owed l d.unrefused d.does

@@ -5,9 +5,9 @@ use Rattle.mach_types.specs.declared.calls.Reply.{Reply}
 use Rattle.mach_types.specs.declared.calls.Waited.{Waited}
 use Rattle.mach_types.specs.declared.codes.KernReturn.TheVariants.{ResourceShortage}
 use Rattle.mach_types.specs.declared.codes.MsgReturn.TheVariants.{SendNoBuffer, ReceiveBodyErrorMemory}
-use Rattle.mach_types.specs.Numbers.{kern_number, msg_number}
+use Rattle.mach_types.specs.Codes.{kern_number, msg_number}
 use Rattle.mach_model.specs.State.{State, lookup}
-use Rattle.mach_model.specs.Sets.{IsSet}
+use Rattle.mach_model.specs.NameGuards.{IsSet}
 
 -- The codes for want of memory. That of a send is also its code at the limit of rights.
 abbrev pub IsMemoryCode : ℕ → Type 0

@@ -1,4 +1,5 @@
 pub mod Paths
+pub mod JudgedPaths
 pub mod Sent
 pub mod Received
 pub mod Delivered
@@ -7,6 +8,7 @@ pub mod Queued
 pub mod Counts
 pub mod Headline
 pub mod Notices
+pub mod AllTold
 pub mod Meaning
 pub mod Looks
 pub mod Judging
@@ -18,6 +20,7 @@ pub mod Gathering
 pub mod Handed
 pub mod Naming
 pub mod Grouping
+pub mod Tagging
 pub mod Telling
 pub mod Destroying
 pub mod Dying

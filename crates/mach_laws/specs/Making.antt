@@ -4,13 +4,14 @@ use Rattle.std.specs.FinMap as map
 use Rattle.mach_types.specs.declared.calls.Event.{Event}
 use Rattle.mach_types.specs.declared.rights.Disposition.TheVariants.{CopySend, MakeSend, MakeSendOnce}
 use Rattle.mach_types.specs.declared.rights.Right.TheVariants.{Send, Receive}
-use Rattle.mach_types.specs.Numbers.{disposition_number, right_number, most_references}
+use Rattle.mach_types.specs.Numbers.{right_number, most_references}
+use Rattle.mach_types.specs.Rights.{disposition_number}
 use Rattle.mach_types.specs.Tokens.{Kind, receive, send, send_once, same_kind, in_message}
 use Rattle.mach_types.specs.Grammar.{WireBody, Header, Spells}
 use Rattle.mach_types.specs.Bodies.{body_words}
 use Rattle.mach_model.specs.State.{State, Target, Names, lookup, held}
 use Rattle.mach_model.specs.Carried.{lying}
-use Rattle.mach_model.specs.References.{added_rights}
+use Rattle.mach_model.specs.Refusals.{added_rights}
 use Rattle.mach_laws.specs.Received.{AsksFrom}
 
 -- COPY_SEND and MAKE_SEND make a send right, and MAKE_SEND_ONCE a send-once right. The other dispositions move one.

@@ -14,4 +14,5 @@ TakesNoMemory (Event.SetQlimit task name limit) = Unit {0}
 TakesNoMemory (Event.SetMscount task name count) = Unit {0}
 TakesNoMemory (Event.SetSeqno task name number) = Unit {0}
 TakesNoMemory (Event.MoveMember task member after) = Unit {0}
+TakesNoMemory (Event.ExtractMember task member set) = Unit {0}
 TakesNoMemory event = ⊥

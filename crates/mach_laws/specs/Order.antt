@@ -4,10 +4,10 @@ use Rattle.mach_types.specs.declared.calls.Event.{Event}
 use Rattle.mach_types.specs.declared.calls.Reply.{Reply}
 use Rattle.mach_types.specs.Messages.{Message, Entry}
 use Rattle.mach_model.specs.State.{State, queue}
-use Rattle.mach_model.specs.SentMeans.{SentMeans}
 use Rattle.mach_model.specs.Send.{entry}
 use Rattle.mach_laws.specs.Paths.{Stage}
 use Rattle.mach_laws.specs.Notices.{Tells}
+use Rattle.mach_laws.specs.Received.{IsSentBy}
 
 -- ---- what comes
 
@@ -15,17 +15,8 @@ use Rattle.mach_laws.specs.Notices.{Tells}
 abbrev pub new_entries : ℕ → Stage → List Entry
 new_entries p x = drop (length (x.before.log p)) (x.after.log p)
 
--- The stage is a send, answered with 0, whose bytes mean this message for the port.
-pub record IsSentBy (x : Stage) (port : ℕ) (m : Message) : Type 0 where
-  pub sender : ℕ
-  pub sent : List ℕ
-  pub event : x.event ≡ Event.Send sender sent
-  pub reply : x.reply ≡ Reply.Code 0
-  pub meant : SentMeans (x.before.naming sender) sent m
-  pub here : m.destination ≡ port
-
--- What stage number now brings to the port: the message that it accepts for it, if and only if it is such a send, and then notices of
--- its own.
+-- What stage number now brings to the port: the message, if the stage is a send that is accepted for the port; and then notices of its
+-- own.
 pub record Comes (now p : ℕ) (x : Stage) : Type 0 where
   pub sent : List Entry
   pub is_sent : ((m : Message) → ¬ (IsSentBy x p m)) × (sent ≡ []) ⊎ ((m : Message) × IsSentBy x p m × (sent ≡ entry now m ∷ []))

@@ -1,9 +1,10 @@
 -- A run, stage by stage: laws that speak of two of its steps are said over these (this project's own).
 use Rattle.std.specs.Prelude.{◌≡◌, ℕ, ◌+◌, List, [], ◌∷◌}
+use Rattle.mach_types.specs.declared.profiles.Profile.{Profile}
 use Rattle.mach_types.specs.declared.calls.Event.{Event}
 use Rattle.mach_types.specs.declared.calls.Reply.{Reply}
-use Rattle.mach_model.specs.State.{State, opening}
-use Rattle.mach_model.specs.Machine.{Step}
+use Rattle.mach_model.specs.State.{State, opening_in}
+use Rattle.mach_model.specs.Acts.{Acts}
 
 -- An event in the state before it, its reply, and the state after it.
 pub record Stage : Type 0 where
@@ -12,11 +13,11 @@ pub record Stage : Type 0 where
   pub reply : Reply
   pub after : State
 
--- The stages are steps of the machine, numbered from now, each from where the one before ended, and lead from the old state to the new one.
-abbrev pub PathFrom : (now : ℕ) → State → List Stage → State → Type 0
-PathFrom now old [] new = new ≡ old
-PathFrom now old (x ∷ xs) new = (x.before ≡ old) × Step now x.before x.event x.reply x.after × PathFrom (now + 1) x.after xs new
+-- The stages are such steps, numbered from now, each from where the one before ended. They lead from the old state to the new one.
+abbrev pub PathBy : (ℕ → State → Event → Reply → State → Type 0) → (now : ℕ) → State → List Stage → State → Type 0
+PathBy step now old [] new = new ≡ old
+PathBy step now old (x ∷ xs) new = (x.before ≡ old) × step now x.before x.event x.reply x.after × PathBy step (now + 1) x.after xs new
 
--- The stages are a run from nothing to the state: step number k is the stage at k.
-abbrev pub Path : List Stage → State → Type 0
-Path path s = PathFrom 0 opening path s
+-- The stages lead from nothing to the state: number k is the stage at k. Each does what a step may do (`Acts`).
+abbrev pub Path : Profile → List Stage → State → Type 0
+Path profile path s = PathBy Acts 0 (opening_in profile) path s

@@ -18,15 +18,15 @@ abbrev pub queued : State → ℕ
 queued s = sum_below (waiting s) s.ports_made
 
 -- how many send-once rights there are that no queued message goes by
-abbrev pub unused : State → ℕ
-unused s = sum_below (unused_at s) s.ports_made
+abbrev pub unused_onces : State → ℕ
+unused_onces s = sum_below (unused_at s) s.ports_made
 
 -- ---- a kernel's slots
 
 -- A kernel has a slot for each queued message, and spare ones. In a step that leaves it so many spare slots it makes slots only as far as
 -- the messages that are queued then, and the send-once rights that none of them goes by, need one each.
 abbrev pub MakesAsNeeded : (spare more : ℕ) → (old new : State) → Type 0
-MakesAsNeeded spare more old new = more + queued new ≤ max (spare + queued old) (queued new + unused new)
+MakesAsNeeded spare more old new = more + queued new ≤ max (spare + queued old) (queued new + unused_onces new)
 
 -- It does so in each of these stages, after which it has these numbers of spare slots.
 abbrev pub MakesSlots : (spare : ℕ) → List Stage → (spares : List ℕ) → (last : ℕ) → Type 0
@@ -38,4 +38,6 @@ MakesSlots spare (x ∷ xs) [] last = ⊥
 -- These spare slots and the messages that are queued in the end are together never more than queued messages and unused send-once rights
 -- were at once, before a stage or in the end.
 abbrev pub SlotsWithin : (spare : ℕ) → List Stage → State → Type 0
-SlotsWithin spare stages s = (most : ℕ) → All (λ (x : Stage). queued x.before + unused x.before ≤ most) stages → queued s + unused s ≤ most → spare + queued s ≤ most
+SlotsWithin spare stages s =
+    (most : ℕ) → All (λ (x : Stage). queued x.before + unused_onces x.before ≤ most) stages → queued s + unused_onces s ≤ most →
+    spare + queued s ≤ most

@@ -1,8 +1,8 @@
-//! Laws of the machine: what holds after every run, whatever the events.
+//! Laws of the machine: what holds after every run, whatever the events and the profile.
 //!
-//! Each function here does nothing: its contract is a law, and the check proves it. `headline` says the chief of
-//! them at once. A reader who believes the machine's definitions (`mach_model/specs`) and the few words of
-//! `specs/` here need believe nothing else.
+//! Each function here does nothing: its contract is a law, and the check proves it. `headline` states the chief of
+//! them at once. Whoever believes the definitions that `specs/Headline` imports, of `mach_types/specs`,
+//! `mach_model/specs` and `specs/` here, need believe nothing else; `.ci/believed` lists these files.
 #![tactic(auto)]
 
 ghost use Rattle.std.specs.Prelude.{◌≡◌, ◌≢◌, ◌↔◌, ◌+◌, ◌&&◌, ◌≤◌, ℕ, Bool, true, false, List, [], Some, length, map, slice_get, Contains};
@@ -10,7 +10,7 @@ ghost use Rattle.mach_types.specs.declared.calls.Event.{Event};
 ghost use Rattle.mach_types.specs.declared.calls.Reply.{Reply};
 ghost use Rattle.mach_types.specs.declared.calls.Waited.{Waited};
 ghost use Rattle.mach_types.specs.declared.codes.MsgReturn.TheVariants.{ReceiveBodyErrorNames};
-ghost use Rattle.mach_types.specs.Numbers.{msg_number};
+ghost use Rattle.mach_types.specs.Codes.{msg_number};
 ghost use Rattle.mach_types.specs.Tokens.{Kind, count, is_of, send, send_once, receive as receive_kind};
 ghost use Rattle.mach_types.specs.Grammar.{Header, WireBody, Spells};
 ghost use Rattle.mach_types.specs.Guards.{FirstIs, NoneHolds};
@@ -18,26 +18,30 @@ ghost use Rattle.mach_types.specs.Messages.{Entry};
 ghost use Rattle.mach_model.specs.State.{State, Target, lookup, queue};
 ghost use Rattle.mach_model.specs.Tasks.{EndsTask};
 ghost use Rattle.mach_model.specs.Receive.{DestroysFront};
-ghost use Rattle.mach_model.specs.Requests.{notify_guards, Requests};
-ghost use Rattle.mach_model.specs.Death.{Dies, IsClosed, IsGrounded};
+ghost use Rattle.mach_model.specs.Requests.{Requests};
+ghost use Rattle.mach_model.specs.RequestRefusals.{notify_guards, noted_guards};
+ghost use Rattle.mach_model.specs.Death.{Dies};
+ghost use Rattle.mach_model.specs.Grounded.{IsClosed, IsGrounded};
 ghost use Rattle.mach_model.specs.Notices.{Owed, Posted};
 ghost use Rattle.mach_model.specs.Settles.{tokens_of, Settles};
 ghost use Rattle.mach_model.specs.SameEnd.{IsSameEnd};
 ghost use Rattle.mach_model.specs.Refusals.{Refuses, guards};
-ghost use Rattle.mach_model.specs.Machine.{Does, Done, Step, Run};
+ghost use Rattle.mach_model.specs.Machine.{Done, Step, Run, RunIn, Judged};
+ghost use Rattle.mach_model.specs.Acts.{Does};
 ghost use Rattle.mach_model.specs.Lawful.{IsLawful};
 ghost use Rattle.mach_model.specs.Midway.{MidLawful};
 ghost use Rattle.mach_model.specs.Turns.{Ending, IsReached, IsDone};
 ghost use Rattle.mach_model.specs.Work.{work_in, deaths, IsBounded};
-ghost use Rattle.mach_laws.specs.Paths.{Stage, Path};
+ghost use Rattle.mach_laws.specs.Paths.{Stage};
+ghost use Rattle.mach_laws.specs.JudgedPaths.{JudgedPath};
 ghost use Rattle.mach_laws.specs.Sent.{Accepts};
-ghost use Rattle.mach_laws.specs.Received.{AsksFrom, WasSentOrTold};
-ghost use Rattle.mach_laws.specs.Delivered.{Delivers, Destroys};
+ghost use Rattle.mach_laws.specs.Received.{AsksFrom, GivesWhatCame, Delivers};
+ghost use Rattle.mach_laws.specs.Delivered.{DestroysTooLong};
 ghost use Rattle.mach_laws.specs.Order.{InOrder};
-ghost use Rattle.mach_laws.specs.Queued.{queued, unused, MakesSlots, SlotsWithin};
+ghost use Rattle.mach_laws.specs.Queued.{queued, unused_onces, MakesSlots, SlotsWithin};
 ghost use Rattle.mach_laws.specs.Counts.{accepts, takes_from, destroyed, is_lost, once_rights, queued_by_send, MayNeedSlots};
 ghost use Rattle.mach_laws.specs.Headline.{Headline};
-ghost use Rattle.mach_laws.specs.Notices.{TellsAll};
+ghost use Rattle.mach_laws.specs.AllTold.{TellsAll};
 ghost use Rattle.mach_laws.specs.Meaning.{Means};
 ghost use Rattle.mach_laws.specs.Looks.{IsLook, IsUnchanged};
 ghost use Rattle.mach_laws.specs.Judging.{IsMemoryCode, LacksMemory, IsBySet};
@@ -49,6 +53,7 @@ ghost use Rattle.mach_laws.specs.Gathering.{gathering_events, gathering_replies}
 ghost use Rattle.mach_laws.specs.Grouping.{grouping_events, grouping_replies};
 ghost use Rattle.mach_laws.specs.Handed.{handing_events, handing_replies};
 ghost use Rattle.mach_laws.specs.Naming.{naming_events, naming_replies};
+ghost use Rattle.mach_laws.specs.Tagging.{tagging_events, tagging_replies};
 ghost use Rattle.mach_laws.specs.Telling.{telling_events, telling_replies};
 ghost use Rattle.mach_laws.specs.Destroying.{destroying_events, destroying_replies};
 ghost use Rattle.mach_laws.specs.Dying.{dying_events, dying_replies};
@@ -56,30 +61,34 @@ ghost use Rattle.mach_laws.specs.Unanswered.{unanswered_events, unanswered_repli
 ghost use Rattle.mach_laws.specs.Senderless.{senderless_events, senderless_replies};
 ghost use Rattle.mach_laws.specs.Deleting.{deleting_events, deleting_replies};
 ghost use Rattle.mach_laws.specs.SendingAway.{sending_away_events, sending_away_replies};
+ghost use Rattle.mach_types.specs.declared.profiles.Profile.{Profile};
+ghost use Rattle.mach_types.specs.declared.profiles.Profile.TheVariants.{Two};
 
-/// What a run promises, in one statement: its stages are steps of the machine; each message that is received was
-/// sent before, or is a notice that was due before, means what it meant then, where rights for ports that are dead by
-/// now are dead, and is the one that its stage takes from the front of its port; each port's messages are taken in the
-/// order in which they came; and each live port has exactly one receive right.
+/// What a run promises, in one statement: its stages do what the machine may do, and their codes and answers are
+/// judged right, so that they are a run; each message that is received was sent before, or is a notice that was due
+/// before, means what it meant then, where rights for ports that are dead by now are dead, and is the one that its
+/// stage takes from the front of its port; each port's messages are taken in the order in which they came; and each
+/// live port has exactly one receive right.
 pub fn headline()
-    ensures { (events : List Event) (replies : List Reply) (s : State) → Run events replies s → Headline events replies s }
+    ensures { (profile : Profile) (events : List Event) (replies : List Reply) (s : State) → RunIn profile events replies s →
+        (h : Headline profile events replies s) × JudgedPath profile h.stages s }
 {}
 
 /// Every run leads to a lawful state: rights, names, logs and places agree.
 pub fn every_run_is_lawful()
-    ensures { (events : List Event) (replies : List Reply) (s : State) → Run events replies s → IsLawful s }
+    ensures { (profile : Profile) (events : List Event) (replies : List Reply) (s : State) → RunIn profile events replies s → IsLawful s }
 {}
 
 /// After every run each live port has exactly one receive right, over all tasks and all messages.
 pub fn one_receive_right()
-    ensures { (events : List Event) (replies : List Reply) (s : State) → Run events replies s →
+    ensures { (profile : Profile) (events : List Event) (replies : List Reply) (s : State) → RunIn profile events replies s →
         (p : ℕ) → s.live_port p ≡ true → count (is_of receive_kind p) s.ledger ≡ 1 }
 {}
 
 /// After every run each live port is grounded: following from it to the port whose queue carries its receive right,
 /// and so on, ends at a task. So receive rights never close a loop in queues.
 pub fn every_port_is_grounded()
-    ensures { (events : List Event) (replies : List Reply) (s : State) → Run events replies s →
+    ensures { (profile : Profile) (events : List Event) (replies : List Reply) (s : State) → RunIn profile events replies s →
         (p : ℕ) → s.live_port p ≡ true → IsGrounded s p }
 {}
 
@@ -97,7 +106,7 @@ pub fn exactly_these_die()
 /// what names stand for, which rights are where, and which notices are sent to which ports, each as often. Only
 /// the order of the notices is free.
 pub fn ends_are_fixed()
-    ensures { (events : List Event) (replies : List Reply) (s : State) → Run events replies s →
+    ensures { (profile : Profile) (events : List Event) (replies : List Reply) (s : State) → RunIn profile events replies s →
         (event : Event) (reply : Reply) (a b : State) → (x : Done (length events) s event reply a) → (y : Settles (length events) s x.mid x.owed b) →
         IsSameEnd a b x.settles.notices.posted y.notices.posted }
 {}
@@ -105,7 +114,7 @@ pub fn ends_are_fixed()
 /// After every run each notice that is due in a step is told once, at the end of its port's log, and nothing else
 /// is: no notice that is due is dropped, and none is told twice.
 pub fn each_notice_is_told_once()
-    ensures { (events : List Event) (replies : List Reply) (s : State) → Run events replies s →
+    ensures { (profile : Profile) (events : List Event) (replies : List Reply) (s : State) → RunIn profile events replies s →
         (event : Event) (reply : Reply) (new : State) → (done : Done (length events) s event reply new) →
         TellsAll (length events) s event reply new done }
 {}
@@ -114,7 +123,7 @@ pub fn each_notice_is_told_once()
 /// many as the step's own part left, and as it left to be told of. So no right to answer is lost untold, wherever it
 /// lay, also in the queues of ports that die.
 pub fn no_answer_is_lost()
-    ensures { (events : List Event) (replies : List Reply) (s : State) → Run events replies s →
+    ensures { (profile : Profile) (events : List Event) (replies : List Reply) (s : State) → RunIn profile events replies s →
         (event : Event) (reply : Reply) (new : State) → (done : Done (length events) s event reply new) → (p : ℕ) → new.live_port p ≡ true →
         count (is_of send_once p) new.ledger ≡ count (is_of send_once p) done.mid.ledger + count (is_of send_once p) (tokens_of done.owed) }
 {}
@@ -122,7 +131,7 @@ pub fn no_answer_is_lost()
 /// After every run the end of a step makes no send right of a port that lives, and the only ones that it takes away are
 /// those that lay in messages of ports that are dead now.
 pub fn no_sender_appears()
-    ensures { (events : List Event) (replies : List Reply) (s : State) → Run events replies s →
+    ensures { (profile : Profile) (events : List Event) (replies : List Reply) (s : State) → RunIn profile events replies s →
         (event : Event) (reply : Reply) (new : State) → (done : Done (length events) s event reply new) → (p : ℕ) → new.live_port p ≡ true →
         count (is_of send p) done.mid.ledger ≡ count (is_of send p) new.ledger + count (λ x. is_of send p x && is_lost new x) done.mid.ledger }
 {}
@@ -140,31 +149,33 @@ pub fn turns_end_a_step()
 /// After every run the end of a step takes no more turns than there were rights, ports that live, and messages queued at
 /// them, together, before the step. Its own part ends no port: whoever dies in the step, dies at its end.
 pub fn turns_are_work()
-    ensures most { (events : List Event) (replies : List Reply) (s : State) → Run events replies s →
+    ensures most { (profile : Profile) (events : List Event) (replies : List Reply) (s : State) → RunIn profile events replies s →
         (event : Event) (reply : Reply) (new : State) → (done : Done (length events) s event reply new) →
         (turns : ℕ) → IsBounded done.mid done.owed new turns → turns ≤ work_in s }
-    ensures least { (events : List Event) (replies : List Reply) (s : State) → Run events replies s →
+    ensures least { (profile : Profile) (events : List Event) (replies : List Reply) (s : State) → RunIn profile events replies s →
         (event : Event) (reply : Reply) (new : State) → (done : Done (length events) s event reply new) → deaths s new ≤ deaths done.mid new }
 {}
 
 /// After every run, whatever an event may do can be made a step.
 pub fn every_step_can_end()
-    ensures { (events : List Event) (replies : List Reply) (s : State) → Run events replies s →
-        (event : Event) (reply : Reply) (mid : State) (owed : Owed) → NoneHolds (guards s event) → Does (length events) s event reply mid owed →
+    ensures { (profile : Profile) (events : List Event) (replies : List Reply) (s : State) → RunIn profile events replies s →
+        (event : Event) (reply : Reply) (mid : State) (owed : Owed) → NoneHolds (guards s event) →
+        (does : Does (length events) s event reply mid owed) → Judged (length events) s event reply mid owed does →
         (new : State) × Step (length events) s event reply new }
 {}
 
 /// After every run, where a task ends, a message that is too long for its receiver is destroyed, or a request is made
 /// or taken away: what is true midway is enough for the end of a step. There is one, and each is lawful.
 pub fn parts_can_end()
-    ensures task { (events : List Event) (replies : List Reply) (s : State) → Run events replies s →
+    ensures task { (profile : Profile) (events : List Event) (replies : List Reply) (s : State) → RunIn profile events replies s →
         (task : ℕ) (mid : State) (owed : Owed) → EndsTask task s mid owed → MidLawful mid owed }
-    ensures message { (events : List Event) (replies : List Reply) (s : State) → Run events replies s →
+    ensures message { (profile : Profile) (events : List Event) (replies : List Reply) (s : State) → RunIn profile events replies s →
         (port : ℕ) (e : Entry) (mid : State) (owed : Owed) → s.live_port port ≡ true → DestroysFront port e s mid owed → MidLawful mid owed }
-    ensures request { (events : List Event) (replies : List Reply) (s : State) → Run events replies s →
+    ensures request { (profile : Profile) (events : List Event) (replies : List Reply) (s : State) → RunIn profile events replies s →
         (task name variant sync notify number previous : ℕ) (mid : State) (owed : Owed) → s.live_task task ≡ true →
         NoneHolds (notify_guards s task name variant sync notify number) →
-        Requests task name variant sync notify number previous s mid owed → MidLawful mid owed }
+        (made : Requests task name variant sync notify number previous s mid owed) →
+        NoneHolds (noted_guards s made.copied task name variant sync notify) → MidLawful mid owed }
     ensures ends { (now : ℕ) (old mid : State) (owed : Owed) → MidLawful mid owed → (new : State) × Settles now old mid owed new }
     ensures lawful { (now : ℕ) (old mid : State) (owed : Owed) (new : State) → MidLawful mid owed → Settles now old mid owed new → IsLawful new }
 {}
@@ -172,7 +183,7 @@ pub fn parts_can_end()
 /// After every run a send that is answered with 0 appends one message, which is what its bytes mean
 /// through the sender's names before the send (IPC Interface, `mach_msg`).
 pub fn sent_messages_mean()
-    ensures { (events : List Event) (replies : List Reply) (s : State) → Run events replies s →
+    ensures { (profile : Profile) (events : List Event) (replies : List Reply) (s : State) → RunIn profile events replies s →
         (task : ℕ) (bytes : List ℕ) (new : State) → Step (length events) s (Event.Send task bytes) (Reply.Code 0) new →
         Accepts (length events) task bytes s new }
 {}
@@ -181,16 +192,16 @@ pub fn sent_messages_mean()
 /// that the receiver asked for by a name, or by what it waited for, and the bytes mean it through the
 /// receiver's names after the receive (IPC Interface, `mach_msg`).
 pub fn received_messages_mean()
-    ensures { (events : List Event) (replies : List Reply) (s : State) → Run events replies s →
+    ensures { (profile : Profile) (events : List Event) (replies : List Reply) (s : State) → RunIn profile events replies s →
         (event : Event) (bytes : List ℕ) (new : State) → Step (length events) s event (Reply.Message bytes) new →
         Delivers event bytes s new }
 {}
 
 /// Runs are paths: each run has its stages, and stages that fit together are a run.
 pub fn runs_are_paths()
-    ensures stages { (events : List Event) (replies : List Reply) (s : State) → Run events replies s →
-        (path : List Stage) × Path path s × (map (λ x. x.event) path ≡ events) × (map (λ x. x.reply) path ≡ replies) }
-    ensures run { (path : List Stage) (s : State) → Path path s → Run (map (λ x. x.event) path) (map (λ x. x.reply) path) s }
+    ensures stages { (profile : Profile) (events : List Event) (replies : List Reply) (s : State) → RunIn profile events replies s →
+        (path : List Stage) × JudgedPath profile path s × (map (λ x. x.event) path ≡ events) × (map (λ x. x.reply) path ≡ replies) }
+    ensures run { (profile : Profile) (path : List Stage) (s : State) → JudgedPath profile path s → RunIn profile (map (λ x. x.event) path) (map (λ x. x.reply) path) s }
 {}
 
 /// In every run each message that is received is one that was sent, or a notice that was due in an earlier step:
@@ -198,23 +209,24 @@ pub fn runs_are_paths()
 /// through the receiver's names after the receive, where rights for ports that are dead by then are dead. It is in
 /// front of its port before the receive, which takes it and no other.
 pub fn received_means_what_was_sent_or_told()
-    ensures { (path : List Stage) (s : State) → Path path s →
+    ensures { (profile : Profile) (path : List Stage) (s : State) → JudgedPath profile path s →
         (k : ℕ) (bytes : List ℕ) (x : Stage) → slice_get path k ≡ Some x → x.reply ≡ Reply.Message bytes →
-        WasSentOrTold path k bytes x }
+        GivesWhatCame path k bytes x }
 {}
 
 /// In every run, of each port: what was received from it or destroyed as too long, and then what is queued, is what
 /// was accepted for it or told to it, each message once and in the same order.
 pub fn order()
-    ensures { (path : List Stage) (s : State) → Path path s → (p : ℕ) → InOrder p path s }
+    ensures { (profile : Profile) (path : List Stage) (s : State) → JudgedPath profile path s → (p : ℕ) → InOrder p path s }
 {}
 
 /// After every run the next step's own part queues one message if it accepts a send, and takes one if it gives one or
 /// destroys one as too long. A step's end queues each notice that it tells, and destroys what lies at the ports that
 /// die.
 pub fn queued_messages()
-    ensures part { (events : List Event) (replies : List Reply) (s : State) → Run events replies s →
-        (event : Event) → NoneHolds (guards s event) → (reply : Reply) (mid : State) (owed : Owed) → Does (length events) s event reply mid owed →
+    ensures part { (profile : Profile) (events : List Event) (replies : List Reply) (s : State) → RunIn profile events replies s →
+        (event : Event) → NoneHolds (guards s event) → (reply : Reply) (mid : State) (owed : Owed) →
+        (does : Does (length events) s event reply mid owed) → Judged (length events) s event reply mid owed does →
         queued mid + takes_from event reply ≡ queued s + accepts event reply }
     ensures ending { (now : ℕ) (old mid : State) (owed : Owed) (new : State) → MidLawful mid owed → (x : Settles now old mid owed new) →
         queued new + destroyed mid new ≡ queued mid + length x.notices.posted }
@@ -225,25 +237,25 @@ pub fn queued_messages()
 /// than its own part left, with the rights that it owes a notice: a notice is queued by the right that it takes the
 /// place of, so no message slot is made where ports die.
 pub fn slots_that_are_needed()
-    ensures needed { (events : List Event) (replies : List Reply) (s : State) → Run events replies s →
-        queued s + unused s ≡ once_rights s + queued_by_send s }
-    ensures midway { (mid : State) (owed : Owed) → MidLawful mid owed → queued mid + unused mid ≡ once_rights mid + queued_by_send mid }
+    ensures needed { (profile : Profile) (events : List Event) (replies : List Reply) (s : State) → RunIn profile events replies s →
+        queued s + unused_onces s ≡ once_rights s + queued_by_send s }
+    ensures midway { (mid : State) (owed : Owed) → MidLawful mid owed → queued mid + unused_onces mid ≡ once_rights mid + queued_by_send mid }
     ensures ending { (now : ℕ) (old mid : State) (owed : Owed) (new : State) → MidLawful mid owed → Settles now old mid owed new →
-        queued new + unused new ≤ queued mid + unused mid + length owed }
+        queued new + unused_onces new ≤ queued mid + unused_onces mid + length owed }
 {}
 
 /// After every run no call but a send, the two that hand a right to another task and the request for a notice needs
 /// more slots than were needed before it, whatever dies and whatever is told in its step.
 pub fn few_calls_need_slots()
-    ensures { (events : List Event) (replies : List Reply) (s : State) → Run events replies s →
+    ensures { (profile : Profile) (events : List Event) (replies : List Reply) (s : State) → RunIn profile events replies s →
         (event : Event) (reply : Reply) (new : State) → Step (length events) s event reply new → ¬ (MayNeedSlots event) →
-        queued new + unused new ≤ queued s + unused s }
+        queued new + unused_onces new ≤ queued s + unused_onces s }
 {}
 
 /// In every run a kernel that makes message slots only as a step's end needs them, one for each queued message and
 /// one for each send-once right that none of them goes by, has never more slots than were needed at once.
 pub fn slots_are_bounded()
-    ensures { (path : List Stage) (s : State) → Path path s → (spares : List ℕ) (last : ℕ) → MakesSlots 0 path spares last → SlotsWithin last path s }
+    ensures { (profile : Profile) (path : List Stage) (s : State) → JudgedPath profile path s → (spares : List ℕ) (last : ℕ) → MakesSlots 0 path spares last → SlotsWithin last path s }
 {}
 
 /// A call that is answered with another code than 0 changes nothing.
@@ -254,7 +266,7 @@ pub fn refusals_change_nothing()
 /// After every run an answer that only tells changes nothing: what is asked for names, references, types and
 /// status, that there is no message, and that a message is too long and stays.
 pub fn looks_change_nothing()
-    ensures { (events : List Event) (replies : List Reply) (s : State) → Run events replies s →
+    ensures { (profile : Profile) (events : List Event) (replies : List Reply) (s : State) → RunIn profile events replies s →
         (event : Event) (reply : Reply) (new : State) → Step (length events) s event reply new → IsLook event reply → IsUnchanged s new }
 {}
 
@@ -262,7 +274,7 @@ pub fn looks_change_nothing()
 /// the one in front of a port that it asked for, and no other.
 pub fn too_long_is_destroyed()
     ensures { (now : ℕ) (old : State) (event : Event) (n : ℕ) (new : State) → Step now old event (Reply.TooLarge n) new →
-        ¬ (IsLook event (Reply.TooLarge n)) → Destroys event n old new }
+        ¬ (IsLook event (Reply.TooLarge n)) → DestroysTooLong event n old new }
 {}
 
 /// After every run a refusal and a success exclude each other: what refuses an event, but for want of memory,
@@ -270,7 +282,7 @@ pub fn too_long_is_destroyed()
 /// message may need none. The code of a send for want of memory is also its code at the limit of rights, and
 /// is excepted there too.
 pub fn refused_or_done()
-    ensures { (events : List Event) (replies : List Reply) (s : State) → Run events replies s →
+    ensures { (profile : Profile) (events : List Event) (replies : List Reply) (s : State) → RunIn profile events replies s →
         (event : Event) (code : ℕ) → Refuses s event code → ¬ (IsMemoryCode code) → (IsBySet s event → code ≢ msg_number ReceiveBodyErrorNames) →
         (reply : Reply) (new : State) → ¬ (Done (length events) s event reply new) }
 {}
@@ -278,7 +290,7 @@ pub fn refused_or_done()
 /// After every run an event has one answer, but for want of memory, and but for a receipt by a set, which may
 /// take from any ready member.
 pub fn one_answer()
-    ensures { (events : List Event) (replies : List Reply) (s : State) → Run events replies s →
+    ensures { (profile : Profile) (events : List Event) (replies : List Reply) (s : State) → RunIn profile events replies s →
         (event : Event) (a b : Reply) (new other : State) → Step (length events) s event a new → Step (length events) s event b other →
         ¬ (LacksMemory a) → ¬ (LacksMemory b) → ¬ (IsBySet s event) → a ≡ b }
 {}
@@ -327,6 +339,12 @@ pub fn handed_receive_right()
 /// destroyed is a run, and no other thing comes under its number meanwhile.
 pub fn renamed_dead_name()
     ensures { (s : State) × Run naming_events naming_replies s }
+{}
+
+/// They speak of names with a generation, in the second profile: a name that was given up comes back as another
+/// one, and an index stays in use as long as one of its names does. It is a run.
+pub fn tagged_name()
+    ensures { (s : State) × RunIn Two tagging_events tagging_replies s }
 {}
 
 /// They speak of port sets: what was sent to a member is received by the set, and not by the port; once the
@@ -391,7 +409,7 @@ pub fn never_lacks()
 /// After every run each notice that a step posts is true: what it says happened in that step, to whoever asked for it.
 /// Its notify port lives after the step.
 pub fn notice_means()
-    ensures { (events : List Event) (replies : List Reply) (s : State) → Run events replies s →
+    ensures { (profile : Profile) (events : List Event) (replies : List Reply) (s : State) → RunIn profile events replies s →
         (event : Event) (reply : Reply) (new : State) → (done : Done (length events) s event reply new) →
         (x : Posted) → Contains done.settles.notices.posted x →
         (new.live_port x.port ≡ true) × Means s event done.mid new x.port x.entry x.notice }
@@ -401,7 +419,7 @@ pub fn notice_means()
 /// allocated, send rights where `ModRefs` adds them, and by a send, a transfer or a request for a notice the right that
 /// each `COPY_SEND`, `MAKE_SEND` and `MAKE_SEND_ONCE` makes.
 pub fn rights_are_made_by_these()
-    ensures { (events : List Event) (replies : List Reply) (s : State) → Run events replies s →
+    ensures { (profile : Profile) (events : List Event) (replies : List Reply) (s : State) → RunIn profile events replies s →
         (event : Event) (reply : Reply) (new : State) → Done (length events) s event reply new → (kind : Kind) (p : ℕ) →
         (n : ℕ) × MakesRights s event kind p n × (count (is_of kind p) new.ledger ≤ count (is_of kind p) s.ledger + n) }
 {}
@@ -410,10 +428,10 @@ pub fn rights_are_made_by_these()
 /// send right of one leaves only by an event that drops it, or with a message of a port that died. (A receive right of
 /// one stays: `one_receive_right`.)
 pub fn rights_leave_by_these()
-    ensures once { (events : List Event) (replies : List Reply) (s : State) → Run events replies s →
+    ensures once { (profile : Profile) (events : List Event) (replies : List Reply) (s : State) → RunIn profile events replies s →
         (event : Event) (reply : Reply) (new : State) → Done (length events) s event reply new → (p : ℕ) → new.live_port p ≡ true →
         count (is_of send_once p) s.ledger + s.taken p ≤ count (is_of send_once p) new.ledger + new.taken p }
-    ensures send { (events : List Event) (replies : List Reply) (s : State) → Run events replies s →
+    ensures send { (profile : Profile) (events : List Event) (replies : List Reply) (s : State) → RunIn profile events replies s →
         (event : Event) (reply : Reply) (new : State) → Done (length events) s event reply new → (p : ℕ) → new.live_port p ≡ true →
         (n : ℕ) × DropsSends s event new p n ×
         (count (is_of send p) s.ledger ≤ count (is_of send p) new.ledger + n + count (λ x. is_of send p x && is_lost new x) s.ledger) }

@@ -13,10 +13,11 @@ use Rattle.mach_model.specs.Death.{same_place}
 use Rattle.mach_model.specs.SentMeans.{target_mark}
 use Rattle.mach_model.specs.CopyIn.{IsLegal, taken_by, put_by, name_kept, changed_by, CopyRight}
 use Rattle.mach_model.specs.Carried.{mark_count, lying}
-use Rattle.mach_model.specs.Lawful.{HasReferences, LawfulNames, LawfulPorts, LawfulNumbers, LawfulReceivers, LawfulMembership}
+use Rattle.mach_model.specs.Lawful.{HasReferences, LawfulNames, LawfulPorts, LawfulNumbers, LawfulReceivers, LawfulMembership, HasFewSets}
 use Rattle.mach_model.proofs.Names.{both_test, held_le_of, length-weigh, pos_or_zero, at_all, some_tally, has_task, same_naming, port_kept, port_unnamed, other_unnamed, dead_counted, IsNew, port_named, other_named, SameSets, dead_sets, removed_sets, IsNoSet, inserted_sets, KeepsRequests, without_requests, named_requests, dead_not_right, none_right}
 use Rattle.mach_model.proofs.Settling.{lives}
 use Rattle.mach_model.proofs.Moving.{IsMoving, shape, Apart, near_none, near_task, near_entry, same_receivers, Leaves, same_leaves, other_leaves, moved, moved_apart}
+use Rattle.mach_model.proofs.Memberships.{few_none}
 
 -- ---- Copying in keeps a state lawful but for the rights on their way, and puts the right of each word there: all dispositions.
 
@@ -141,11 +142,11 @@ module _ (task o k name p : ℕ) (old : State) (ledger : List Token) (l : IsMovi
   left_rights kind q = count (is_held task kind q) ledger
 
   pub port_leaves : (b : Bool) → (b ≡ true) × (0 < left_over) ⊎ (b ≡ false) × (left_over ≡ 0) → (make_send sequence : ℕ → ℕ) (sets_of : ℕ → List ℕ) → LawfulNumbers old.limit make_send sequence →
-      LawfulReceivers old.live_port old.set_owner sets_of ledger → LawfulMembership old.live_port sets_of →
+      LawfulReceivers old.live_port old.set_owner sets_of ledger → LawfulMembership old.profile old.live_port sets_of →
       Leaves old (record (name_kept b task name old) { make_send = make_send; sequence = sequence; sets_of = sets_of; ledger = ledger }) task
   port_leaves true (inl (e, some)) make_send sequence sets_of numbers receivers membership = grind (arith, same_leaves, has_task, port_kept)
   port_leaves false (inr (e, none)) make_send sequence sets_of numbers receivers membership =
-      other_leaves task o k old l (has_task l.tasks task name (Target.port p) is) make_send sequence sets_of ledger ports numbers receivers membership
+      other_leaves task o k old l (has_task l.tasks task name (Target.port p) is) make_send sequence sets_of ledger ports numbers receivers membership old.given
       (map.remove (old.naming task) name) (request_at old.stands (dead_name task name) false)
       (port_unnamed (old.naming task) (held old task) left_rights (l.naming task) p same same_once name is none)
       (removed_sets (old.naming task) name (Target.port p) is (λ set e. cc)) (without_requests old l.ground task name)
@@ -203,7 +204,7 @@ module _ (task o k name p : ℕ) (old new : State) (l : IsMoving old o k) (is : 
             (λ r not one. let h = l.members r set one in let e = left_there task o k old new receive p l tokens h.0 r not in let some = h.2 in (h.0, h.1, omega (arith, some, e))) q;
       }) (record {
         no_sets = at_all (λ q xs. old.live_port q ≡ false → xs ≡ []) old.sets_of p [] (λ d. refl) (λ r not d. l.no_sets r d);
-        one_set = at_all (λ q xs. length xs ≤ 1) old.sets_of p [] (omega arith) (λ r not. l.one_set r);
+        few_sets = at_all (λ q xs. HasFewSets old.profile xs) old.sets_of p [] (few_none old.profile) (λ r not. l.few_sets r);
       })))
 
 -- ---- a send-once right is moved
@@ -225,7 +226,7 @@ module _ (task o k name p : ℕ) (old new : State) (l : IsMoving old o k) (is : 
   once_moved : new ≡ record (without_name task name old) { ledger = new.ledger } → Copies old new o k send_once (to_port p)
   once_moved rest = left_copies task o k old new send_once p l tokens (subst (λ (x : State). Leaves old x task) (sym rest)
       (other_leaves task o k old l (has_task l.tasks task name (Target.once p) is) old.make_send old.sequence old.sets_of new.ledger (left_ports task o k old new send_once p l tokens) l.numbers
-      (left_receivers task o k old new send_once p l tokens receives_stay) l.membership (map.remove (old.naming task) name) (request_at old.stands (dead_name task name) false)
+      (left_receivers task o k old new send_once p l tokens receives_stay) l.membership old.given (map.remove (old.naming task) name) (request_at old.stands (dead_name task name) false)
       (other_unnamed (old.naming task) (held old task) (held new task) (l.naming task) (receives_stay task) sends_stay name (Target.once p) is no_port once_less)
       (removed_sets (old.naming task) name (Target.once p) is (λ set e. cc)) (without_requests old l.ground task name)))
 
@@ -244,7 +245,7 @@ module _ (task o k : ℕ) (old new : State) (l : IsMoving old o k) (tokens : Mov
   -- the task's names are others, with the same rights
   pub dead_leaves : old.live_task task ≡ true → (names : Names) (stands : Request → Bool) → LawfulNames names (held new task) → SameSets (old.naming task) names → KeepsRequests old.stands stands (at old.naming task names) →
       Leaves old (record old { naming = at old.naming task names; stands = stands; ledger = new.ledger }) task
-  dead_leaves is_task = other_leaves task o k old l is_task old.make_send old.sequence old.sets_of new.ledger dead_ports l.numbers dead_receivers l.membership
+  dead_leaves is_task = other_leaves task o k old l is_task old.make_send old.sequence old.sets_of new.ledger dead_ports l.numbers dead_receivers l.membership old.given
 
   dead_copies : (kind : Kind) (mark : Mark) → mark ≡ dead → Leaves old new task → Copies old new o k kind mark
   dead_copies kind mark is v = grind (arith, moved, near_none, moved_apart)
@@ -364,16 +365,16 @@ module _ (task o k : ℕ) (old new : State) (kind : Kind) (p : ℕ) (l : IsMovin
       (port_kept (old.naming task) (held old task) (held new task) (l.naming task) p come_other (same_once not) name is (some_right not) few)))
 
   -- under a new name
-  come_named : (name : ℕ) (x : Target) → IsNoSet x → IsNew (old.naming task) name → LawfulNames (map.insert (old.naming task) name x) (held new task) →
-      new ≡ record (with_name task name x old) { ledger = new.ledger } → Removes old new o k (λ c q. mark_count c q kind (to_port p))
-  come_named name x not_set is_new own rest = come_removes (subst (λ (x : State). Leaves old x task) (sym rest)
-      (other_leaves task o k old l is_task old.make_send old.sequence old.sets_of new.ledger come_ports l.numbers come_receivers l.membership
+  come_named : (given : ℕ → ℕ → ℕ) (name : ℕ) (x : Target) → IsNoSet x → IsNew (old.naming task) name → LawfulNames (map.insert (old.naming task) name x) (held new task) →
+      new ≡ record (with_name task name x old) { ledger = new.ledger; given = given } → Removes old new o k (λ c q. mark_count c q kind (to_port p))
+  come_named given name x not_set is_new own rest = come_removes (subst (λ (x : State). Leaves old x task) (sym rest)
+      (other_leaves task o k old l is_task old.make_send old.sequence old.sets_of new.ledger come_ports l.numbers come_receivers l.membership given
       (map.insert (old.naming task) name x) old.stands own (inserted_sets (old.naming task) name x is_new.unused not_set)
       (named_requests old l.ground task name x (inr (none_right (lookup old task name) is_new.unused)))))
 
-  pub come_port : (name : ℕ) → (kind ≡ send_once → ⊥) → IsNew (old.naming task) name → ((n : ℕ) → lookup old task n ≢ Some (Target.port p)) → held new task send p ≤ most_references →
-      new ≡ record (with_name task name (Target.port p) old) { ledger = new.ledger } → Removes old new o k (λ c q. mark_count c q kind (to_port p))
-  come_port name not is_new none few rest = come_named name (Target.port p) (λ set e. cc) is_new
+  pub come_port : (given : ℕ → ℕ → ℕ) (name : ℕ) → (kind ≡ send_once → ⊥) → IsNew (old.naming task) name → ((n : ℕ) → lookup old task n ≢ Some (Target.port p)) → held new task send p ≤ most_references →
+      new ≡ record (with_name task name (Target.port p) old) { ledger = new.ledger; given = given } → Removes old new o k (λ c q. mark_count c q kind (to_port p))
+  come_port given name not is_new none few rest = come_named given name (Target.port p) (λ set e. cc) is_new
       (port_named (old.naming task) (held old task) (held new task) (l.naming task) p come_other (same_once not) name is_new no_right (some_right not) few) rest
     where
       no_right : held old task receive p + held old task send p ≡ 0
@@ -383,9 +384,9 @@ module _ (task o k : ℕ) (old new : State) (kind : Kind) (p : ℕ) (l : IsMovin
       ]
 
   -- a send-once right, always so
-  pub come_once : (name : ℕ) → kind ≡ send_once → IsNew (old.naming task) name → new ≡ record (with_name task name (Target.once p) old) { ledger = new.ledger } →
+  pub come_once : (given : ℕ → ℕ → ℕ) (name : ℕ) → kind ≡ send_once → IsNew (old.naming task) name → new ≡ record (with_name task name (Target.once p) old) { ledger = new.ledger; given = given } →
       Removes old new o k (λ c q. mark_count c q kind (to_port p))
-  come_once name is is_new rest = come_named name (Target.once p) (λ set e. cc) is_new
+  come_once given name is is_new rest = come_named given name (Target.once p) (λ set e. cc) is_new
       (other_named (old.naming task) (held old task) (held new task) (l.naming task) (same receive refl) (same send refl) name (Target.once p) is_new tt (λ q e. cc) more) rest
     where
       same : (c : Kind) → same_kind c send_once ≡ false → (q : ℕ) → held new task c q ≡ held old task c q

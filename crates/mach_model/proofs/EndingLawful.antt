@@ -12,18 +12,19 @@ use Rattle.mach_types.specs.Messages.{Entry}
 use Rattle.mach_model.specs.State.{State, Target, Names, lookup, held, at}
 use Rattle.mach_model.specs.Death.{same_place}
 use Rattle.mach_model.specs.Carried.{lying}
-use Rattle.mach_model.specs.References.{LosesAll, unused}
+use Rattle.mach_model.specs.References.{LosesAll, unused_among}
 use Rattle.mach_model.specs.Receive.{IsFront, with_taken, DestroysFront}
 use Rattle.mach_model.specs.Tasks.{ends_with, is_owner, EndsTask, CreatesTask}
 use Rattle.mach_model.specs.Notices.{Owed}
 use Rattle.mach_model.specs.Lawful.{LawfulNames, LawfulSets, IsLawful}
 use Rattle.mach_model.specs.Midway.{MidLawful}
 use Rattle.mach_model.proofs.Names.{count_le, count_none, both_test, left_of, right_of, at_same, at_other, at_all, elsewhere, no_values, all_unused, KeepsRequests, requests_stay, same_naming}
-use Rattle.mach_model.proofs.NamesLawful.{filtered, fewer}
+use Rattle.mach_model.proofs.Memberships.{filtered}
 use Rattle.mach_model.proofs.Moving.{TaskNaming, IsMoving}
 use Rattle.mach_model.proofs.MessagesLawful.{taken_moving, same_task}
 use Rattle.mach_model.proofs.Lost.{Loses, Loses-lawful}
 use Rattle.mach_model.proofs.LosingLawful.{AreOwn, held_far, far_carried, far_gone}
+use Rattle.mach_model.proofs.Memberships.{few_left}
 
 -- ---- The end of a task, and of a message that is too long for its receiver, leaves a lawful state midway.
 
@@ -120,7 +121,7 @@ module _ (task : ℕ) (old : State) (ledger : List Token) (l : IsLawful old) (lo
         (h.0, kept_owner task h.0 (old.set_owner set) h.1 (stays_owned task h.0 (old.set_owner set) h.1 f.1), h.2);
     membership = record {
       no_sets = λ p dead. ap (filter (λ (set : ℕ). not (is_owner task (old.set_owner set)))) (l.no_sets p dead);
-      one_set = λ p. let a = fewer (λ set. not (is_owner task (old.set_owner set))) (old.sets_of p) in let b = l.one_set p in omega (arith, a, b);
+      few_sets = λ p. few_left old.profile (λ set. not (is_owner task (old.set_owner set))) (old.sets_of p) (l.few_sets p);
     };
     within = l.within;
     carried = far_carried task old ended loses.gone l loses.moves own;
@@ -128,7 +129,7 @@ module _ (task : ℕ) (old : State) (ledger : List Token) (l : IsLawful old) (lo
     stands = requests;
   }
 
-  pub ended_mid : MidLawful ended (unused loses.gone)
+  pub ended_mid : MidLawful ended (unused_among loses.gone)
   ended_mid = Loses-lawful old ended loses.gone [] l ended_loses
 
 pub EndsTask-mid : (task : ℕ) (old mid : State) (owed : Owed) → IsLawful old → EndsTask task old mid owed → MidLawful mid owed
@@ -210,7 +211,7 @@ module _ (s : State) (p : ℕ) (e : Entry) (ledger left : List Token) (l : IsLaw
     stands = requests_stay s l.ground;
   }
 
-  pub front_mid : MidLawful new (unused loses.gone)
+  pub front_mid : MidLawful new (unused_among loses.gone)
   front_mid = Loses-lawful s new loses.gone (token e.message.kind p (in_message p k) ∷ []) l front_loses
 
 pub DestroysFront-mid : (port : ℕ) (e : Entry) (old mid : State) (owed : Owed) → IsLawful old → old.live_port port ≡ true → DestroysFront port e old mid owed → MidLawful mid owed

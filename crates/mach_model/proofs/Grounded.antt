@@ -13,8 +13,10 @@ use Rattle.mach_types.specs.Messages.{Mark, to_port, null, dead, ReplyRight, abs
 use Rattle.mach_types.specs.Grammar.{WireBody}
 use Rattle.mach_types.specs.Bodies.{body_words, body_rights, Through}
 use Rattle.mach_types.specs.Numbers.{null_word}
-use Rattle.mach_model.specs.State.{State, Target, opening}
-use Rattle.mach_model.specs.Death.{same_place, LiesAt, CarriedAt, IsOrphan, IsSaved, IsGrounded, at_task, carried, Reaches, here, there}
+use Rattle.mach_model.specs.State.{State, Target, gives, opening_in}
+use Rattle.mach_model.specs.Death.{same_place, LiesAt, CarriedAt, IsOrphan, IsSaved}
+use Rattle.mach_model.specs.SendRefusals.{there, here, Reaches, sent_guards}
+use Rattle.mach_model.specs.Grounded.{carried, at_task, IsGrounded}
 use Rattle.mach_model.specs.Notices.{Notice, port_sent, Owed, Posted, posted_tokens, all_posted_tokens, carried_by}
 use Rattle.mach_model.specs.Settles.{PlaceStays, TellsAt, PaysFor, GoesFrom, due_notices, tokens_of, told_by, Settles}
 use Rattle.mach_model.specs.Lawful.{IsLawful, tally}
@@ -27,17 +29,18 @@ use Rattle.mach_model.proofs.SettledReceives.{of_kind, place_is, at_place, two_l
 use Rattle.mach_model.specs.CopyIn.{put_by, taken_by, CopyRight, CopyWord, CopyReply, CopyCarried, CopyBody}
 use Rattle.mach_model.specs.CopyOut.{given_to, GiveRight, GiveMark, GiveWord}
 use Rattle.mach_model.specs.Carried.{lying}
-use Rattle.mach_model.specs.Sets.{JoinsSet}
-use Rattle.mach_model.specs.ReceiveRight.{ChangesPort}
+use Rattle.mach_model.specs.Names.{JoinsSet, ChangesPort, Makes, renamed_place, Renames}
 use Rattle.mach_model.specs.References.{LosesOne, Deallocates, DestroysTarget, with_dead, RemovesRight, Modifies}
 use Rattle.mach_model.specs.Tasks.{EndsTask}
-use Rattle.mach_model.specs.Names.{Makes, renamed_place, Renames}
 use Rattle.mach_model.specs.Transfer.{Inserts, Extracts}
 use Rattle.mach_model.specs.Requests.{GivesBack, Keeps, Requests}
 use Rattle.mach_model.specs.Send.{place_at, Sends}
 use Rattle.mach_model.specs.Receive.{Takes, Receives, DestroysFront, Receipt}
-use Rattle.mach_model.specs.Machine.{Does, Step, RunFrom, Run}
+use Rattle.mach_model.specs.Machine.{Step, RunFrom, RunIn, Judged}
+use Rattle.mach_model.specs.Acts.{Does}
 use Rattle.mach_model.proofs.StepLawful.{opening-lawful, Does-mid, Step-lawful}
+use Rattle.mach_types.specs.declared.profiles.Profile.{Profile}
+use Rattle.mach_types.specs.Guards.{NoneHolds}
 
 -- ---- From each port that lives the way from carrying port to carrying port ends at a task.
 
@@ -518,8 +521,9 @@ module _ (d e : ℕ) (old mid : State) (owed : Owed) (l : IsLawful old) (m : Mid
   sent_leads : AllGrounded old → (p : ℕ) → mid.live_port p ≡ true → LeadsOn mid p
   sent_leads all = all_lead (in_message d e) old mid owed l m none (sent_mine all) all
 
-sends_lead : (now task : ℕ) (bytes : List ℕ) (old mid : State) (owed : Owed) → IsLawful old → MidLawful mid owed → Sends now task bytes old mid → AllGrounded old → (p : ℕ) → mid.live_port p ≡ true → LeadsOn mid p
-sends_lead now task bytes old mid owed l m x = sent_leads x.m.destination (length (old.log x.m.destination)) old mid owed l m
+sends_lead : (now task : ℕ) (bytes : List ℕ) (old mid : State) (owed : Owed) → IsLawful old → MidLawful mid owed → (x : Sends now task bytes old mid) →
+    NoneHolds (sent_guards x.m (place_at old x.m.destination) x.copied_state) → AllGrounded old → (p : ℕ) → mid.live_port p ≡ true → LeadsOn mid p
+sends_lead now task bytes old mid owed l m x unrefused = sent_leads x.m.destination (length (old.log x.m.destination)) old mid owed l m
     (λ p q k far lies. let f = fewer p q k far in omega (arith, f, lies)) loop
   where
     own : Place
@@ -535,46 +539,49 @@ sends_lead now task bytes old mid owed l m x = sent_leads x.m.destination (lengt
         (fewer_same own x.copied_state mid same)))
 
     loop : (y : ℕ) → LiesAt mid receive y own → Reaches mid x.m.destination y → ⊥
-    loop y lies reach = x.unrefused.0 (y, subst (λ (xs : List Token). 0 < count (is_at receive y own) xs) same lies, reaches_over mid x.copied_state same x.m.destination y reach)
+    loop y lies reach = unrefused.0 (y, subst (λ (xs : List Token). 0 < count (is_at receive y own) xs) same lies, reaches_over mid x.copied_state same x.m.destination y reach)
 
 -- ---- all events
 
 fewer_leads : (old mid : State) (owed : Owed) → IsLawful old → MidLawful mid owed → Fewer (in_task 0) old mid → AllGrounded old → (p : ℕ) → mid.live_port p ≡ true → LeadsOn mid p
 fewer_leads old mid owed l m fewer = all_lead (in_task 0) old mid owed l m (λ p q k far lies. let f = fewer p q k far in omega (arith, f, lies)) (λ p q k t lies. absurd (cc))
 
-does_lead : (now : ℕ) (old : State) (event : Event) (reply : Reply) (mid : State) (owed : Owed) → Does now old event reply mid owed → IsLawful old → MidLawful mid owed → AllGrounded old →
+does_lead : (now : ℕ) (old : State) (event : Event) (reply : Reply) (mid : State) (owed : Owed) → (does : Does now old event reply mid owed) → Judged now old event reply mid owed does →
+    IsLawful old → MidLawful mid owed → AllGrounded old →
     (p : ℕ) → mid.live_port p ≡ true → LeadsOn mid p
-does_lead now old Event.TaskCreate (Reply.Task task) mid owed d l m = fewer_leads old mid owed l m (ledger_of (in_task 0) old mid _ d.0.rest refl)
-does_lead now old (Event.TaskTerminate task) (Reply.Code code) mid owed d l m = fewer_leads old mid owed l m (ends_fewer (in_task 0) task old mid owed d.1)
-does_lead now old (Event.Allocate task right) (Reply.Name name) mid owed d l m = fewer_leads old mid owed l m (makes_fewer (in_task 0) task right name old mid d.1)
-does_lead now old (Event.AllocateName task right name) (Reply.Name told) mid owed d l m = fewer_leads old mid owed l m (makes_fewer (in_task 0) task right name old mid d.1)
-does_lead now old (Event.Deallocate task name) (Reply.Code code) mid owed d l m = fewer_leads old mid owed l m (deallocates_fewer (in_task 0) task name old mid owed d.1)
-does_lead now old (Event.Destroy task name) (Reply.Code code) mid owed d l m = fewer_leads old mid owed l m (target_fewer (in_task 0) task name d.1.0 old mid owed d.1.2)
-does_lead now old (Event.ModRefs task name right delta) (Reply.Code code) mid owed d l m = fewer_leads old mid owed l m (modifies_fewer (in_task 0) task name right delta old mid owed d.1)
-does_lead now old (Event.GetRefs task name right) (Reply.Refs n) mid owed d l m = fewer_leads old mid owed l m (same_fewer (in_task 0) old mid d.1)
-does_lead now old (Event.NameType task name) (Reply.NameType n) mid owed d l m = fewer_leads old mid owed l m (same_fewer (in_task 0) old mid d.1)
-does_lead now old (Event.Names task) (Reply.Names entries) mid owed d l m = fewer_leads old mid owed l m (same_fewer (in_task 0) old mid d.1)
-does_lead now old (Event.Rename task o n) (Reply.Code code) mid owed d l m = fewer_leads old mid owed l m (renames_fewer (in_task 0) task o n old mid d.1)
-does_lead now old (Event.ReceiveStatus task name) (Reply.Status status) mid owed d l m = fewer_leads old mid owed l m (same_fewer (in_task 0) old mid d.1)
-does_lead now old (Event.SetQlimit task name n) (Reply.Code code) mid owed d l m = fewer_leads old mid owed l m (ports_fewer (in_task 0) task name _ old mid (λ p. refl) d.1)
-does_lead now old (Event.SetMscount task name n) (Reply.Code code) mid owed d l m = fewer_leads old mid owed l m (ports_fewer (in_task 0) task name _ old mid (λ p. refl) d.2)
-does_lead now old (Event.SetSeqno task name n) (Reply.Code code) mid owed d l m = fewer_leads old mid owed l m (ports_fewer (in_task 0) task name _ old mid (λ p. refl) d.2)
-does_lead now old (Event.SetStatus task name) (Reply.Members members) mid owed d l m = fewer_leads old mid owed l m (same_fewer (in_task 0) old mid d.1)
-does_lead now old (Event.MoveMember task member after) (Reply.Code code) mid owed d l m = fewer_leads old mid owed l m (joins_fewer (in_task 0) task member after old mid d.1)
-does_lead now old (Event.InsertRight task name from poly number) (Reply.Code code) mid owed d l m = fewer_leads old mid owed l m (inserts_fewer task name from poly number old mid d.1)
-does_lead now old (Event.ExtractRight task name number to) (Reply.Right new_name kind) mid owed d l m = fewer_leads old mid owed l m (extracts_fewer task name number to new_name kind old mid d.0)
-does_lead now old (Event.RequestNotification task name variant sync notify number) (Reply.Previous previous) mid owed d l m =
+does_lead now old Event.TaskCreate (Reply.Task task) mid owed d j l m = fewer_leads old mid owed l m (ledger_of (in_task 0) old mid _ d.0.rest refl)
+does_lead now old (Event.TaskTerminate task) (Reply.Code code) mid owed d j l m = fewer_leads old mid owed l m (ends_fewer (in_task 0) task old mid owed d.1)
+does_lead now old (Event.Allocate task right) (Reply.Name name) mid owed d j l m = fewer_leads old mid owed l m (makes_fewer (in_task 0) task right name (gives task name old) mid d.1)
+does_lead now old (Event.AllocateName task right name) (Reply.Name told) mid owed d j l m = fewer_leads old mid owed l m (makes_fewer (in_task 0) task right name old mid d.1)
+does_lead now old (Event.Deallocate task name) (Reply.Code code) mid owed d j l m = fewer_leads old mid owed l m (deallocates_fewer (in_task 0) task name old mid owed d.1)
+does_lead now old (Event.Destroy task name) (Reply.Code code) mid owed d j l m = fewer_leads old mid owed l m (target_fewer (in_task 0) task name d.1.0 old mid owed d.1.2)
+does_lead now old (Event.ModRefs task name right delta) (Reply.Code code) mid owed d j l m = fewer_leads old mid owed l m (modifies_fewer (in_task 0) task name right delta old mid owed d.1)
+does_lead now old (Event.GetRefs task name right) (Reply.Refs n) mid owed d j l m = fewer_leads old mid owed l m (same_fewer (in_task 0) old mid d.0)
+does_lead now old (Event.NameType task name) (Reply.NameType n) mid owed d j l m = fewer_leads old mid owed l m (same_fewer (in_task 0) old mid d.0)
+does_lead now old (Event.Names task) (Reply.Names entries) mid owed d j l m = fewer_leads old mid owed l m (same_fewer (in_task 0) old mid d.0)
+does_lead now old (Event.Rename task o n) (Reply.Code code) mid owed d j l m = fewer_leads old mid owed l m (renames_fewer (in_task 0) task o n old mid d.1)
+does_lead now old (Event.ReceiveStatus task name) (Reply.Status status) mid owed d j l m = fewer_leads old mid owed l m (same_fewer (in_task 0) old mid d.0)
+does_lead now old (Event.SetQlimit task name n) (Reply.Code code) mid owed d j l m = fewer_leads old mid owed l m (ports_fewer (in_task 0) task name _ old mid (λ p. refl) d.1)
+does_lead now old (Event.SetMscount task name n) (Reply.Code code) mid owed d j l m = fewer_leads old mid owed l m (ports_fewer (in_task 0) task name _ old mid (λ p. refl) d.2)
+does_lead now old (Event.SetSeqno task name n) (Reply.Code code) mid owed d j l m = fewer_leads old mid owed l m (ports_fewer (in_task 0) task name _ old mid (λ p. refl) d.2)
+does_lead now old (Event.SetStatus task name) (Reply.Members members) mid owed d j l m = fewer_leads old mid owed l m (same_fewer (in_task 0) old mid d.0)
+does_lead now old (Event.MoveMember task member after) (Reply.Code code) mid owed d j l m = fewer_leads old mid owed l m (joins_fewer (in_task 0) task member after old mid d.1)
+does_lead now old (Event.InsertMember task member set) (Reply.Code code) mid owed d j l m = fewer_leads old mid owed l m (ledger_of (in_task 0) old mid _ d.1.rest refl)
+does_lead now old (Event.ExtractMember task member set) (Reply.Code code) mid owed d j l m = fewer_leads old mid owed l m (ledger_of (in_task 0) old mid _ d.1.rest refl)
+does_lead now old (Event.InsertRight task name from poly number) (Reply.Code code) mid owed d j l m = fewer_leads old mid owed l m (inserts_fewer task name from poly number old mid d.1)
+does_lead now old (Event.ExtractRight task name number to) (Reply.Right new_name kind) mid owed d j l m = fewer_leads old mid owed l m (extracts_fewer task name number to new_name kind old mid d.0)
+does_lead now old (Event.RequestNotification task name variant sync notify number) (Reply.Previous previous) mid owed d j l m =
     fewer_leads old mid owed l m (requests_fewer task name variant sync notify number previous old mid owed d)
-does_lead now old (Event.Send task bytes) (Reply.Code code) mid owed d l m = sends_lead now task bytes old mid owed l m d.1
-does_lead now old (Event.Receive task name room large) reply mid owed d l m = fewer_leads old mid owed l m (receipt_fewer (in_task 0) old task d.0 room large reply mid owed d.2)
-does_lead now old (Event.ReceiveAgain task waited room large) reply mid owed d l m = fewer_leads old mid owed l m (receipt_fewer (in_task 0) old task waited room large reply mid owed d)
-does_lead now old event reply mid owed d l m = absurd d
+does_lead now old (Event.Send task bytes) (Reply.Code code) mid owed d j l m = sends_lead now task bytes old mid owed l m d.1 j
+does_lead now old (Event.Receive task name room large) reply mid owed d j l m = fewer_leads old mid owed l m (receipt_fewer (in_task 0) old task d.0 room large reply mid owed d.2)
+does_lead now old (Event.ReceiveAgain task waited room large) reply mid owed d j l m = fewer_leads old mid owed l m (receipt_fewer (in_task 0) old task waited room large reply mid owed d)
+does_lead now old event reply mid owed d j l m = absurd d
 
 pub Step-grounded : (now : ℕ) (old : State) (event : Event) (reply : Reply) (new : State) → Step now old event reply new → IsLawful old → AllGrounded old → AllGrounded new
 Step-grounded now old event reply new (inl r) l all = subst AllGrounded (sym r.same) all
 Step-grounded now old event reply new (inr d) l all = λ p live.
-    let m = Does-mid now old event reply d.mid d.owed d.unrefused d.does l in
-    settled_grounded now old d.mid d.owed new m d.settles p (does_lead now old event reply d.mid d.owed d.does l m all p (live_mid now old d.mid d.owed new d.settles p live)) live
+    let m = Does-mid now old event reply d.mid d.owed d.unrefused d.does d.judged l in
+    settled_grounded now old d.mid d.owed new m d.settles p (does_lead now old event reply d.mid d.owed d.does d.judged l m all p (live_mid now old d.mid d.owed new d.settles p live)) live
 
 RunFrom-grounded : (now : ℕ) (old : State) (events : List Event) (replies : List Reply) (new : State) → RunFrom now old events replies new → IsLawful old → AllGrounded old → AllGrounded new
 RunFrom-grounded now old [] [] new r l all = subst AllGrounded (sym r) all
@@ -584,5 +591,5 @@ RunFrom-grounded now old [] (x ∷ xs) new r l all = absurd r
 RunFrom-grounded now old (e ∷ es) [] new r l all = absurd r
 
 -- After every run the way from each live port ends at a task.
-pub Run-grounded : (events : List Event) (replies : List Reply) (s : State) → Run events replies s → AllGrounded s
-Run-grounded events replies s r = RunFrom-grounded 0 opening events replies s r opening-lawful (λ p live. absurd (cc))
+pub Run-grounded : (profile : Profile) (events : List Event) (replies : List Reply) (s : State) → RunIn profile events replies s → AllGrounded s
+Run-grounded profile events replies s r = RunFrom-grounded 0 (opening_in profile) events replies s r (opening-lawful profile) (λ p live. absurd (cc))

@@ -1,3 +1,5 @@
+pub mod Memberships
+pub mod Failing
 pub mod Names
 pub mod Walks
 pub mod Midway

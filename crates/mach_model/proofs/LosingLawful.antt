@@ -10,11 +10,12 @@ use Rattle.mach_types.specs.Messages.{Entry, to_port}
 use Rattle.mach_types.specs.declared.rights.Disposition.TheVariants.{MoveSendOnce, MoveReceive, MoveSend, CopySend, MakeSend, MakeSendOnce}
 use Rattle.mach_types.specs.declared.rights.Disposition.{Disposition}
 use Rattle.mach_types.specs.Guards.{NoneHolds}
-use Rattle.mach_model.specs.State.{State, Target, Names, lookup, held, at, request_at, without_name, with_name}
+use Rattle.mach_model.specs.State.{State, Target, Names, lookup, held, at, request_at, without_name, with_name, gives}
 use Rattle.mach_model.specs.Death.{same_place, LiesAt}
 use Rattle.mach_model.specs.CopyIn.{name_kept, IsLegal, taken_by, put_by, CopyRight}
 use Rattle.mach_model.specs.Carried.{message_count, lying, mark_count}
-use Rattle.mach_model.specs.References.{is_either, LosesAll, LosesReceive, unused, LosesOne, unused_once, Deallocates, DestroysTarget, Destroys, SetsSends, AddsTo, RemovesRight, IsCounted, Modifies, references_at, references_under, IsAbove, added_rights}
+use Rattle.mach_model.specs.References.{is_either, LosesAll, LosesReceive, unused_among, LosesOne, unused_once, Deallocates, DestroysTarget, Destroys, SetsSends, AddsTo, RemovesRight, Modifies}
+use Rattle.mach_model.specs.Refusals.{added_rights, IsAbove, references_at, references_under, CountsReferences}
 use Rattle.mach_model.specs.Notices.{Notice, right_unused, Owed, no_more_senders, name_died, carried_by}
 use Rattle.mach_model.specs.Lawful.{LawfulNames, IsLawful, LawfulPorts, is_once, HasReferences, IsRight, StandsOn}
 use Rattle.mach_model.specs.Midway.{MidLawful, IsOwed}
@@ -26,8 +27,9 @@ use Rattle.mach_model.proofs.Lost.{Loses-lawful, kept_taken, rekept}
 use Rattle.mach_model.proofs.Settling.{named_lives, IsReordered-mid, is_at, request_refl}
 use Rattle.mach_model.proofs.Midway.{mid_lawful, unowed}
 use Rattle.mach_model.proofs.NamesLawful.{without_set-mid, named_as, none_at}
-use Rattle.mach_model.specs.Sets.{IsSet}
-use Rattle.mach_model.specs.Requests.{RequestOn, GivesBack, Keeps, noted_guards, notify_guards, Requests}
+use Rattle.mach_model.specs.NameGuards.{IsSet}
+use Rattle.mach_model.specs.Requests.{RequestOn, GivesBack, Keeps, Requests}
+use Rattle.mach_model.specs.RequestRefusals.{notify_guards, noted_guards}
 
 -- ---- A name goes or stays, and rights of its task go with no others.
 
@@ -62,7 +64,7 @@ module _ (task : ℕ) (s new : State) (gone : List Token) (l : IsLawful s) (move
 module _ (task : ℕ) (old : State) (ledger : List Token) (l : IsLawful old) (is_task : old.live_task task ≡ true) (gone : List Token) (moves : Moves old.ledger ledger gone []) (near : AreOwn task gone) where
   -- one task's names are others
   named_lost : (naming : ℕ → Names) (stands : Request → Bool) → ((t : ℕ) → (t ≡ task → ⊥) → naming t ≡ old.naming t) → LawfulNames (naming task) (λ kind q. count (is_held task kind q) ledger) →
-      SameSets (old.naming task) (naming task) → KeepsRequests old.stands stands naming → MidLawful (record old { naming = naming; stands = stands; ledger = ledger }) (unused gone)
+      SameSets (old.naming task) (naming task) → KeepsRequests old.stands stands naming → MidLawful (record old { naming = naming; stands = stands; ledger = ledger }) (unused_among gone)
   named_lost naming stands others own same keeps = Loses-lawful old (record old { naming = naming; stands = stands; ledger = ledger }) gone [] l (record {
     rest = refl;
     tokens = λ h. let m = moves h in omega (arith, m);
@@ -81,12 +83,12 @@ module _ (task : ℕ) (old : State) (ledger : List Token) (l : IsLawful old) (is
   })
 
   -- the names stay
-  pub kept_lost : LawfulNames (old.naming task) (λ kind q. count (is_held task kind q) ledger) → MidLawful (record old { ledger = ledger }) (unused gone)
+  pub kept_lost : LawfulNames (old.naming task) (λ kind q. count (is_held task kind q) ledger) → MidLawful (record old { ledger = ledger }) (unused_among gone)
   kept_lost own = named_lost old.naming old.stands (λ t not. refl) own (SameSets-refl (old.naming task)) (requests_stay old l.ground)
 
   -- a name goes
   pub name_lost : (name : ℕ) → LawfulNames (map.remove (old.naming task) name) (λ kind q. count (is_held task kind q) ledger) → SameSets (old.naming task) (map.remove (old.naming task) name) →
-      MidLawful (record (without_name task name old) { ledger = ledger }) (unused gone)
+      MidLawful (record (without_name task name old) { ledger = ledger }) (unused_among gone)
   name_lost name own same = named_lost (at old.naming task (map.remove (old.naming task) name)) (request_at old.stands (dead_name task name) false) (at_other old.naming task (map.remove (old.naming task) name))
       (subst (λ (m : Names). LawfulNames m (λ kind q. count (is_held task kind q) ledger)) (sym (at_same old.naming task (map.remove (old.naming task) name) task refl)) own)
       (subst (SameSets (old.naming task)) (sym (at_same old.naming task (map.remove (old.naming task) name) task refl)) same) (without_requests old l.ground task name)
@@ -98,8 +100,8 @@ module _ (task name p : ℕ) (old mid : State) (l : IsLawful old) (is : lookup o
   no_port : (q : ℕ) → Target.once p ≡ Target.port q → ⊥
   no_port q e = cc
 
-  pub once_lost : MidLawful mid (unused (token send_once p (in_task task) ∷ []))
-  once_lost = subst (λ (x : State). MidLawful x (unused (token send_once p (in_task task) ∷ []))) (sym rest)
+  pub once_lost : MidLawful mid (unused_among (token send_once p (in_task task) ∷ []))
+  once_lost = subst (λ (x : State). MidLawful x (unused_among (token send_once p (in_task task) ∷ []))) (sym rest)
       (name_lost task old mid.ledger l (has_task l.tasks task name (Target.once p) is) (token send_once p (in_task task) ∷ []) moves (own_one task send_once p) name
       (other_unnamed (old.naming task) (held old task) (held mid task) (l.naming task) (λ q. let m = moves (λ x. if is_held task receive q x then 1 else 0) in omega (arith, m))
       (λ q. let m = moves (λ x. if is_held task send q x then 1 else 0) in omega (arith, m)) name (Target.once p) is no_port
@@ -121,11 +123,11 @@ module _ (task name p : ℕ) (old mid : State) (l : IsLawful old) (is : lookup o
   few = let m = moves (λ x. if is_held task send p x then 1 else 0) in let h = (l.naming task).few_references p in omega (arith, m, h)
 
   pub port_lost : (b : Bool) → mid ≡ record (name_kept b task name old) { ledger = mid.ledger } →
-      (b ≡ true) × (0 < held mid task receive p + held mid task send p) ⊎ (b ≡ false) × (held mid task receive p + held mid task send p ≡ 0) → MidLawful mid (unused gone)
-  port_lost true rest (inl (e, some)) = subst (λ (x : State). MidLawful x (unused gone)) (sym rest)
+      (b ≡ true) × (0 < held mid task receive p + held mid task send p) ⊎ (b ≡ false) × (held mid task receive p + held mid task send p ≡ 0) → MidLawful mid (unused_among gone)
+  port_lost true rest (inl (e, some)) = subst (λ (x : State). MidLawful x (unused_among gone)) (sym rest)
       (kept_lost task old mid.ledger l (has_task l.tasks task name (Target.port p) is) gone moves near
       (port_kept (old.naming task) (held old task) (held mid task) (l.naming task) p same_other same_once name is some few))
-  port_lost false rest (inr (e, none)) = subst (λ (x : State). MidLawful x (unused gone)) (sym rest)
+  port_lost false rest (inr (e, none)) = subst (λ (x : State). MidLawful x (unused_among gone)) (sym rest)
       (name_lost task old mid.ledger l (has_task l.tasks task name (Target.port p) is) gone moves near name
       (port_unnamed (old.naming task) (held old task) (held mid task) (l.naming task) p same_other same_once name is none)
       (removed_sets (old.naming task) name (Target.port p) is (λ set e. cc)))
@@ -139,14 +141,14 @@ module _ (task p : ℕ) (xs : List Token) (all : All (λ x. is_either task p x �
   none_of_either test a b = grind (arith, count_none, or_cases, is_it)
 
   -- none of them is a send-once right
-  pub none_unused : unused xs ≡ []
+  pub none_unused : unused_among xs ≡ []
   none_unused = go xs (none_of_either (λ x. same_kind send_once x.kind) refl refl)
     where
-      go : (ys : List Token) → count (λ x. same_kind send_once x.kind) ys ≡ 0 → unused ys ≡ []
+      go : (ys : List Token) → count (λ x. same_kind send_once x.kind) ys ≡ 0 → unused_among ys ≡ []
       go [] e = refl
       go (y ∷ ys) e = by y.kind (let h : count (λ x. same_kind send_once x.kind) ys ≡ 0 = omega (arith, e) in go ys h) e
         where
-          by : (kind : Kind) → unused ys ≡ [] → (if same_kind send_once kind then suc zero else zero) + count (λ x. same_kind send_once x.kind) ys ≡ 0 →
+          by : (kind : Kind) → unused_among ys ≡ [] → (if same_kind send_once kind then suc zero else zero) + count (λ x. same_kind send_once x.kind) ys ≡ 0 →
               list_map {B = Token × Notice} (λ x. (x, right_unused)) (if same_kind send_once kind then y ∷ filter (λ x. same_kind send_once x.kind) ys else filter (λ x. same_kind send_once x.kind) ys) ≡ []
           by receive h e = h
           by send h e = h
@@ -339,7 +341,7 @@ module _ (task name p m : ℕ) (old mid : State) (l : IsLawful old) (is : lookup
 
 -- What the guards of a change by a number say, where none holds.
 pub record Unrefused (s : State) (task name right : ℕ) (delta : ℤ) : Type 0 where
-  pub not_above : ¬ (IsCounted right × IsAbove (references_at s task name right) delta)
+  pub not_above : ¬ (CountsReferences right × IsAbove (references_at s task name right) delta)
   pub room : ¬ ((right ≡ 0) × (most_rights < length s.ledger + added_rights delta))
 
 pub Modifies-mid : (task name right : ℕ) (delta : ℤ) (old mid : State) (owed : Owed) → IsLawful old → Unrefused old task name right delta → Modifies task name right delta old mid owed →
@@ -540,11 +542,11 @@ module _ (task name o k_request : ℕ) (r : Request) (before copied back : State
     })
 
     abbrev named : State
-    named = record (with_name task name (Target.once q) copied) { stands = request_at copied.stands r false }
+    named = record (with_name task name (Target.once q) (gives task name copied)) { stands = request_at copied.stands r false }
 
     named_keeps : IsMoving (record named { ledger = come }) o k_request
     named_keeps = (come_once task o k_request (record w { stands = request_at copied.stands r false; ledger = on_way }) (record named { ledger = come }) send_once q w2_keeps is_task (λ h. omega arith)
-        name refl unused refl).keeps
+        (gives task name copied).given name refl unused refl).keeps
 
     given_kept : (back : State) → back ≡ record named { ledger = back.ledger } → Moves copied.ledger back.ledger (token send_once q (in_request r) ∷ []) (token send_once q (in_task task) ∷ []) →
         Given copied back ledger task o k_request r
@@ -755,8 +757,8 @@ taken_away task r old back l g = IsReordered-mid (record back { ledger = g.given
     (record { rest = refl; tokens = λ h. let m = g.moves h in omega (arith, m) })
 
 pub Requests-mid : (task name variant sync notify number previous : ℕ) (old mid : State) (owed : Owed) → IsLawful old → old.live_task task ≡ true → NoneHolds (notify_guards old task name variant sync notify number) →
-    Requests task name variant sync notify number previous old mid owed → MidLawful mid owed
-Requests-mid task name variant sync notify number previous old mid owed l is_task good x = by x.copy
+    (x : Requests task name variant sync notify number previous old mid owed) → NoneHolds (noted_guards old x.copied task name variant sync notify) → MidLawful mid owed
+Requests-mid task name variant sync notify number previous old mid owed l is_task good x unrefused = by x.copy
   where
     number_is : notify ≢ 0 → (number ≡ 18) ⊎ (number ≡ 21)
     number_is not = grind arith
@@ -772,4 +774,4 @@ Requests-mid task name variant sync notify number previous old mid owed l is_tas
         let y = ready task number notify q 0 (length (old.log 0)) x.request old x.copied (moving old 0 (length (old.log 0)) l) copy (once_sent number copy.given copy.is_given (number_is some)) in
         let lives : x.copied.live_task task ≡ true = ap (λ (s : State). s.live_task task) y.copies.rest ∙ is_task in
         let g = gives_back task previous 0 (length (old.log 0)) x.request old x.copied x.back y.ledger l y.copies.keeps lives y.kept x.given_back in
-        keeps_mid task name variant sync notify q x.request old x.copied x.back mid owed l y g x.unrefused x.on is_task keeps
+        keeps_mid task name variant sync notify q x.request old x.copied x.back mid owed l y g unrefused x.on is_task keeps

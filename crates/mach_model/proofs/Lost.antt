@@ -8,7 +8,7 @@ use Rattle.mach_model.specs.State.{State, Holds, held, request_at, same_request}
 use Rattle.mach_model.specs.Death.{same_place}
 use Rattle.mach_model.specs.Carried.{message_count, lying}
 use Rattle.mach_model.specs.Notices.{right_unused}
-use Rattle.mach_model.specs.References.{unused}
+use Rattle.mach_model.specs.References.{unused_among}
 use Rattle.mach_model.specs.Lawful.{LawfulTasks, LawfulNumbers, LawfulSets, LawfulMembership, IsLawful, StandsOn}
 use Rattle.mach_model.specs.Midway.{IsOwed, MidLawful, IsOnName}
 use Rattle.mach_model.proofs.Names.{length-weigh, right_of, count_some, pos_or_zero, held_le_of, left_of, count_le, KeepsRequests, all_ground, elsewhere, same_naming}
@@ -43,21 +43,21 @@ among_orphans p (x ∷ xs) some = go (same_kind receive x.kind) refl (among_orph
     go true e rest = here (is_of receive p x) refl rest
     go false e rest = rest (let z : (if is_of receive p x then suc zero else zero) ≡ zero = rw e refl in omega (arith, some, z))
 
-pub few_of : (xs : List Token) → length (unused xs) + length (orphans_of xs) ≤ length xs
+pub few_of : (xs : List Token) → length (unused_among xs) + length (orphans_of xs) ≤ length xs
 few_of [] = omega arith
 few_of (x ∷ xs) = grind (arith, few_of xs)
 
-pub are_unused : (live : ℕ → Bool) (xs : List Token) → ((k : ℕ) (d : Token) → k < length xs → live (get_or xs k d).port ≡ true) → All (IsOwed live) (unused xs)
+pub are_unused : (live : ℕ → Bool) (xs : List Token) → ((k : ℕ) (d : Token) → k < length xs → live (get_or xs k d).port ≡ true) → All (IsOwed live) (unused_among xs)
 are_unused live [] is = λ k d below. absurd (omega (arith, below))
 are_unused live (x ∷ xs) is = go x.kind refl (are_unused live xs (λ k d below. is (suc k) d (omega (arith, below))))
   where
-    go : (kind : Kind) → x.kind ≡ kind → All (IsOwed live) (unused xs) →
+    go : (kind : Kind) → x.kind ≡ kind → All (IsOwed live) (unused_among xs) →
         All (IsOwed live) (map (λ x. (x, right_unused)) (if same_kind send_once kind then x ∷ filter (λ x. same_kind send_once x.kind) xs else filter (λ x. same_kind send_once x.kind) xs))
     go receive e rest = rest
     go send e rest = rest
     go send_once e rest = first
       where
-        first : All (IsOwed live) ((x, right_unused) ∷ unused xs)
+        first : All (IsOwed live) ((x, right_unused) ∷ unused_among xs)
         first zero d below = record { once = e; live = is 0 x (omega arith); carries = λ place. refl }
         first (suc k) d below = rest k d (omega (arith, below))
 
@@ -86,7 +86,7 @@ pub record Loses (s new : State) (gone spent : List Token) : Type 0 where
   pub numbers : LawfulNumbers s.limit s.make_send new.sequence
   pub sets : LawfulSets new.naming new.set_owner s.sets_made
   pub members : (p set : ℕ) → Contains (new.sets_of p) set → (task : ℕ) × (new.set_owner set ≡ Some task) × Holds s task receive p
-  pub membership : LawfulMembership s.live_port new.sets_of
+  pub membership : LawfulMembership s.profile s.live_port new.sets_of
   pub within : (p : ℕ) → new.taken p ≤ length (s.log p)
   pub carried : (p i : ℕ) (e : Entry) → s.live_port p ≡ true → slice_get (drop (new.taken p) (s.log p)) i ≡ Some e → (kind : Kind) (q : ℕ) → s.live_port q ≡ true →
       lying new kind q (in_message p (new.taken p + i)) ≡ message_count kind q e.message
@@ -113,7 +113,7 @@ module _ (s new : State) (gone spent : List Token) (l : IsLawful s) (v : Loses s
   abbrev shaped : State
   shaped = lost_shape s new
 
-  shaped_lawful : MidLawful shaped (unused gone)
+  shaped_lawful : MidLawful shaped (unused_among gone)
   shaped_lawful = record {
     tasks = v.tasks;
     naming = v.naming;
@@ -153,8 +153,8 @@ module _ (s new : State) (gone spent : List Token) (l : IsLawful s) (v : Loses s
     ground = all_ground s.live_port s.naming new.naming s.stands new.stands l.ground v.stands;
   }
 
-  pub Loses-lawful : MidLawful new (unused gone)
-  Loses-lawful = subst (λ (x : State). MidLawful x (unused gone)) (sym v.rest) shaped_lawful
+  pub Loses-lawful : MidLawful new (unused_among gone)
+  Loses-lawful = subst (λ (x : State). MidLawful x (unused_among gone)) (sym v.rest) shaped_lawful
 
 -- ---- A send-once right goes to a request, or comes from it, while the request is made or ended: the state stays lawful but for the rights on
 -- their way.

@@ -14,24 +14,27 @@ use Rattle.mach_types.specs.Bodies.{body_words, body_rights, reply_rights, messa
 use Rattle.mach_types.specs.declared.rights.Disposition.TheVariants.{MoveReceive, MoveSend, MoveSendOnce, CopySend, MakeSend, MakeSendOnce}
 use Rattle.mach_types.specs.Guards.{NoneHolds}
 use Rattle.mach_types.specs.TextGuards.{header_guards, word_at}
-use Rattle.mach_model.specs.State.{State, Target, held, with_name, at, queue, lookup}
+use Rattle.mach_model.specs.State.{State, Target, held, with_name, at, queue, lookup, gives}
 use Rattle.mach_model.specs.SentMeans.{IsSent, target_mark}
 use Rattle.mach_model.specs.CopyIn.{CopyRight, CopyWord, CopyReply, CopyCarried, CopyBody, IsLegal, taken_by, put_by}
-use Rattle.mach_model.specs.Send.{Copied, Sends, entry}
+use Rattle.mach_model.specs.Send.{Copied, Sends, entry, place_at}
 use Rattle.mach_model.specs.Carried.{mark_count, rights_count, message_count, lying}
 use Rattle.mach_model.proofs.Walks.{SameBody-each}
 use Rattle.mach_model.proofs.Moving.{IsMoving, shape, shape-same, shape-trans, Apart, apart-same, apart-trans, moving, one_at_most, no_orphans, none_owed, same_receivers, arrived}
 use Rattle.mach_model.proofs.Copying.{CopyRight-copies, at_entry, Copies, once_held, own_right, not_held, Removes, come_held, come_same, come_port, come_once, gone_removes}
 use Rattle.mach_model.specs.CopyOut.{given_to, Named, NamedOnce, NamedFor, GiveMark, GiveWord}
-use Rattle.mach_model.proofs.Names.{both_test, lying_le_of, length-weigh, left_of, right_of, fresh_fits, IsNew, same_naming, at_same, at_other, at_own, at_all, snoc_cases, elsewhere, slice_get_drop}
+use Rattle.mach_model.proofs.Names.{both_test, lying_le_of, length-weigh, left_of, right_of, IsNew, same_naming, at_same, at_other, at_own, at_all, snoc_cases, elsewhere, slice_get_drop}
 use Rattle.mach_model.specs.Lawful.{IsLawful}
 use Rattle.mach_model.specs.Midway.{MidLawful}
 use Rattle.mach_model.proofs.Settling.{kind_refl}
+use Rattle.mach_model.proofs.NamesLawful.{fresh_new}
 use Rattle.mach_model.specs.Death.{same_place}
 use Rattle.mach_model.specs.ReceivedMeans.{received_words}
 use Rattle.mach_model.specs.Receive.{IsFront, with_taken, Receives}
-use Rattle.mach_model.specs.Transfer.{target_for, inserted_guards, Inserts, pegged, Extracts}
-use Rattle.mach_model.specs.Refusals.{IsNoName}
+use Rattle.mach_model.specs.Transfer.{target_for, Inserts, pegged, Extracts}
+use Rattle.mach_model.specs.TransferRefusals.{inserted_guards, extracted_guards}
+use Rattle.mach_model.specs.NameGuards.{IsNoName}
+use Rattle.mach_model.specs.SendRefusals.{sent_guards}
 
 -- ---- Copying in a whole message: the reply, each word of the body, and the destination before them. What is then on its way is what
 -- the message carries.
@@ -121,7 +124,7 @@ removes_both a b c o k f g h x y sum = grind (arith, shape-trans, apart-trans)
 -- ---- one right
 
 pub named_new : (task name : ℕ) (x : Target) (old new : State) → Named task name x old new → IsNew (old.naming task) name
-named_new task name x old new n = grind (arith, fresh_fits)
+named_new task name x old new n = fresh_new old task name n.fresh (n.room)
 
 onward : (old s new : State) (ledger : List Token) → new ≡ record s { ledger = ledger } → s ≡ old → new ≡ record old { ledger = ledger }
 onward old s new ledger e f = e ∙ ap (λ (x : State). record x { ledger = ledger }) f
@@ -135,8 +138,8 @@ GiveRight-removes task o k receive p old name new named l is_task n rest tokens 
 
     go : NamedOnce task name p old named → Removes old new o k (λ c q. mark_count c q receive (to_port p))
     go (inl h) = come_same task o k old new receive p l is_task tokens name (λ e. cc) h.0 few (onward old named new new.ledger rest h.1)
-    go (inr h) = come_port task o k old new receive p l is_task tokens name (λ e. cc) (named_new task name (Target.port p) old named h.1) h.0 few
-        (onward (with_name task name (Target.port p) old) named new new.ledger rest h.1.rest)
+    go (inr h) = come_port task o k old new receive p l is_task tokens (gives task name old).given name (λ e. cc) (named_new task name (Target.port p) old named h.1) h.0 few
+        (onward (with_name task name (Target.port p) (gives task name old)) named new new.ledger rest h.1.rest)
 GiveRight-removes task o k send p old name new named l is_task n rest tokens = by (nat_lt (held old task send p) most_references) refl tokens
   where
     by : (b : Bool) → nat_lt (held old task send p) most_references ≡ b → Moves old.ledger new.ledger (token send p (in_message o k) ∷ []) (if b then token send p (in_task task) ∷ [] else []) →
@@ -155,16 +158,16 @@ GiveRight-removes task o k send p old name new named l is_task n rest tokens = b
 
         go : NamedOnce task name p old named → Removes old new o k (λ c q. mark_count c q send (to_port p))
         go (inl h) = come_same task o k old new send p l is_task tokens name (λ e. cc) h.0 few (onward old named new new.ledger rest h.1)
-        go (inr h) = come_port task o k old new send p l is_task tokens name (λ e. cc) (named_new task name (Target.port p) old named h.1) h.0 few
-            (onward (with_name task name (Target.port p) old) named new new.ledger rest h.1.rest)
+        go (inr h) = come_port task o k old new send p l is_task tokens (gives task name old).given name (λ e. cc) (named_new task name (Target.port p) old named h.1) h.0 few
+            (onward (with_name task name (Target.port p) (gives task name old)) named new new.ledger rest h.1.rest)
     by false e tokens = go n
       where
         go : NamedOnce task name p old named → Removes old new o k (λ c q. mark_count c q send (to_port p))
         go (inl h) = gone_removes task o k old new send p refl l is_task tokens (onward old named new new.ledger rest h.1)
         go (inr h) = absurd (let a = ltb-false (held old task send p) most_references e in let m = (l.naming task).is_named p (omega (arith, a)) in h.0 m.0 m.1)
 GiveRight-removes task o k send_once p old name new named l is_task n rest tokens =
-    come_once task o k old new send_once p l is_task tokens name refl (named_new task name (Target.once p) old named n)
-    (onward (with_name task name (Target.once p) old) named new new.ledger rest n.rest)
+    come_once task o k old new send_once p l is_task tokens (gives task name old).given name refl (named_new task name (Target.once p) old named n)
+    (onward (with_name task name (Target.once p) (gives task name old)) named new new.ledger rest n.rest)
 
 GiveMark-removes : (task o k : ℕ) (kind : Kind) (mark : Mark) (old : State) (word : ℕ) (new : State) → IsMoving old o k → old.live_task task ≡ true →
     GiveMark task (in_message o k) kind mark old word new → Removes old new o k (λ c q. mark_count c q kind mark)
@@ -321,8 +324,9 @@ pub Sends-adds : (now task : ℕ) (bytes : List ℕ) (old mid : State) → IsLaw
     Adds old s.copied_state s.m.destination (length (old.log s.m.destination)) (λ c q. message_count c q s.m)
 Sends-adds now task bytes old mid l s = Copied-adds task s.header s.written old s.m s.copied_state (moving old s.m.destination (length (old.log s.m.destination)) l) s.copied
 
-pub Sends-mid : (now task : ℕ) (bytes : List ℕ) (old mid : State) → NoneHolds (header_guards bytes) → IsLawful old → Sends now task bytes old mid → MidLawful mid []
-Sends-mid now task bytes old mid good l s =
+pub Sends-mid : (now task : ℕ) (bytes : List ℕ) (old mid : State) → NoneHolds (header_guards bytes) → IsLawful old → (s : Sends now task bytes old mid) →
+    NoneHolds (sent_guards s.m (place_at old s.m.destination) s.copied_state) → MidLawful mid []
+Sends-mid now task bytes old mid good l s unrefused =
     let o = s.m.destination in
     let a = Sends-adds now task bytes old mid l s in
     let log : s.copied_state.log ≡ old.log = ap (λ (x : State). x.log) a.rest in
@@ -332,7 +336,7 @@ Sends-mid now task bytes old mid good l s =
     λ kind q. let e = a.lies kind q in let z = l.no_entry o (length (old.log o)) (omega arith) kind q in omega (arith, e, z) in
     let lies' = subst (λ (k : ℕ). (kind : Kind) (q : ℕ) → lying s.copied_state kind q (in_message o k) ≡ message_count kind q s.m) long lies in
     subst (λ (x : State). MidLawful x []) (sym s.rest)
-    (sent_lawful s.copied_state now s.m keeps (by_a_send now task bytes old mid good s) (not_above (length s.copied_state.ledger) most_rights s.unrefused.1.1.0) lies')
+    (sent_lawful s.copied_state now s.m keeps (by_a_send now task bytes old mid good s) (not_above (length s.copied_state.ledger) most_rights unrefused.1.1.0) lies')
 
 -- ---- A message that is received, whatever it carries, leaves a lawful state.
 
@@ -638,7 +642,7 @@ module _ (task name p o k : ℕ) (copied : State) (ledger : List Token) (kind : 
       (must_be (lookup copied task name) p (λ not. good.1.0 (some, inr not))) few_here refl
 
   named_port : kind ≢ send_once → lookup copied task name ≡ None → Done (with_name task name (Target.port p) copied)
-  named_port not none = come_port task o k v (with_name task name (Target.port p) copied) kind p l is_task tokens name not (is_new none)
+  named_port not none = come_port task o k v (with_name task name (Target.port p) copied) kind p l is_task tokens copied.given name not (is_new none)
       (λ n e. elim (eqb_tells n name) [
         | inl h ↦ (let f : lookup copied task name ≡ Some (Target.port p) = subst (λ (x : ℕ). lookup copied task x ≡ Some (Target.port p)) h.1 e in cc)
         | inr h ↦ good.0 (not, (n, h.1, e))
@@ -647,7 +651,7 @@ module _ (task name p o k : ℕ) (copied : State) (ledger : List Token) (kind : 
   named_newly : (c : Kind) → c ≡ kind → lookup copied task name ≡ None → Done (with_name task name (target_for c p) copied)
   named_newly receive is none = named_port (λ e. (let f = is in cc)) none
   named_newly send is none = named_port (λ e. (let f = is in cc)) none
-  named_newly send_once is none = come_once task o k v (with_name task name (Target.once p) copied) kind p l is_task tokens name (sym is) (is_new none) refl
+  named_newly send_once is none = come_once task o k v (with_name task name (Target.once p) copied) kind p l is_task tokens copied.given name (sym is) (is_new none) refl
 
   inserted : (mid : State) → (lookup copied task name ≢ None) × (mid ≡ copied) ⊎ (lookup copied task name ≡ None) × (mid ≡ with_name task name (target_for kind p) copied) → Done mid
   inserted mid (inl h) = subst Done (sym h.1) (named_there h.0)
@@ -669,23 +673,24 @@ pub hands_shape : (old mid : State) (o k : ℕ) (kind : Kind) (p : ℕ) → Hand
 hands_shape old mid o k kind p h = shape-trans old h.on_its_way mid h.copies.rest h.removes.rest
 
 pub Inserts-hands : (task name from poly number : ℕ) (old mid : State) → IsLawful old → old.live_task task ≡ true → ¬ (IsNoName name) → (i : Inserts task name from poly number old mid) →
-    Hands old mid 0 (length (old.log 0)) (kind_sent i.copy.given) i.p
-Inserts-hands task name from poly number old mid l is_task fits i =
+    NoneHolds (inserted_guards i.copied task name i.p (kind_sent i.copy.given)) → Hands old mid 0 (length (old.log 0)) (kind_sent i.copy.given) i.p
+Inserts-hands task name from poly number old mid l is_task fits i unrefused =
     let k = length (old.log 0) in
     let h = halfway from task number poly i.p 0 k old i.copied (moving old 0 k l) i.copy in
     let live : i.copied.live_task task ≡ true = ap (λ (x : State). x.live_task task) h.copies.rest ∙ is_task in
     record {
       on_its_way = record i.copied { ledger = h.ledger };
       copies = h.copies;
-      removes = inserted task name i.p 0 k i.copied h.ledger (kind_sent i.copy.given) h.copies.keeps live h.moves i.unrefused fits mid i.named;
+      removes = inserted task name i.p 0 k i.copied h.ledger (kind_sent i.copy.given) h.copies.keeps live h.moves unrefused fits mid i.named;
     }
 
-pub Inserts-mid : (task name from poly number : ℕ) (old mid : State) → IsLawful old → old.live_task task ≡ true → ¬ (IsNoName name) → Inserts task name from poly number old mid → MidLawful mid []
-Inserts-mid task name from poly number old mid l is_task fits i =
-    let h = Inserts-hands task name from poly number old mid l is_task fits i in
+pub Inserts-mid : (task name from poly number : ℕ) (old mid : State) → IsLawful old → old.live_task task ≡ true → ¬ (IsNoName name) → (i : Inserts task name from poly number old mid) →
+    NoneHolds (inserted_guards i.copied task name i.p (kind_sent i.copy.given)) → MidLawful mid []
+Inserts-mid task name from poly number old mid l is_task fits i unrefused =
+    let h = Inserts-hands task name from poly number old mid l is_task fits i unrefused in
     arrives 0 (length (old.log 0)) old h.on_its_way mid (kind_sent i.copy.given) i.p l (omega arith) h.copies h.removes
     (let e = ap length (same_ledger task name (target_for (kind_sent i.copy.given) i.p) i.copied mid i.named) in
-    let f = above_not (length i.copied.ledger) most_rights (λ many. i.unrefused.1.1.1.0 (inr many)) in omega (arith, e, f))
+    let f = above_not (length i.copied.ledger) most_rights (λ many. unrefused.1.1.1.0 (inr many)) in omega (arith, e, f))
 
 -- ---- to a task, under the name that a received right would get
 
@@ -728,9 +733,10 @@ Extracts-hands task name number to new_name shown old mid l is_task x =
       removes = extracted to new_name x.p 0 k x.copied x.named_state mid h.ledger (kind_sent x.copy.given) h.copies.keeps live h.moves x.rest x.tokens x.named;
     }
 
-pub Extracts-mid : (task name number to new_name shown : ℕ) (old mid : State) → IsLawful old → old.live_task to ≡ true → Extracts task name number to new_name shown old mid → MidLawful mid []
-Extracts-mid task name number to new_name shown old mid l is_task x =
+pub Extracts-mid : (task name number to new_name shown : ℕ) (old mid : State) → IsLawful old → old.live_task to ≡ true → (x : Extracts task name number to new_name shown old mid) →
+    NoneHolds (extracted_guards x.copied to x.p (kind_sent x.copy.given)) → MidLawful mid []
+Extracts-mid task name number to new_name shown old mid l is_task x unrefused =
     let h = Extracts-hands task name number to new_name shown old mid l is_task x in
     arrives 0 (length (old.log 0)) old h.on_its_way mid (kind_sent x.copy.given) x.p l (omega arith) h.copies h.removes
     (let e = x.tokens (λ y. 1) in
-    let f = above_not (length x.copied.ledger) most_rights (λ many. x.unrefused.0 (inr many)) in omega (arith, e, f, length-weigh x.copied.ledger, length-weigh mid.ledger))
+    let f = above_not (length x.copied.ledger) most_rights (λ many. unrefused.0 (inr many)) in omega (arith, e, f, length-weigh x.copied.ledger, length-weigh mid.ledger))

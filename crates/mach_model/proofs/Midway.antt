@@ -7,7 +7,7 @@ use Rattle.mach_types.specs.Tokens.{receive, Request, in_message, Token, count, 
 use Rattle.mach_model.specs.State.{State, Target, lookup, Holds}
 use Rattle.mach_model.specs.Death.{same_place, IsOrphan}
 use Rattle.mach_model.specs.Notices.{Owed}
-use Rattle.mach_model.specs.ReceiveRight.{NamesReceive}
+use Rattle.mach_model.specs.NameGuards.{NamesReceive}
 use Rattle.mach_model.specs.Lawful.{IsLawful}
 use Rattle.mach_model.specs.Carried.{lying}
 use Rattle.mach_model.specs.Midway.{MidLawful}

@@ -40,7 +40,7 @@ pub record IsMoving (s : State) (o k : ℕ) : Type 0 where
   pub open receivers use *
   pub sets : LawfulSets s.naming s.set_owner s.sets_made
   pub open sets use *
-  pub membership : LawfulMembership s.live_port s.sets_of
+  pub membership : LawfulMembership s.profile s.live_port s.sets_of
   pub open membership use *
   pub logs : LawfulLogs s.ports_made s.log s.taken
   pub open logs use *
@@ -126,7 +126,7 @@ arrived s o k l outside none few = arriving s o k l outside none [] (none_owed s
 
 -- the state s with what copying in or out changes, as it is in x
 abbrev pub shape : State → State → State
-shape s x = record s { naming = x.naming; make_send = x.make_send; sequence = x.sequence; sets_of = x.sets_of; stands = x.stands; ledger = x.ledger }
+shape s x = record s { naming = x.naming; given = x.given; make_send = x.make_send; sequence = x.sequence; sets_of = x.sets_of; stands = x.stands; ledger = x.ledger }
 
 pub shape-trans : (a b c : State) → b ≡ shape a b → c ≡ shape b c → c ≡ shape a c
 shape-trans a b c e f = f ∙ ap (λ (x : State). shape x c) e
@@ -179,11 +179,11 @@ pub record Leaves (s new : State) (task : ℕ) : Type 0 where
   pub ports : LawfulPorts s.live_port s.ports_made new.ledger
   pub numbers : LawfulNumbers s.limit new.make_send new.sequence
   pub receivers : LawfulReceivers s.live_port s.set_owner new.sets_of new.ledger
-  pub membership : LawfulMembership s.live_port new.sets_of
+  pub membership : LawfulMembership s.profile s.live_port new.sets_of
 
 module _ (task o k : ℕ) (s : State) (l : IsMoving s o k) (is_task : s.live_task task ≡ true) (make_send sequence : ℕ → ℕ) (sets_of : ℕ → List ℕ) (ledger : List Token)
     (ports : LawfulPorts s.live_port s.ports_made ledger) (numbers : LawfulNumbers s.limit make_send sequence)
-    (receivers : LawfulReceivers s.live_port s.set_owner sets_of ledger) (membership : LawfulMembership s.live_port sets_of) where
+    (receivers : LawfulReceivers s.live_port s.set_owner sets_of ledger) (membership : LawfulMembership s.profile s.live_port sets_of) where
   abbrev now : State
   now = record s { make_send = make_send; sequence = sequence; sets_of = sets_of; ledger = ledger }
 
@@ -192,9 +192,9 @@ module _ (task o k : ℕ) (s : State) (l : IsMoving s o k) (is_task : s.live_tas
   same_leaves own = grind (arith, requests_stay)
 
   -- they are others, with the same sets
-  pub other_leaves : (names : Names) (stands : Request → Bool) → LawfulNames names (held now task) → SameSets (s.naming task) names → KeepsRequests s.stands stands (at s.naming task names) →
-      Leaves s (record now { naming = at s.naming task names; stands = stands }) task
-  other_leaves names stands own sets keeps = grind (arith, at_other, at_same)
+  pub other_leaves : (given : ℕ → ℕ → ℕ) (names : Names) (stands : Request → Bool) → LawfulNames names (held now task) → SameSets (s.naming task) names → KeepsRequests s.stands stands (at s.naming task names) →
+      Leaves s (record now { naming = at s.naming task names; stands = stands; given = given }) task
+  other_leaves given names stands own sets keeps = grind (arith, at_other, at_same)
 
 module _ (s new : State) (task o k : ℕ) (l : IsMoving s o k) (gone come : List Token) (moves : Moves s.ledger new.ledger gone come)
     (near_gone : AreNear task o k gone) (near_come : AreNear task o k come) where

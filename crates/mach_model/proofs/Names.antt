@@ -1,6 +1,6 @@
 -- Sums over tokens, and one task's names: what keeps what is true of them.
 use Rattle.std.proofs.Common.{◌≡◌, ℕ, suc, zero, ◌+◌, ◌<◌, ◌≤◌, List, [], ◌∷◌, ◌++◌, refl, arith, true, false, Bool, ◌⊎◌, inl, inr, length, get_or, Some, None, sym, ap, ◌∙◌, Option, cond, subst}
-use Rattle.std.specs.Prelude.{if◌then◌else◌, ◌&&◌, ◌==◌, slice_get, drop, map as list_map, is_some, ◌-◌}
+use Rattle.std.specs.Prelude.{if◌then◌else◌, ◌&&◌, ◌==◌, slice_get, drop, map as list_map, is_some, ◌-◌, ◌/◌}
 use Rattle.std.proofs.lemmas.Bool.{false_from_ne_true, eq-eqb, ne_eqb, true_from_ne_false}
 use Rattle.std.proofs.lemmas.Bool.Decides.{eqb_tells}
 use Rattle.std.specs.FinMap as map
@@ -13,7 +13,7 @@ use Rattle.std.specs.Cmp.{nat_cmp_total, eq_by_cmp_equiv}
 use Rattle.mach_types.specs.Tokens.{Token, Kind, weigh, count, is_of, is_held, Place, receive, send, send_once, Request, no_senders, port_destroyed, dead_name}
 use Rattle.mach_types.specs.Numbers.{dead_word, most_names, most_references}
 use Rattle.mach_model.specs.Death.{same_place}
-use Rattle.mach_model.specs.State.{State, at, Names, IsFresh, Target, lookup, request_at}
+use Rattle.mach_model.specs.State.{State, at, Names, IsFresh, Target, lookup, request_at, IsFreshIndex}
 use Rattle.mach_model.specs.Carried.{lying}
 use Rattle.mach_model.specs.Lawful.{tally, is_once, onces, HasReferences, LawfulTasks, LawfulSpace, LawfulNames, LawfulSets, IsRight, LawfulGround}
 use Rattle.mach_model.specs.Midway.{IsOnName}
@@ -219,6 +219,48 @@ many_names {V} (suc k) m all =
 pub fresh_fits : (space : Names) (name : ℕ) → IsFresh space name → name ≤ map.len space + 1
 fresh_fits space zero f = omega arith
 fresh_fits space (suc k) f = let h = many_names k space (λ n above below. f.least n above (omega (arith, below))) in omega (arith, h)
+
+-- the indices of some names, each with a name that has it
+abbrev indexed : List (ℕ × Target) → map.FinMap nat_cmp ℕ
+indexed [] = map.empty
+indexed (e ∷ es) = map.insert (indexed es) (e.0 / 256) e.0
+
+few_indices : (es : List (ℕ × Target)) → map.len (indexed es) ≤ length es
+few_indices [] = let e = len-empty nat_cmp ℕ in omega (arith, e)
+few_indices (e ∷ es) = go (few_indices es) (map.contains_key (indexed es) (e.0 / 256)) (len-insert nat_cmp_total (indexed es) (e.0 / 256) e.0)
+  where
+    go : map.len (indexed es) ≤ length es → (b : Bool) → map.len (map.insert (indexed es) (e.0 / 256) e.0) ≡ cond b (map.len (indexed es)) (map.len (indexed es) + 1) →
+        map.len (map.insert (indexed es) (e.0 / 256) e.0) ≤ suc (length es)
+    go ih true f = omega (arith, f, ih)
+    go ih false f = omega (arith, f, ih)
+
+has_index : (es : List (ℕ × Target)) (n : ℕ) → is_some (find nat_cmp n es) ≡ true → map.contains_key (indexed es) (n / 256) ≡ true
+has_index [] n h = absurd (cc)
+has_index (e ∷ es) n h = elim (eqb_tells (n / 256) (e.0 / 256)) [
+  | inl same ↦ ap (map.contains_key (indexed (e ∷ es))) same.1 ∙ ap is_some (get_own (indexed es) (e.0 / 256) e.0)
+  | inr other ↦
+      ap is_some (get_other (indexed es) (e.0 / 256) e.0 (n / 256) other.1) ∙ has_index es n (later other.1 (nat_cmp n e.0) refl h)
+]
+  where
+    later : (n / 256 ≡ e.0 / 256 → ⊥) → (r : Ordering) → nat_cmp n e.0 ≡ r → is_some (cond (is_eq r) (Some e.1) (find nat_cmp n es)) ≡ true → is_some (find nat_cmp n es) ≡ true
+    later other Less f g = g
+    later other Greater f g = g
+    later other Equal f g = absurd (other (ap (λ (x : ℕ). x / 256) (nat_cmp-IsAntisymmetric n e.0 f)))
+
+-- a name with a generation that is fresh has an index that is at most one above the number of names
+pub fresh_index_fits : (space : Names) (given : ℕ → ℕ) (name : ℕ) → IsFreshIndex space given name → name / 256 ≤ map.len space + 1
+fresh_index_fits space given name f =
+    let few = few_indices (map.entries space) in
+    let len = map.len-entries space in
+    go (name / 256) refl few len
+  where
+    go : (i : ℕ) → name / 256 ≡ i → map.len (indexed (map.entries space)) ≤ length (map.entries space) → map.len space ≡ length (map.entries space) → i ≤ map.len space + 1
+    go zero e few len = omega arith
+    go (suc k) e few len =
+        let h = many_names k (indexed (map.entries space)) (λ i above below.
+        let x = f.least i above (omega (arith, below, e)) in
+        ap (map.contains_key (indexed (map.entries space))) (sym x.1) ∙ has_index (map.entries space) x.0 (ap is_some (sym (map.get-entries space x.0)) ∙ x.2)) in
+        omega (arith, h, few, len)
 
 -- ---- One task's names: what is true of them beside the rights that the task has, and what keeps it.
 

@@ -1,26 +1,31 @@
 -- Calls on names, numbers and sets leave a lawful state.
 use Rattle.std.proofs.Common.{arith, ℕ, ◌^◌, ◌<◌, ◌≤◌, sym, subst, ◌≡◌, ◌+◌, List, [], ◌∷◌, refl, ◌∙◌, false, inl, inr, ◌⊎◌, length, get_or, zero, suc, Option, Some, None, ap, true, Bool}
-use Rattle.std.specs.Prelude.{◌≢◌, ◌&&◌, if◌then◌else◌, ◌==◌, Contains, filter, not, slice_get, drop}
+use Rattle.std.specs.Prelude.{◌≢◌, ◌&&◌, if◌then◌else◌, ◌==◌, Contains, filter, not, slice_get, drop, ◌++◌, ◌%◌}
 use Rattle.std.proofs.lemmas.Bool.{eq-eqb, and_from, ne_eqb, false_from_ne_true}
 use Rattle.std.specs.FinMap as map
 use Rattle.std.proofs.lemmas.Bool.Decides.{eqb_tells}
 use Rattle.mach_types.specs.Numbers.{greatest_limit, dead_word, most_names, most_rights, first_limit}
 use Rattle.mach_types.specs.Tokens.{Kind, receive, send_once, Request, in_message, in_request, Token, weigh, count, is_of, is_held, dead_name, no_senders, port_destroyed, Place, in_task, is_in_task, send, token, Moves}
 use Rattle.mach_types.specs.Messages.{Entry}
-use Rattle.mach_model.specs.State.{State, at, held, Holds, Target, Names, request_at, lookup, without_name, same_request, queue, IsFresh, with_name}
-use Rattle.mach_model.specs.ReceiveRight.{ChangesPort, NamesReceive}
-use Rattle.mach_model.specs.Lawful.{LawfulNumbers, IsLawful, LawfulNames, LawfulReceivers, LawfulSets, LawfulMembership, LawfulGround, IsRight, StandsOn}
-use Rattle.mach_model.proofs.Names.{at_all, at_same, at_other, at_own, if_same, if_other, slice_get_drop, count_none, count_some, held_le_of, pos_or_zero, length-weigh, weigh-le, left_of, right_of, both_test, lying_le_of, same_naming, IsNew, left, other_unnamed, other_named, has_task, tasks_named, all_named, renamed, port_named, get_removed, kept, get_own, inserted, get_other, fresh_fits, KeepsRequests, all_ground, without_requests, named_requests, none_right, rename_law, at_law, inserted_sets}
+use Rattle.mach_model.specs.State.{State, at, held, Holds, Target, Names, request_at, lookup, without_name, same_request, queue, with_name, IsFreshFor, gives, IsFreshIndex, IsFreshIn}
+use Rattle.mach_model.specs.NameGuards.{HasSeveral, NamesReceive, IsMember}
+use Rattle.mach_model.specs.Names.{ChangesPort, with_set, renamed_place, renamed_token, renamed_requests, Renames, with_port, AllocatesPort, Makes, JoinsSet, LeavesSet, EntersSet}
+use Rattle.mach_model.specs.Lawful.{LawfulNumbers, IsLawful, LawfulNames, LawfulReceivers, LawfulSets, LawfulMembership, LawfulGround, IsRight, StandsOn, HasFewSets}
+use Rattle.mach_model.proofs.Names.{at_all, at_same, at_other, at_own, if_same, if_other, slice_get_drop, count_none, count_some, held_le_of, pos_or_zero, length-weigh, weigh-le, left_of, right_of, both_test, lying_le_of, same_naming, IsNew, left, other_unnamed, other_named, has_task, tasks_named, all_named, renamed, port_named, get_removed, kept, get_own, inserted, get_other, fresh_fits, KeepsRequests, all_ground, without_requests, named_requests, none_right, rename_law, at_law, inserted_sets, fresh_index_fits}
 use Rattle.mach_model.specs.Death.{same_place, IsOrphan}
 use Rattle.mach_model.specs.Carried.{lying, message_count}
 use Rattle.mach_model.specs.Notices.{Owed}
 use Rattle.mach_model.specs.Midway.{IsOnName, MidLawful}
 use Rattle.mach_model.proofs.Settling.{kind_refl, alive}
-use Rattle.mach_model.specs.Names.{with_set, renamed_place, renamed_token, renamed_requests, Renames, with_port, AllocatesPort, Makes, IsFull}
-use Rattle.mach_model.specs.Sets.{without_set, JoinsSet}
+use Rattle.mach_model.specs.Room.{IsFull}
+use Rattle.mach_model.specs.References.{without_set}
 use Rattle.mach_model.proofs.Moving.{one_at_most, no_orphans, none_owed}
 use Rattle.mach_model.proofs.Midway.{mid_lawful}
 use Rattle.mach_model.proofs.Copying.{own_right, other_port}
+use Rattle.mach_model.proofs.Memberships.{few_none, few_left, few_alone, few_more, cases_more, filtered}
+use Rattle.mach_types.specs.declared.profiles.Profile.{Profile}
+use Rattle.mach_types.specs.declared.profiles.Profile.TheVariants.{One, Two, Three}
+use Rattle.std.proofs.Math.Nat.{div-add-mod, mod-lt}
 
 -- ---- Numbers of a port that are set leave a lawful state.
 
@@ -100,7 +105,7 @@ SameRights-mid s ledger owed l v = record {
 -- ---- names, sets and members alone change
 
 module _ (task : ℕ) (s : State) (l : IsLawful s) (owner : ℕ → Option ℕ) (made : ℕ) (sets_of : ℕ → List ℕ) (receivers : LawfulReceivers s.live_port owner sets_of s.ledger)
-    (membership : LawfulMembership s.live_port sets_of) where
+    (membership : LawfulMembership s.profile s.live_port sets_of) where
   -- one task's names, the tasks of the sets, and the sets of the ports
   sorted_mid : s.live_task task ≡ true → (names : Names) (stands : Request → Bool) → LawfulNames names (held s task) → LawfulSets (at s.naming task names) owner made →
       ((r : Request) → ¬ (IsOnName r) → stands r ≡ s.stands r) → LawfulGround s.live_port (at s.naming task names) stands →
@@ -251,7 +256,7 @@ one_element : (x y : ℕ) → Contains (x ∷ []) y → x ≡ y
 one_element x y (zero, below, e) = e
 one_element x y (suc k, below, e) = absurd (omega (arith, below))
 
-joined_lawful : (p : ℕ) (sets : List ℕ) (s : State) → IsLawful s → s.live_port p ≡ true → length sets ≤ 1 →
+joined_lawful : (p : ℕ) (sets : List ℕ) (s : State) → IsLawful s → s.live_port p ≡ true → HasFewSets s.profile sets →
     ((set : ℕ) → Contains sets set → (t : ℕ) × (s.set_owner set ≡ Some t) × Holds s t receive p) → IsLawful (record s { sets_of = at s.sets_of p sets })
 joined_lawful p sets s l live few members = record {
   tasks = l.tasks;
@@ -266,7 +271,7 @@ joined_lawful p sets s l live few members = record {
   sets = l.sets;
   membership = record {
     no_sets = λ q dead. at_other s.sets_of p sets q (λ e. let a : s.live_port p ≡ false = ap s.live_port (sym e) ∙ dead in cc) ∙ l.no_sets q dead;
-    one_set = at_all (λ q xs. length xs ≤ 1) s.sets_of p sets few (λ r not. l.one_set r);
+    few_sets = at_all (λ q xs. HasFewSets s.profile xs) s.sets_of p sets few (λ r not. l.few_sets r);
   };
   logs = l.logs;
   messages = l.messages;
@@ -291,28 +296,31 @@ JoinsSet-lawful task member after old mid l some j = by j.2
 
     by : (after ≡ 0) × (mid ≡ record old { sets_of = at old.sets_of j.0 [] })
         ⊎ ((set : ℕ) × (lookup old task after ≡ Some (Target.set set)) × (mid ≡ record old { sets_of = at old.sets_of j.0 (set ∷ []) })) → IsLawful mid
-    by (inl h) = subst IsLawful (sym h.1) (joined_lawful j.0 [] old l own.0 (omega arith) (λ set in_it. absurd (omega (arith, in_it.1))))
-    by (inr h) = subst IsLawful (sym h.2) (joined_lawful j.0 (h.0 ∷ []) old l own.0 (omega arith)
+    by (inl h) = subst IsLawful (sym h.1) (joined_lawful j.0 [] old l own.0 (few_none old.profile) (λ set in_it. absurd (omega (arith, in_it.1))))
+    by (inr h) = subst IsLawful (sym h.2) (joined_lawful j.0 (h.0 ∷ []) old l own.0 (few_alone old.profile h.0)
         (λ set in_it. (task, ap old.set_owner (sym (one_element h.0 set in_it)) ∙ l.set_owned task after h.0 h.1, own.1)))
 
+pub EntersSet-lawful : (task member set : ℕ) (old mid : State) → IsLawful old → ¬ ¬ (HasSeveral old.profile) → ¬ ¬ (NamesReceive old task member) → ¬ (IsMember old task member set) →
+    EntersSet task member set old mid → IsLawful mid
+EntersSet-lawful task member set old mid l may some not j =
+    let h = names_receive old task member j.port j.found some in
+    let le = held_le_of task receive j.port old.ledger in
+    subst IsLawful (sym j.rest) (joined_lawful j.port (old.sets_of j.port ++ j.entered ∷ []) old l (alive old l receive j.port (omega (arith, h, le)))
+    (few_more old.profile j.entered (old.sets_of j.port) may (l.few_sets j.port) (λ c. not (j.port, j.entered, j.found, j.found_set, c)))
+    (λ t in_it. elim (cases_more (old.sets_of j.port) j.entered t in_it) [
+      | inl c ↦ l.members j.port t c
+      | inr e ↦ (task, ap old.set_owner (sym e) ∙ l.set_owned task set j.entered j.found_set, h)
+    ]))
+
+pub LeavesSet-lawful : (task member set : ℕ) (old mid : State) → IsLawful old → ¬ ¬ (NamesReceive old task member) → LeavesSet task member set old mid → IsLawful mid
+LeavesSet-lawful task member set old mid l some j =
+    let h = names_receive old task member j.port j.found some in
+    let le = held_le_of task receive j.port old.ledger in
+    subst IsLawful (sym j.rest) (joined_lawful j.port (filter (λ t. not (t == j.left)) (old.sets_of j.port)) old l (alive old l receive j.port (omega (arith, h, le)))
+    (few_left old.profile (λ t. not (t == j.left)) (old.sets_of j.port) (l.few_sets j.port))
+    (λ t in_it. l.members j.port t ((filtered (λ t. not (t == j.left)) (old.sets_of j.port) t in_it).0)))
+
 -- ---- a set goes
-
-pub filtered : (test : ℕ → Bool) (xs : List ℕ) (x : ℕ) → Contains (filter test xs) x → Contains xs x × (test x ≡ true)
-filtered test [] x (k, below, e) = absurd (omega (arith, below))
-filtered test (y ∷ ys) x h = go (test y) refl (filtered test ys x) h
-  where
-    later : Contains ys x × (test x ≡ true) → Contains (y ∷ ys) x × (test x ≡ true)
-    later r = ((suc r.0.0, (let b = r.0.1 in omega (arith, b)), r.0.2), r.1)
-
-    go : (b : Bool) → test y ≡ b → (Contains (filter test ys) x → Contains ys x × (test x ≡ true)) → Contains (if b then y ∷ filter test ys else filter test ys) x →
-        Contains (y ∷ ys) x × (test x ≡ true)
-    go true e rest (zero, below, f) = ((zero, omega arith, f), ap test (sym f) ∙ e)
-    go true e rest (suc k, below, f) = later (rest (k, omega (arith, below), f))
-    go false e rest c = later (rest c)
-
-pub fewer : (test : ℕ → Bool) (xs : List ℕ) → length (filter test xs) ≤ length xs
-fewer test [] = omega arith
-fewer test (y ∷ ys) = grind (arith, fewer test ys)
 
 not_that : (a b : ℕ) → not (a == b) ≡ true → a ≡ b → ⊥
 not_that a b e = grind arith
@@ -328,7 +336,7 @@ without_set-mid task name set s l is =
           (h.0, at_other s.set_owner set None other (not_that other set f.1) ∙ h.1, h.2);
     }) (record {
       no_sets = λ p dead. ap (filter (λ (t : ℕ). not (t == set))) (l.no_sets p dead);
-      one_set = λ p. let a = fewer (λ t. not (t == set)) (s.sets_of p) in let b = l.one_set p in omega (arith, a, b);
+      few_sets = λ p. few_left s.profile (λ t. not (t == set)) (s.sets_of p) (l.few_sets p);
     }) (has_task l.tasks task name (Target.set set) is) (map.remove (s.naming task) name) (request_at s.stands (dead_name task name) false)
     (other_unnamed (s.naming task) (held s task) (held s task) (l.naming task) (λ q. refl) (λ q. refl) name (Target.set set) is (set_is_no_port set) (λ q. omega arith))
     (lost_law s.naming s.set_owner s.sets_made task name l.sets set is) keeps.ports
@@ -662,7 +670,7 @@ module _ (s : State) (task name : ℕ) (ledger : List Token) (l : IsLawful s) (i
     sets = at_law s.naming task s.set_owner s.sets_made names_allocated l.sets (inserted_sets (s.naming task) name (Target.port made) fresh.unused (λ set e. cc));
     membership = record {
       no_sets = λ p dead. at_other s.sets_of made [] p (not_new p dead) ∙ l.no_sets p (sym (old_port p (not_new p dead)) ∙ dead);
-      one_set = at_all (λ p sets. length sets ≤ 1) s.sets_of made [] (omega arith) (λ q not. l.one_set q);
+      few_sets = at_all (λ p sets. HasFewSets s.profile sets) s.sets_of made [] (few_none s.profile) (λ q not. l.few_sets q);
     };
     logs = record {
       unmade_log = λ p above. at_other s.log made [] p (λ e. omega (arith, e, above)) ∙ l.unmade_log p (omega (arith, above));
@@ -687,8 +695,48 @@ pub AllocatesPort-lawful : (task name : ℕ) (old mid : State) → IsLawful old 
 AllocatesPort-lawful task name old mid l is_task new few a = subst IsLawful (sym a.rest) (allocated_lawful old task name mid.ledger l is_task new few a.tokens)
 
 -- a fresh name may come
-pub fresh_new : (m : Names) (name : ℕ) → IsFresh m name → map.len m < most_names → IsNew m name
-fresh_new m name fresh room = grind (arith, fresh_fits)
+pub fresh_new : (s : State) (task name : ℕ) → IsFreshFor s task name → map.len (s.naming task) < most_names → IsNew (s.naming task) name
+fresh_new s task name fresh room = go s.profile fresh
+  where
+    indexed : IsFreshIndex (s.naming task) (s.given task) name → IsNew (s.naming task) name
+    indexed f =
+        let a = fresh_index_fits (s.naming task) (s.given task) name f in
+        let b = div-add-mod name 256 in
+        let c : name % 256 < 256 = mod-lt name (omega arith) in
+        let d = f.not_null in
+        record { unused = f.unused name refl; some = omega (arith, b, d); fits = omega (arith, a, b, c, room); room = room }
+
+    go : (profile : Profile) → IsFreshIn profile (s.naming task) (s.given task) name → IsNew (s.naming task) name
+    go One f = record { unused = f.unused; some = f.not_null; fits = (let a = fresh_fits (s.naming task) name f in omega (arith, a, room)); room = room }
+    go Two f = indexed f
+    go Three f = indexed f
+
+-- a fresh name isn't in use
+pub fresh_unused : (s : State) (task name : ℕ) → IsFreshFor s task name → map.get (s.naming task) name ≡ None
+fresh_unused s task name fresh = go s.profile fresh
+  where
+    go : (profile : Profile) → IsFreshIn profile (s.naming task) (s.given task) name → map.get (s.naming task) name ≡ None
+    go One f = f.unused
+    go Two f = f.unused name refl
+    go Three f = f.unused name refl
+
+-- that a name was given is no part of what every state keeps
+pub gives-lawful : (task name : ℕ) (s : State) → IsLawful s → IsLawful (gives task name s)
+gives-lawful task name s l = record {
+  tasks = l.tasks;
+  naming = l.naming;
+  ports = l.ports;
+  numbers = l.numbers;
+  receivers = l.receivers;
+  few_rights = l.few_rights;
+  sets = l.sets;
+  membership = l.membership;
+  logs = l.logs;
+  messages = l.messages;
+  requests = l.requests;
+  standing = l.standing;
+  ground = l.ground;
+}
 
 dead_made : (task name : ℕ) (s : State) → IsLawful s → s.live_task task ≡ true → IsNew (s.naming task) name → MidLawful (with_name task name (Target.dead 1) s) []
 dead_made task name s l is_task new = named_as task s l is_task (map.insert (s.naming task) name (Target.dead 1)) s.stands

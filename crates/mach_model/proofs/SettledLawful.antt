@@ -14,12 +14,14 @@ use Rattle.mach_model.specs.Death.{same_place, IsOrphan, Dies, CarriedAt}
 use Rattle.mach_model.specs.Carried.{message_count, lying}
 use Rattle.mach_model.specs.Notices.{Notice, port_deleted, port_sent, no_more_senders, right_unused, name_died, notice_message, Owed, Posted, posted_tokens, all_posted_tokens, carried_by}
 use Rattle.mach_model.specs.Settles.{PlaceStays, Settles, due_notices, tokens_of, settled_target, BecameDead, Ends}
-use Rattle.mach_model.specs.Lawful.{tally, IsLawful, IsRight, StandsOn}
+use Rattle.mach_model.specs.Lawful.{tally, IsLawful, IsRight, StandsOn, HasFewSets}
 use Rattle.mach_model.specs.Midway.{MidLawful}
 use Rattle.mach_model.proofs.Names.{weigh-append, length-weigh, pos_or_zero, lying_le_of, slice_get_drop}
 use Rattle.mach_model.proofs.SettledReceives.{eq_symm, parts, at_place, same_entry, IsDue, due_all, made_of, live_mid, kept_there, stays_if, none_posted, of_kind, and_false, none_tasked, BringsLive, owed_brings, receives, sent_posted, staying_none, none_pay, no_paying, At, settled_one_receive, unsent_saved}
 use Rattle.mach_model.specs.SameEnd.{sum}
 use Rattle.mach_model.proofs.SettledEnd.{settled_naming, settled_set, held_live}
+use Rattle.mach_model.proofs.Memberships.{few_if}
+use Rattle.mach_types.specs.declared.profiles.Profile.{Profile}
 
 -- ---- What a step's end leaves of the logs: the notices stand behind what was there, and their rights lie with them.
 
@@ -597,11 +599,6 @@ in_sets true b xs set h = let below = h.1 in absurd (omega (arith, below))
 in_sets false true xs set h = (refl, refl, h)
 in_sets false false xs set h = let below = h.1 in absurd (omega (arith, below))
 
-few_sets : (a b : Bool) (xs : List ℕ) → length xs ≤ 1 → length (if a then [] else if b then xs else []) ≤ 1
-few_sets true b xs h = omega arith
-few_sets false true xs h = h
-few_sets false false xs h = omega arith
-
 none_dead : (a : Bool) (xs : List ℕ) → (if a then [] else if false then xs else []) ≡ []
 none_dead true xs = refl
 none_dead false xs = refl
@@ -758,7 +755,7 @@ module _ (now : ℕ) (old mid : State) (owed : Owed) (new : State) (l : MidLawfu
     };
     membership = record {
       no_sets = λ p dead. s.ports.sets_of p ∙ rw dead (none_dead (s.ports.is_sent p) (mid.sets_of p));
-      one_set = λ p. subst (λ (xs : List ℕ). length xs ≤ 1) (sym (s.ports.sets_of p)) (few_sets (s.ports.is_sent p) (new.live_port p) (mid.sets_of p) (l.one_set p));
+      few_sets = λ p. subst (λ (x : Profile). HasFewSets x (new.sets_of p)) (sym (ap (λ (x : State). x.profile) s.rest)) (subst (λ (xs : List ℕ). HasFewSets mid.profile xs) (sym (s.ports.sets_of p)) (few_if mid.profile (s.ports.is_sent p) (new.live_port p) (mid.sets_of p) (l.few_sets p)));
     };
     logs = record {
       unmade_log = unmade_log;

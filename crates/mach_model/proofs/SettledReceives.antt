@@ -5,7 +5,8 @@ use Rattle.std.proofs.lemmas.List.Elements.{All-cons, All-append, All-map, All-h
 use Rattle.std.proofs.lemmas.Bool.{eq-eqb, ne_eqb, eqb-true, false_from_ne_true, and_from}
 use Rattle.mach_types.specs.Tokens.{Kind, receive, send, send_once, Request, no_senders, port_destroyed, dead_name, Place, in_task, in_message, in_request, Token, token, count, is_of, is_held, is_in_task, same_kind}
 use Rattle.mach_model.specs.State.{State, same_request}
-use Rattle.mach_model.specs.Death.{same_place, Dies, orphan, carried_at, IsOrphan, CarriedAt, IsSaved, LiesAt, IsSentAway, IsClosed}
+use Rattle.mach_model.specs.Death.{same_place, Dies, orphan, carried_at, IsOrphan, CarriedAt, IsSaved, LiesAt, IsSentAway}
+use Rattle.mach_model.specs.Grounded.{IsClosed}
 use Rattle.mach_model.specs.Notices.{Notice, port_deleted, port_sent, no_more_senders, right_unused, name_died, Owed, Posted, posted_tokens, all_posted_tokens, carried_by}
 use Rattle.mach_model.specs.Settles.{PlaceStays, StaysWith, TellsAt, PaysFor, GoesFrom, tokens_of, Settles}
 use Rattle.mach_model.proofs.Names.{weigh-append, left_of, right_of, if_le, pos_or_zero, count_le, count_none, count_some, lying_le_of}

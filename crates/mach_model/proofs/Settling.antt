@@ -8,7 +8,8 @@ use Rattle.std.proofs.lemmas.Bool.{eq-eqb, and_from, false_from_ne_true, true_fr
 use Rattle.mach_types.specs.Tokens.{Kind, receive, send, send_once, Request, no_senders, port_destroyed, dead_name, Place, in_task, in_message, in_request, Token, count, Moves, is_of, is_held, same_kind}
 use Rattle.mach_types.specs.Messages.{Entry}
 use Rattle.mach_model.specs.State.{State, Target, lookup, held, senders, same_request}
-use Rattle.mach_model.specs.Death.{same_place, Dies, orphan, carried_at, IsOrphan, IsSentAway, IsClosed}
+use Rattle.mach_model.specs.Death.{same_place, Dies, orphan, carried_at, IsOrphan, IsSentAway}
+use Rattle.mach_model.specs.Grounded.{IsClosed}
 use Rattle.mach_model.specs.Notices.{Notice, Owed, Posted, all_posted_tokens}
 use Rattle.mach_model.specs.Settles.{PlaceStays, StaysWith, PaysFor, GoesFrom, settled_target, Ends, tokens_of, Settles}
 use Rattle.mach_model.specs.Carried.{lying}

@@ -12,13 +12,16 @@ use Rattle.mach_types.specs.declared.calls.Waited.{Waited}
 use Rattle.mach_types.specs.Numbers.{dead_word, most_names}
 use Rattle.mach_types.specs.Guards.{NoneHolds}
 use Rattle.mach_types.specs.Tokens.{receive, Kind, send, Request, dead_name, Place, in_task, in_message, in_request, Token, token, weigh, count, is_of, is_held, Moves}
-use Rattle.mach_model.specs.State.{State, Target, opening, lookup, held, IsFresh, request_at, same_request, without_name, with_name}
-use Rattle.mach_model.specs.Machine.{Step, RunFrom, Does, Run}
+use Rattle.mach_model.specs.State.{State, Target, lookup, held, request_at, same_request, without_name, with_name, IsFreshFor, gives, opening_in}
+use Rattle.mach_model.specs.Machine.{Step, RunFrom, RunIn, Judged}
+use Rattle.mach_model.specs.Acts.{Does}
 use Rattle.mach_model.specs.Lawful.{IsLawful}
 use Rattle.mach_model.proofs.Midway.{IsQuiet, NoRequests, IsStill, NamesOnce, LosesWhole, Removes, LosesNone, mid_lawful, unowed, calm_lawful}
 use Rattle.mach_model.proofs.Names.{no_values, held_le_of, both_test, count_none, count_some, pos_or_zero, lying_le_of, at_other, elsewhere}
-use Rattle.mach_model.specs.Names.{Makes, IsFull, AllocatesPort, renamed_place, renamed_token, renamed_requests, Renames}
-use Rattle.mach_model.specs.Refusals.{guards, modify_guards, IsNoName}
+use Rattle.mach_model.specs.Names.{Makes, AllocatesPort, renamed_place, renamed_token, renamed_requests, Renames, JoinsSet}
+use Rattle.mach_model.specs.Room.{IsFull}
+use Rattle.mach_model.specs.Refusals.{guards, modify_guards}
+use Rattle.mach_model.specs.NameGuards.{IsNoName, NamesReceive}
 use Rattle.mach_model.specs.Receive.{TakesFrom, DestroysFront, Receipt, Receives}
 use Rattle.mach_model.specs.Notices.{Owed}
 use Rattle.mach_model.specs.Midway.{MidLawful}
@@ -27,15 +30,15 @@ use Rattle.mach_model.proofs.SettledLawful.{settled_lawful}
 use Rattle.mach_model.proofs.SettledEnd.{can_end}
 use Rattle.mach_model.proofs.EndingLawful.{EndsTask-mid, DestroysFront-mid, CreatesTask-lawful}
 use Rattle.mach_model.proofs.LosingLawful.{Requests-mid, Deallocates-mid, Destroys-mid, Unrefused, Modifies-mid, AreSends, no_sends, same_sends}
-use Rattle.mach_model.proofs.NamesLawful.{fresh_new, Makes-mid, JoinsSet-lawful, limit-lawful, make_send-lawful, sequence-lawful, Renames-mid}
+use Rattle.mach_model.proofs.NamesLawful.{fresh_new, Makes-mid, JoinsSet-lawful, limit-lawful, make_send-lawful, sequence-lawful, Renames-mid, EntersSet-lawful, gives-lawful, LeavesSet-lawful}
 use Rattle.mach_model.proofs.MessagesLawful.{Sends-mid, Sends-adds, Receives-mid, Receives-removes, Inserts-mid, Extracts-mid, is_it, Hands, hands_shape, Inserts-hands, Extracts-hands}
 use Rattle.mach_model.specs.Carried.{lying}
 use Rattle.mach_model.specs.CopyIn.{name_kept}
-use Rattle.mach_model.specs.ReceiveRight.{NamesReceive}
 use Rattle.mach_model.specs.References.{is_either, LosesAll, Deallocates, Destroys, RemovesRight, Modifies}
-use Rattle.mach_model.specs.Sets.{JoinsSet}
 use Rattle.mach_model.specs.Send.{Sends}
 use Rattle.mach_model.proofs.Moving.{Apart, apart-trans}
+use Rattle.mach_model.proofs.Memberships.{few_none}
+use Rattle.mach_types.specs.declared.profiles.Profile.{Profile}
 
 -- ---- A run goes on by one step.
 
@@ -50,29 +53,29 @@ RunFrom-push now old (x ∷ es) [] mid e r new run step = absurd run
 
 -- ---- The state in which nothing was made is lawful.
 
-unused : (task name : ℕ) → lookup opening task name ≡ None
-unused task name = get-empty nat_cmp name
+unused : (profile : Profile) (task name : ℕ) → lookup (opening_in profile) task name ≡ None
+unused profile task name = get-empty nat_cmp name
 
-no_name : (task name : ℕ) (target : Target) → lookup opening task name ≡ Some target → ⊥
-no_name task name target is = let e = unused task name in cc
+no_name : (profile : Profile) (task name : ℕ) (target : Target) → lookup (opening_in profile) task name ≡ Some target → ⊥
+no_name profile task name target is = let e = unused profile task name in cc
 
 no_element : {A : Type 0} (k : ℕ) (e : A) → slice_get [] k ≡ Some e → ⊥
 no_element k e is = cc
 
-pub opening-lawful : IsLawful opening
-opening-lawful = record {
-  tasks = record { made_task = λ task is. absurd (cc); no_task = λ task name is. unused task name };
+pub opening-lawful : (profile : Profile) → IsLawful (opening_in profile)
+opening-lawful profile = record {
+  tasks = record { made_task = λ task is. absurd (cc); no_task = λ task name is. unused profile task name };
   naming = λ task. record {
     space = record {
-      not_null = unused task _;
-      not_dead = unused task _;
-      name_fits = λ name target is. absurd (no_name task name target is);
+      not_null = unused profile task _;
+      not_dead = unused profile task _;
+      name_fits = λ name target is. absurd (no_name profile task name target is);
       few_names = let e = len-empty nat_cmp Target in omega (arith, e);
-      references = λ name target is. absurd (no_name task name target is);
+      references = λ name target is. absurd (no_name profile task name target is);
     };
-    has_right = λ name p is. absurd (no_name task name (Target.port p) is);
+    has_right = λ name p is. absurd (no_name profile task name (Target.port p) is);
     is_named = λ p some. absurd (omega (arith, some));
-    one_name = λ n m p is. absurd (no_name task n (Target.port p) is);
+    one_name = λ n m p is. absurd (no_name profile task n (Target.port p) is);
     once_names = λ p. sym (no_values _);
     few_references = λ p. omega arith;
   };
@@ -82,11 +85,11 @@ opening-lawful = record {
   few_rights = omega arith;
   sets = record {
     made_set = λ set above. refl;
-    set_owned = λ task name set is. absurd (no_name task name (Target.set set) is);
+    set_owned = λ task name set is. absurd (no_name profile task name (Target.set set) is);
     set_named = λ set task is. absurd (cc);
-    one_set_name = λ task n m set is. absurd (no_name task n (Target.set set) is);
+    one_set_name = λ task n m set is. absurd (no_name profile task n (Target.set set) is);
   };
-  membership = record { no_sets = λ p is. refl; one_set = λ p. omega arith };
+  membership = record { no_sets = λ p is. refl; few_sets = λ p. few_none profile };
   logs = record {
     unmade_log = λ p is. refl;
     within = λ p. omega arith;
@@ -99,8 +102,8 @@ opening-lawful = record {
   ground = record { stands_on = λ r is. absurd (cc) };
 }
 
-pub opening-quiet : IsQuiet opening
-opening-quiet = record { none_carried = λ p k q. refl; none_stands = λ r. refl }
+pub opening-quiet : (profile : Profile) → IsQuiet (opening_in profile)
+opening-quiet profile = record { none_carried = λ p k q. refl; none_stands = λ r. refl }
 
 -- ---- Every step keeps a lawful state lawful, so each state that a run reaches is lawful.
 
@@ -122,12 +125,12 @@ no_name_some name not = let h : ¬ (name ≡ 0) = λ e. not (inl e) in omega (ar
 pub no_name_fits : (name : ℕ) → ¬ (IsNoName name) → name < dead_word
 no_name_fits name not = let h : ¬ (dead_word ≤ name) = λ e. not (inr e) in omega (arith, h)
 
-pub Allocates-mid : (task right name : ℕ) (old mid : State) → IsLawful old → old.live_task task ≡ true → ¬ (IsFull old task right) → IsFresh (old.naming task) name →
-    Makes task right name old mid → MidLawful mid []
+pub Allocates-mid : (task right name : ℕ) (old mid : State) → IsLawful old → old.live_task task ≡ true → ¬ (IsFull old task right) → IsFreshFor old task name →
+    Makes task right name (gives task name old) mid → MidLawful mid []
 Allocates-mid task right name old mid l is_task not_full fresh makes =
     let h : ¬ (most_names ≤ map.len (old.naming task)) = λ full. not_full (inl full) in
-    let new = fresh_new (old.naming task) name fresh (omega (arith, h)) in
-    Makes-mid task right name old mid l is_task new.unused new.some new.fits not_full makes
+    let new = fresh_new old task name fresh (omega (arith, h)) in
+    Makes-mid task right name (gives task name old) mid (gives-lawful task name old l) is_task new.unused new.some new.fits not_full makes
 
 unrefused : (s : State) (task name right : ℕ) (delta : ℤ) → NoneHolds (modify_guards s task name right delta) → Unrefused s task name right delta
 unrefused s task name right delta g = record { not_above = g.1.1.1.1.0; room = g.1.1.1.1.1.0 }
@@ -157,58 +160,62 @@ too_large task room n waited large old mid owed l (p, e, from, front, is, over, 
 
 -- An event that isn't refused leaves in the middle of its step what is true there.
 pub Does-mid : (now : ℕ) (old : State) (event : Event) (reply : Reply) (mid : State) (owed : Owed) →
-    NoneHolds (guards old event) → Does now old event reply mid owed → IsLawful old → MidLawful mid owed
-Does-mid now old Event.TaskCreate (Reply.Task task) mid owed g d l = unowed mid owed d.1 (mid_lawful mid (CreatesTask-lawful old l task mid d.0))
-Does-mid now old (Event.TaskTerminate task) (Reply.Code code) mid owed g d l = EndsTask-mid task old mid owed l d.1
-Does-mid now old (Event.Allocate task right) (Reply.Name name) mid owed g d l = unowed mid owed d.2 (Allocates-mid task right name old mid l (not_false (old.live_task task) g.0) g.1.1.0 d.0 d.1)
-Does-mid now old (Event.AllocateName task right name) (Reply.Name told) mid owed g d l = unowed mid owed d.2
+    NoneHolds (guards old event) → (does : Does now old event reply mid owed) → Judged now old event reply mid owed does → IsLawful old → MidLawful mid owed
+Does-mid now old Event.TaskCreate (Reply.Task task) mid owed g d j l = unowed mid owed d.1 (mid_lawful mid (CreatesTask-lawful old l task mid d.0))
+Does-mid now old (Event.TaskTerminate task) (Reply.Code code) mid owed g d j l = EndsTask-mid task old mid owed l d.1
+Does-mid now old (Event.Allocate task right) (Reply.Name name) mid owed g d j l = unowed mid owed d.2 (Allocates-mid task right name old mid l (not_false (old.live_task task) g.0) g.1.1.0 d.0 d.1)
+Does-mid now old (Event.AllocateName task right name) (Reply.Name told) mid owed g d j l = unowed mid owed d.2
     (Makes-mid task right name old mid l (not_false (old.live_task task) g.0) (is_none (lookup old task name) g.1.1.0) (no_name_some name (λ e. g.1.0 (inr e))) (no_name_fits name (λ e. g.1.0 (inr e)))
     g.1.1.1.0 d.1)
-Does-mid now old (Event.Deallocate task name) (Reply.Code code) mid owed g d l = Deallocates-mid task name old mid owed l d.1
-Does-mid now old (Event.Destroy task name) (Reply.Code code) mid owed g d l = Destroys-mid task name old mid owed l d.1
-Does-mid now old (Event.ModRefs task name right delta) (Reply.Code code) mid owed g d l = Modifies-mid task name right delta old mid owed l (unrefused old task name right delta g.1) d.1
-Does-mid now old (Event.Names task) (Reply.Names entries) mid owed g d l = told old mid owed l d.1 d.2
-Does-mid now old (Event.Rename task o n) (Reply.Code code) mid owed g d l = unowed mid owed d.2
+Does-mid now old (Event.Deallocate task name) (Reply.Code code) mid owed g d j l = Deallocates-mid task name old mid owed l d.1
+Does-mid now old (Event.Destroy task name) (Reply.Code code) mid owed g d j l = Destroys-mid task name old mid owed l d.1
+Does-mid now old (Event.ModRefs task name right delta) (Reply.Code code) mid owed g d j l = Modifies-mid task name right delta old mid owed l (unrefused old task name right delta g.1) d.1
+Does-mid now old (Event.Names task) (Reply.Names entries) mid owed g d j l = told old mid owed l d.0 d.1
+Does-mid now old (Event.Rename task o n) (Reply.Code code) mid owed g d j l = unowed mid owed d.2
     (Renames-mid task o n old mid l (is_none (lookup old task n) g.1.1.1.0) (no_name_some n g.1.0) (no_name_fits n g.1.0) d.1)
-Does-mid now old (Event.SetQlimit task name n) (Reply.Code code) mid owed g d l = unowed mid owed d.2 (mid_lawful mid (limit-lawful task name n old mid l (let h = g.1.0 in omega (arith, h)) d.1))
-Does-mid now old (Event.SetMscount task name n) (Reply.Code code) mid owed g d l = unowed mid owed d.3 (mid_lawful mid (make_send-lawful task name n old mid l d.1 d.2))
-Does-mid now old (Event.SetSeqno task name n) (Reply.Code code) mid owed g d l = unowed mid owed d.3 (mid_lawful mid (sequence-lawful task name n old mid l d.1 d.2))
-Does-mid now old (Event.GetRefs task name right) (Reply.Refs n) mid owed g d l = told old mid owed l d.1 d.2
-Does-mid now old (Event.NameType task name) (Reply.NameType n) mid owed g d l = told old mid owed l d.1 d.2
-Does-mid now old (Event.ReceiveStatus task name) (Reply.Status status) mid owed g d l = told old mid owed l d.1 d.2
-Does-mid now old (Event.SetStatus task name) (Reply.Members members) mid owed g d l = told old mid owed l d.1 d.2
-Does-mid now old (Event.MoveMember task member after) (Reply.Code code) mid owed g d l = unowed mid owed d.2 (mid_lawful mid (JoinsSet-lawful task member after old mid l (λ e. g.1.1.0 (inl e)) d.1))
-Does-mid now old (Event.InsertRight task name from poly number) (Reply.Code code) mid owed g d l = unowed mid owed d.2
-    (Inserts-mid task name from poly number old mid l (not_false (old.live_task task) (λ e. g.0 (inl e))) (λ e. g.1.0 (inl e)) d.1)
-Does-mid now old (Event.ExtractRight task name number to) (Reply.Right new_name kind) mid owed g d l = unowed mid owed d.1
-    (Extracts-mid task name number to new_name kind old mid l (not_false (old.live_task to) (λ e. g.0 (inr e))) d.0)
-Does-mid now old (Event.RequestNotification task name variant sync notify number) (Reply.Previous previous) mid owed g d l =
-    Requests-mid task name variant sync notify number previous old mid owed l (not_false (old.live_task task) g.0) g.1 d
-Does-mid now old (Event.Send task bytes) (Reply.Code code) mid owed g d l = unowed mid owed d.2 (Sends-mid now task bytes old mid g.1 l d.1)
-Does-mid now old (Event.Receive task name room large) (Reply.Message bytes) mid owed g d l = unowed mid owed d.2.3
+Does-mid now old (Event.SetQlimit task name n) (Reply.Code code) mid owed g d j l = unowed mid owed d.2 (mid_lawful mid (limit-lawful task name n old mid l (let h = g.1.0 in omega (arith, h)) d.1))
+Does-mid now old (Event.SetMscount task name n) (Reply.Code code) mid owed g d j l = unowed mid owed d.3 (mid_lawful mid (make_send-lawful task name n old mid l d.1 d.2))
+Does-mid now old (Event.SetSeqno task name n) (Reply.Code code) mid owed g d j l = unowed mid owed d.3 (mid_lawful mid (sequence-lawful task name n old mid l d.1 d.2))
+Does-mid now old (Event.GetRefs task name right) (Reply.Refs n) mid owed g d j l = told old mid owed l d.0 d.1
+Does-mid now old (Event.NameType task name) (Reply.NameType n) mid owed g d j l = told old mid owed l d.0 d.1
+Does-mid now old (Event.ReceiveStatus task name) (Reply.Status status) mid owed g d j l = told old mid owed l d.0 d.1
+Does-mid now old (Event.SetStatus task name) (Reply.Members members) mid owed g d j l = told old mid owed l d.0 d.1
+Does-mid now old (Event.MoveMember task member after) (Reply.Code code) mid owed g d j l = unowed mid owed d.2 (mid_lawful mid (JoinsSet-lawful task member after old mid l (λ e. g.1.1.0 (inl e)) d.1))
+Does-mid now old (Event.InsertMember task member set) (Reply.Code code) mid owed g d j l =
+    unowed mid owed d.2 (mid_lawful mid (EntersSet-lawful task member set old mid l g.1.0 (λ e. g.1.1.1.0 (inl e)) g.1.1.1.1.0 d.1))
+Does-mid now old (Event.ExtractMember task member set) (Reply.Code code) mid owed g d j l =
+    unowed mid owed d.2 (mid_lawful mid (LeavesSet-lawful task member set old mid l (λ e. g.1.1.1.0 (inl e)) d.1))
+Does-mid now old (Event.InsertRight task name from poly number) (Reply.Code code) mid owed g d j l = unowed mid owed d.2
+    (Inserts-mid task name from poly number old mid l (not_false (old.live_task task) (λ e. g.0 (inl e))) (λ e. g.1.0 (inl e)) d.1 j)
+Does-mid now old (Event.ExtractRight task name number to) (Reply.Right new_name kind) mid owed g d j l = unowed mid owed d.1
+    (Extracts-mid task name number to new_name kind old mid l (not_false (old.live_task to) (λ e. g.0 (inr e))) d.0 j)
+Does-mid now old (Event.RequestNotification task name variant sync notify number) (Reply.Previous previous) mid owed g d j l =
+    Requests-mid task name variant sync notify number previous old mid owed l (not_false (old.live_task task) g.0) g.1 d j
+Does-mid now old (Event.Send task bytes) (Reply.Code code) mid owed g d j l = unowed mid owed d.2 (Sends-mid now task bytes old mid g.1 l d.1 j)
+Does-mid now old (Event.Receive task name room large) (Reply.Message bytes) mid owed g d j l = unowed mid owed d.2.3
     (Receives-mid task d.2.0 room bytes old mid l (TakesFrom-live old l task d.0 d.2.0 d.2.1) (not_false (old.live_task task) g.0) d.2.2)
-Does-mid now old (Event.Receive task name room large) (Reply.Empty e) mid owed g d l = told old mid owed l d.2.2 d.2.3
-Does-mid now old (Event.Receive task name room large) (Reply.TooLarge n) mid owed g d l = too_large task room n d.0 large old mid owed l d.2
-Does-mid now old (Event.Receive task name room large) reply mid owed g d l = absurd d.2
-Does-mid now old (Event.ReceiveAgain task waited room large) (Reply.Message bytes) mid owed g d l = unowed mid owed d.3
+Does-mid now old (Event.Receive task name room large) (Reply.Empty e) mid owed g d j l = told old mid owed l d.2.2 d.2.3
+Does-mid now old (Event.Receive task name room large) (Reply.TooLarge n) mid owed g d j l = too_large task room n d.0 large old mid owed l d.2
+Does-mid now old (Event.Receive task name room large) reply mid owed g d j l = absurd d.2
+Does-mid now old (Event.ReceiveAgain task waited room large) (Reply.Message bytes) mid owed g d j l = unowed mid owed d.3
     (Receives-mid task d.0 room bytes old mid l (TakesFrom-live old l task waited d.0 d.1) (not_false (old.live_task task) g.0) d.2)
-Does-mid now old (Event.ReceiveAgain task waited room large) (Reply.Empty e) mid owed g d l = told old mid owed l d.2 d.3
-Does-mid now old (Event.ReceiveAgain task waited room large) (Reply.TooLarge n) mid owed g d l = too_large task room n waited large old mid owed l d
-Does-mid now old event reply mid owed g d l = absurd d
+Does-mid now old (Event.ReceiveAgain task waited room large) (Reply.Empty e) mid owed g d j l = told old mid owed l d.2 d.3
+Does-mid now old (Event.ReceiveAgain task waited room large) (Reply.TooLarge n) mid owed g d j l = too_large task room n waited large old mid owed l d
+Does-mid now old event reply mid owed g d j l = absurd d
 
 -- ---- steps and runs
 
 pub Step-lawful : (now : ℕ) (old : State) (event : Event) (reply : Reply) (new : State) → Step now old event reply new → IsLawful old → IsLawful new
 Step-lawful now old event reply new (inl r) l = subst IsLawful (sym r.same) l
-Step-lawful now old event reply new (inr d) l = settled_lawful now old d.mid d.owed new (Does-mid now old event reply d.mid d.owed d.unrefused d.does l) d.settles
+Step-lawful now old event reply new (inr d) l = settled_lawful now old d.mid d.owed new (Does-mid now old event reply d.mid d.owed d.unrefused d.does d.judged l) d.settles
 
 -- What an event may do in a lawful state can be made a step, which leaves a lawful state.
-pub can_step : (now : ℕ) (old : State) (event : Event) (reply : Reply) (mid : State) (owed : Owed) → IsLawful old → NoneHolds (guards old event) → Does now old event reply mid owed →
+pub can_step : (now : ℕ) (old : State) (event : Event) (reply : Reply) (mid : State) (owed : Owed) → IsLawful old → NoneHolds (guards old event) → (does : Does now old event reply mid owed) → Judged now old event reply mid owed does →
     (new : State) × Step now old event reply new × IsLawful new
-can_step now old event reply mid owed l good does =
-    let m = Does-mid now old event reply mid owed good does l in
+can_step now old event reply mid owed l good does judged =
+    let m = Does-mid now old event reply mid owed good does judged l in
     let end = can_end now old mid owed m in
-    (end.0, inr (record { unrefused = good; mid = mid; owed = owed; does = does; settles = end.1 }), settled_lawful now old mid owed end.0 m end.1)
+    (end.0, inr (record { performed = record { mid = mid; owed = owed; does = does; settles = end.1 }; unrefused = good; judged = judged }), settled_lawful now old mid owed end.0 m end.1)
 
 pub RunFrom-lawful : (now : ℕ) (old : State) (events : List Event) (replies : List Reply) (new : State) → RunFrom now old events replies new → IsLawful old → IsLawful new
 RunFrom-lawful now old [] [] new r l = subst IsLawful (sym r) l
@@ -216,8 +223,8 @@ RunFrom-lawful now old (e ∷ es) (x ∷ xs) new r l = RunFrom-lawful (now + 1) 
 RunFrom-lawful now old [] (x ∷ xs) new r l = absurd r
 RunFrom-lawful now old (e ∷ es) [] new r l = absurd r
 
-pub Run-lawful : (events : List Event) (replies : List Reply) (s : State) → Run events replies s → IsLawful s
-Run-lawful events replies s r = RunFrom-lawful 0 opening events replies s r opening-lawful
+pub Run-lawful : (profile : Profile) (events : List Event) (replies : List Reply) (s : State) → RunIn profile events replies s → IsLawful s
+Run-lawful profile events replies s r = RunFrom-lawful 0 (opening_in profile) events replies s r (opening-lawful profile)
 
 -- ---- By an answer by which no right is lost a step's own part leaves a quiet state quiet, and so does the step.
 
@@ -470,9 +477,9 @@ Receives-still task port room bytes old mid l quiet live is_task r =
 -- ---- a step's own part
 
 -- What an event that isn't refused leaves of a quiet state is as lawful as it was, and nothing is owed.
-pub Does-still : (now : ℕ) (old : State) (event : Event) (reply : Reply) (mid : State) (owed : Owed) → BringsNone old event mid → LosesNone old event reply → NoneHolds (guards old event) → Does now old event reply mid owed →
+pub Does-still : (now : ℕ) (old : State) (event : Event) (reply : Reply) (mid : State) (owed : Owed) → BringsNone old event mid → LosesNone old event reply → NoneHolds (guards old event) → (does : Does now old event reply mid owed) → Judged now old event reply mid owed does →
     IsLawful old → IsQuiet old → IsStill mid owed
-Does-still now old event reply mid owed brings none g d l quiet = go event reply brings none g d (Does-mid now old event reply mid owed g d l)
+Does-still now old event reply mid owed brings none g d j l quiet = go event reply brings none g d j (Does-mid now old event reply mid owed g d j l)
   where
     quietly : owed ≡ [] → Quietly old mid → MidLawful mid owed → IsStill mid owed
     quietly none q m = still old mid owed l quiet none m q
@@ -491,6 +498,11 @@ Does-still now old event reply mid owed brings none g d l quiet = go event reply
     makes task right name none (inr (inl (is, e))) m = quietly none (as_it_was old l quiet mid _ e refl refl quiet.none_stands) m
     makes task right name none (inr (inr (is, e))) m = quietly none (as_it_was old l quiet mid _ e refl refl quiet.none_stands) m
 
+    makes_fresh : (task right name : ℕ) → owed ≡ [] → Makes task right name (gives task name old) mid → MidLawful mid owed → IsStill mid owed
+    makes_fresh task right name none (inl (is, a)) m = subst (IsStill mid) (sym none) (port_made (gives task name old) (gives-lawful task name old l) (record { none_carried = quiet.none_carried; none_stands = quiet.none_stands }) task name mid a (unowed_mid none m))
+    makes_fresh task right name none (inr (inl (is, e))) m = quietly none (as_it_was old l quiet mid _ e refl refl quiet.none_stands) m
+    makes_fresh task right name none (inr (inr (is, e))) m = quietly none (as_it_was old l quiet mid _ e refl refl quiet.none_stands) m
+
     joins : (task member after : ℕ) → JoinsSet task member after old mid → owed ≡ [] → MidLawful mid owed → IsStill mid owed
     joins task member after (p, is, inl h) none = quietly none (as_it_was old l quiet mid _ h.1 refl refl quiet.none_stands)
     joins task member after (p, is, inr h) none = quietly none (as_it_was old l quiet mid _ h.2 refl refl quiet.none_stands)
@@ -499,49 +511,51 @@ Does-still now old event reply mid owed brings none g d l quiet = go event reply
     kept_large Q true e h = h
     kept_large Q false e h = absurd (cc)
 
-    go : (event : Event) (reply : Reply) → BringsNone old event mid → LosesNone old event reply → NoneHolds (guards old event) → Does now old event reply mid owed → MidLawful mid owed → IsStill mid owed
-    go Event.TaskCreate (Reply.Task task) b n g d m = quietly d.1 (as_it_was old l quiet mid _ d.0.rest refl refl quiet.none_stands) m
-    go (Event.TaskTerminate task) reply b n g d m = absurd n
-    go (Event.Allocate task right) (Reply.Name name) b n g d m = makes task right name d.2 d.1 m
-    go (Event.AllocateName task right name) (Reply.Name told) b n g d m = makes task right name d.2 d.1 m
-    go (Event.Deallocate task name) (Reply.Code code) b n g d m = both (deallocates old l quiet task name mid owed n d.1) m
-    go (Event.Destroy task name) (Reply.Code code) b n g d m = both (destroys old l quiet task name mid owed n d.1) m
-    go (Event.ModRefs task name right delta) (Reply.Code code) b n g d m = both (modifies old l quiet task name right delta mid owed n d.1) m
-    go (Event.GetRefs task name right) (Reply.Refs k) b n g d m = same d.1 d.2 m
-    go (Event.NameType task name) (Reply.NameType k) b n g d m = same d.1 d.2 m
-    go (Event.Names task) (Reply.Names entries) b n g d m = same d.1 d.2 m
-    go (Event.Rename task o k) (Reply.Code code) b n g d m = quietly d.2 (renames old l quiet task o k mid d.1) m
-    go (Event.ReceiveStatus task name) (Reply.Status status) b n g d m = same d.1 d.2 m
-    go (Event.SetQlimit task name k) (Reply.Code code) b n g d m = quietly d.2 (as_it_was old l quiet mid _ d.1.3 refl refl quiet.none_stands) m
-    go (Event.SetMscount task name k) (Reply.Code code) b n g d m = quietly d.3 (as_it_was old l quiet mid _ d.2.3 refl refl quiet.none_stands) m
-    go (Event.SetSeqno task name k) (Reply.Code code) b n g d m = quietly d.3 (as_it_was old l quiet mid _ d.2.3 refl refl quiet.none_stands) m
-    go (Event.SetStatus task name) (Reply.Members members) b n g d m = same d.1 d.2 m
-    go (Event.MoveMember task member after) (Reply.Code code) b n g d m = joins task member after d.1 d.2 m
-    go (Event.InsertRight task name from poly number) (Reply.Code code) b n g d m = quietly d.2
-        (hands old l quiet mid _ _ (Inserts-hands task name from poly number old mid l (not_false (old.live_task task) (λ e. g.0 (inl e))) (λ e. g.1.0 (inl e)) d.1) (unowed_mid d.2 m)) m
-    go (Event.ExtractRight task name number to) (Reply.Right new_name kind) b n g d m = quietly d.1
+    go : (event : Event) (reply : Reply) → BringsNone old event mid → LosesNone old event reply → NoneHolds (guards old event) → (does : Does now old event reply mid owed) → Judged now old event reply mid owed does → MidLawful mid owed → IsStill mid owed
+    go Event.TaskCreate (Reply.Task task) b n g d j m = quietly d.1 (as_it_was old l quiet mid _ d.0.rest refl refl quiet.none_stands) m
+    go (Event.TaskTerminate task) reply b n g d j m = absurd n
+    go (Event.Allocate task right) (Reply.Name name) b n g d j m = makes_fresh task right name d.2 d.1 m
+    go (Event.AllocateName task right name) (Reply.Name told) b n g d j m = makes task right name d.2 d.1 m
+    go (Event.Deallocate task name) (Reply.Code code) b n g d j m = both (deallocates old l quiet task name mid owed n d.1) m
+    go (Event.Destroy task name) (Reply.Code code) b n g d j m = both (destroys old l quiet task name mid owed n d.1) m
+    go (Event.ModRefs task name right delta) (Reply.Code code) b n g d j m = both (modifies old l quiet task name right delta mid owed n d.1) m
+    go (Event.GetRefs task name right) (Reply.Refs k) b n g d j m = same d.0 d.1 m
+    go (Event.NameType task name) (Reply.NameType k) b n g d j m = same d.0 d.1 m
+    go (Event.Names task) (Reply.Names entries) b n g d j m = same d.0 d.1 m
+    go (Event.Rename task o k) (Reply.Code code) b n g d j m = quietly d.2 (renames old l quiet task o k mid d.1) m
+    go (Event.ReceiveStatus task name) (Reply.Status status) b n g d j m = same d.0 d.1 m
+    go (Event.SetQlimit task name k) (Reply.Code code) b n g d j m = quietly d.2 (as_it_was old l quiet mid _ d.1.3 refl refl quiet.none_stands) m
+    go (Event.SetMscount task name k) (Reply.Code code) b n g d j m = quietly d.3 (as_it_was old l quiet mid _ d.2.3 refl refl quiet.none_stands) m
+    go (Event.SetSeqno task name k) (Reply.Code code) b n g d j m = quietly d.3 (as_it_was old l quiet mid _ d.2.3 refl refl quiet.none_stands) m
+    go (Event.SetStatus task name) (Reply.Members members) b n g d j m = same d.0 d.1 m
+    go (Event.MoveMember task member after) (Reply.Code code) b n g d j m = joins task member after d.1 d.2 m
+    go (Event.InsertMember task member set) (Reply.Code code) b n g d j m = quietly d.2 (as_it_was old l quiet mid _ d.1.rest refl refl quiet.none_stands) m
+    go (Event.ExtractMember task member set) (Reply.Code code) b n g d j m = quietly d.2 (as_it_was old l quiet mid _ d.1.rest refl refl quiet.none_stands) m
+    go (Event.InsertRight task name from poly number) (Reply.Code code) b n g d j m = quietly d.2
+        (hands old l quiet mid _ _ (Inserts-hands task name from poly number old mid l (not_false (old.live_task task) (λ e. g.0 (inl e))) (λ e. g.1.0 (inl e)) d.1 j) (unowed_mid d.2 m)) m
+    go (Event.ExtractRight task name number to) (Reply.Right new_name kind) b n g d j m = quietly d.1
         (hands old l quiet mid _ _ (Extracts-hands task name number to new_name kind old mid l (not_false (old.live_task to) (λ e. g.0 (inr e))) d.0) (unowed_mid d.1 m)) m
-    go (Event.RequestNotification task name variant sync notify number) reply b n g d m = absurd n
-    go (Event.Send task bytes) (Reply.Code code) b n g d m = quietly d.2 (sends old l quiet now task bytes mid b d.1 (unowed_mid d.2 m)) m
-    go (Event.Receive task name room large) (Reply.Message bytes) b n g d m = quietly d.2.3
+    go (Event.RequestNotification task name variant sync notify number) reply b n g d j m = absurd n
+    go (Event.Send task bytes) (Reply.Code code) b n g d j m = quietly d.2 (sends old l quiet now task bytes mid b d.1 (unowed_mid d.2 m)) m
+    go (Event.Receive task name room large) (Reply.Message bytes) b n g d j m = quietly d.2.3
         (receives old l quiet task d.2.0 room bytes mid (TakesFrom-live old l task d.0 d.2.0 d.2.1) (not_false (old.live_task task) g.0) d.2.2 (unowed_mid d.2.3 m)) m
-    go (Event.Receive task name room large) (Reply.Empty told) b n g d m = same d.2.2 d.2.3 m
-    go (Event.Receive task name room large) (Reply.TooLarge k) b n g d m = let h = kept_large (DestroysFront d.2.0 d.2.1 old mid owed) large n d.2.6 in same h.0 h.1 m
-    go (Event.Receive task name room large) reply b n g d m = absurd d.2
-    go (Event.ReceiveAgain task waited room large) (Reply.Message bytes) b n g d m = quietly d.3
+    go (Event.Receive task name room large) (Reply.Empty told) b n g d j m = same d.2.2 d.2.3 m
+    go (Event.Receive task name room large) (Reply.TooLarge k) b n g d j m = let h = kept_large (DestroysFront d.2.0 d.2.1 old mid owed) large n d.2.6 in same h.0 h.1 m
+    go (Event.Receive task name room large) reply b n g d j m = absurd d.2
+    go (Event.ReceiveAgain task waited room large) (Reply.Message bytes) b n g d j m = quietly d.3
         (receives old l quiet task d.0 room bytes mid (TakesFrom-live old l task waited d.0 d.1) (not_false (old.live_task task) g.0) d.2 (unowed_mid d.3 m)) m
-    go (Event.ReceiveAgain task waited room large) (Reply.Empty told) b n g d m = same d.2 d.3 m
-    go (Event.ReceiveAgain task waited room large) (Reply.TooLarge k) b n g d m = let h = kept_large (DestroysFront d.0 d.1 old mid owed) large n d.6 in same h.0 h.1 m
-    go event reply b n g d m = absurd d
+    go (Event.ReceiveAgain task waited room large) (Reply.Empty told) b n g d j m = same d.2 d.3 m
+    go (Event.ReceiveAgain task waited room large) (Reply.TooLarge k) b n g d j m = let h = kept_large (DestroysFront d.0 d.1 old mid owed) large n d.6 in same h.0 h.1 m
+    go event reply b n g d j m = absurd d
 
 -- ---- steps and runs
 
 -- What an event may do in a quiet state, by an answer by which no right is lost, makes a step, with no more to settle.
-pub quiet_step : (now : ℕ) (old : State) (event : Event) (reply : Reply) (mid : State) → IsLawful old → IsQuiet old → BringsNone old event mid → LosesNone old event reply → NoneHolds (guards old event) → Does now old event reply mid [] →
+pub quiet_step : (now : ℕ) (old : State) (event : Event) (reply : Reply) (mid : State) → IsLawful old → IsQuiet old → BringsNone old event mid → LosesNone old event reply → NoneHolds (guards old event) → (does : Does now old event reply mid []) → Judged now old event reply mid [] does →
     Step now old event reply mid × IsLawful mid × IsQuiet mid
-quiet_step now old event reply mid l quiet brings none good does =
-    let m = Does-still now old event reply mid [] brings none good does l quiet in
-    (inr (record { unrefused = good; mid = mid; owed = []; does = does; settles = mid_settles now old mid [] m }), m.lawful, m.quiet)
+quiet_step now old event reply mid l quiet brings none good does judged =
+    let m = Does-still now old event reply mid [] brings none good does judged l quiet in
+    (inr (record { performed = record { mid = mid; owed = []; does = does; settles = mid_settles now old mid [] m }; unrefused = good; judged = judged }), m.lawful, m.quiet)
 
 -- ---- both
 
@@ -550,5 +564,5 @@ pub record IsCalm (s : State) : Type 0 where
   pub open lawful use *
   pub quiet : IsQuiet s
 
-pub opening-calm : IsCalm opening
-opening-calm = record { lawful = opening-lawful; quiet = opening-quiet }
+pub opening-calm : (profile : Profile) → IsCalm (opening_in profile)
+opening-calm profile = record { lawful = opening-lawful profile; quiet = opening-quiet profile }

@@ -6,24 +6,24 @@ use Rattle.mach_types.specs.declared.calls.Event.{Event}
 use Rattle.mach_types.specs.declared.calls.Reply.{Reply}
 use Rattle.mach_types.specs.Guards.{NoneHolds}
 use Rattle.mach_types.specs.Tokens.{Kind, receive, Token, count, is_of, is_held, Moves}
-use Rattle.mach_model.specs.State.{State, Target, lookup, without_name, with_name}
+use Rattle.mach_model.specs.State.{State, Target, lookup, without_name, with_name, gives}
 use Rattle.mach_model.specs.CopyIn.{name_kept}
 use Rattle.mach_model.specs.Death.{IsOrphan}
-use Rattle.mach_model.specs.Names.{AllocatesPort, Makes, Renames}
-use Rattle.mach_model.specs.ReceiveRight.{NamesReceive}
+use Rattle.mach_model.specs.Names.{AllocatesPort, Makes, Renames, JoinsSet}
+use Rattle.mach_model.specs.NameGuards.{NamesReceive}
 use Rattle.mach_model.specs.References.{is_either, LosesAll, Deallocates, Destroys, Modifies}
-use Rattle.mach_model.specs.Sets.{JoinsSet}
 use Rattle.mach_model.specs.Send.{Sends}
 use Rattle.mach_model.specs.Receive.{Receives, DestroysFront}
 use Rattle.mach_model.specs.Refusals.{guards}
 use Rattle.mach_model.specs.Notices.{Owed}
-use Rattle.mach_model.specs.Machine.{Does}
+use Rattle.mach_model.specs.Acts.{Does}
 use Rattle.mach_model.specs.Lawful.{IsLawful}
 use Rattle.mach_model.proofs.Midway.{NamesOnce, LosesWhole, Removes, LosesNone}
 use Rattle.mach_model.proofs.Names.{count_none, count_some, pos_or_zero, at_other}
 use Rattle.mach_model.proofs.MessagesLawful.{is_it, Hands, Sends-adds, Receives-removes}
 use Rattle.mach_model.proofs.LosingLawful.{AreSends, no_sends, same_sends}
 use Rattle.mach_model.proofs.StepLawful.{not_false, TakesFrom-live}
+use Rattle.mach_model.proofs.NamesLawful.{gives-lawful}
 
 -- Each port that lives has its receive right.
 abbrev HaveReceive : State → Type 0
@@ -123,6 +123,11 @@ Does-receives now old event reply mid owed none g d l p orphan = let one = go ev
     makes task right name (inr (inl (is, e))) = as_it_was old l mid _ e refl refl
     makes task right name (inr (inr (is, e))) = as_it_was old l mid _ e refl refl
 
+    makes_fresh : (task right name : ℕ) → Makes task right name (gives task name old) mid → HaveReceive mid
+    makes_fresh task right name (inl (is, a)) = port_made (gives task name old) (gives-lawful task name old l) task name mid a
+    makes_fresh task right name (inr (inl (is, e))) = as_it_was old l mid _ e refl refl
+    makes_fresh task right name (inr (inr (is, e))) = as_it_was old l mid _ e refl refl
+
     joins : (task member after : ℕ) → JoinsSet task member after old mid → HaveReceive mid
     joins task member after (p, is, inl h) = as_it_was old l mid _ h.1 refl refl
     joins task member after (p, is, inr h) = as_it_was old l mid _ h.2 refl refl
@@ -130,21 +135,23 @@ Does-receives now old event reply mid owed none g d l p orphan = let one = go ev
     go : (event : Event) (reply : Reply) → LosesNone old event reply → NoneHolds (guards old event) → Does now old event reply mid owed → HaveReceive mid
     go Event.TaskCreate (Reply.Task task) n g d = as_it_was old l mid _ d.0.rest refl refl
     go (Event.TaskTerminate task) reply n g d = absurd n
-    go (Event.Allocate task right) (Reply.Name name) n g d = makes task right name d.1
+    go (Event.Allocate task right) (Reply.Name name) n g d = makes_fresh task right name d.1
     go (Event.AllocateName task right name) (Reply.Name told) n g d = makes task right name d.1
     go (Event.Deallocate task name) (Reply.Code code) n g d = deallocates old l task name mid owed n d.1
     go (Event.Destroy task name) (Reply.Code code) n g d = destroys old l task name mid owed n d.1
     go (Event.ModRefs task name right delta) (Reply.Code code) n g d = modifies old l task name right delta mid owed n d.1
-    go (Event.GetRefs task name right) (Reply.Refs k) n g d = same d.1
-    go (Event.NameType task name) (Reply.NameType k) n g d = same d.1
-    go (Event.Names task) (Reply.Names entries) n g d = same d.1
+    go (Event.GetRefs task name right) (Reply.Refs k) n g d = same d.0
+    go (Event.NameType task name) (Reply.NameType k) n g d = same d.0
+    go (Event.Names task) (Reply.Names entries) n g d = same d.0
     go (Event.Rename task o k) (Reply.Code code) n g d = renames old l task o k mid d.1
-    go (Event.ReceiveStatus task name) (Reply.Status status) n g d = same d.1
+    go (Event.ReceiveStatus task name) (Reply.Status status) n g d = same d.0
     go (Event.SetQlimit task name k) (Reply.Code code) n g d = as_it_was old l mid _ d.1.3 refl refl
     go (Event.SetMscount task name k) (Reply.Code code) n g d = as_it_was old l mid _ d.2.3 refl refl
     go (Event.SetSeqno task name k) (Reply.Code code) n g d = as_it_was old l mid _ d.2.3 refl refl
-    go (Event.SetStatus task name) (Reply.Members members) n g d = same d.1
+    go (Event.SetStatus task name) (Reply.Members members) n g d = same d.0
     go (Event.MoveMember task member after) (Reply.Code code) n g d = joins task member after d.1
+    go (Event.InsertMember task member set) (Reply.Code code) n g d = as_it_was old l mid _ d.1.rest refl refl
+    go (Event.ExtractMember task member set) (Reply.Code code) n g d = as_it_was old l mid _ d.1.rest refl refl
     go (Event.InsertRight task name from poly number) (Reply.Code code) n g d = grind (arith, hands, not_false)
     go (Event.ExtractRight task name number to) (Reply.Right new_name kind) n g d = grind (arith, hands, not_false)
     go (Event.RequestNotification task name variant sync notify number) reply n g d = absurd n

@@ -17,7 +17,7 @@ use Rattle.mach_model.proofs.Names.{lying_le_of}
 use Rattle.mach_model.proofs.Settling.{lives}
 use Rattle.mach_model.proofs.SettledReceives.{or_cases, less, eq_symm}
 use Rattle.mach_model.proofs.TurnsSettle.{all_doomed, IsPaidAt, HasPaid, DiesAround, HasGone, IsSound, end_of, paid_leaves, weaker}
-use Rattle.mach_model.proofs.TurnsCounted.{listed_first, listed_later, reached_sound, reached_counted, IsCounted, is_queued, lost_in, dead_lived, IsFew, reached_few}
+use Rattle.mach_model.proofs.TurnsCounted.{listed_first, listed_later, reached_sound, reached_counted, AreTurnsCounted, is_queued, lost_in, dead_lived, IsFew, reached_few}
 use Rattle.mach_model.proofs.SettledLawful.{settled_lawful}
 use Rattle.mach_model.proofs.TurnsMade.{reached_settles}
 
@@ -165,7 +165,7 @@ module _ (now : ℕ) (old mid : State) (owed : Owed) (e : Ending) (l : MidLawful
   sound : IsSound old mid owed e
   sound = reached_sound old mid owed e r
 
-  counted : IsCounted mid e
+  counted : AreTurnsCounted mid e
   counted = reached_counted old mid owed e r
 
   sent_lived : (p : ℕ) → IsSentAway mid p → mid.live_port p ≡ true

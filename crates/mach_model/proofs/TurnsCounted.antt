@@ -9,7 +9,7 @@ use Rattle.mach_model.specs.State.{State, Target, lookup}
 use Rattle.mach_model.specs.Death.{Dies, IsSentAway}
 use Rattle.mach_model.specs.Notices.{Notice, port_sent, no_more_senders, right_unused, Owed}
 use Rattle.mach_model.specs.Settles.{tokens_of}
-use Rattle.mach_model.specs.Turns.{owed_in, went_in, Ending, listed, AreJudged, IsAtDoomed, IsNameOf, IsRequestOf, death_notice, Takes, PaidForName, Begins, Dooms, Saves, Destroys, Loses, PaysAtEnd, EndsRequest, Buries, TellsSenderless, Turn, IsReached, begins, turns, Begun, IsWaiting}
+use Rattle.mach_model.specs.Turns.{owed_in, went_in, Ending, listed, AreJudged, IsAtDoomed, IsNameOf, IsRequestOf, death_notice, SpendsRights, PaidForName, Begins, Dooms, Saves, DestroysDoomed, Loses, PaysAtEnd, EndsRequest, Buries, TellsSenderless, Turn, IsReached, begins, turns, Begun, IsWaiting}
 use Rattle.mach_model.specs.Midway.{MidLawful}
 use Rattle.mach_model.proofs.Names.{left_of, right_of, weigh-append, lying_le_of}
 use Rattle.mach_model.proofs.Settling.{lives}
@@ -41,10 +41,10 @@ pub one_all : {A : Type 0} (P : A → Type 0) (x : A) → P x → All P (x ∷ [
 one_all P x h = All-cons P x [] h (none_all P)
 
 -- a turn that takes no right
-pub takes_none : (e f : Ending) → f.left ≡ e.left → f.paid ≡ e.paid → f.gone ≡ e.gone → Takes e f [] []
+pub takes_none : (e f : Ending) → f.left ≡ e.left → f.paid ≡ e.paid → f.gone ≡ e.gone → SpendsRights e f [] []
 takes_none e f left paid gone = grind (arith, append-nil)
 
-pub takes_less : (e f : Ending) (paying : Owed) (going : List Token) → Takes e f paying going → (h : Token → ℕ) → weigh h f.left ≤ weigh h e.left
+pub takes_less : (e f : Ending) (paying : Owed) (going : List Token) → SpendsRights e f paying going → (h : Token → ℕ) → weigh h f.left ≤ weigh h e.left
 takes_less e f paying going t h = let a = t.left h in omega (arith, a)
 
 module _ (old mid : State) (owed : Owed) where
@@ -90,7 +90,7 @@ module _ (old mid : State) (owed : Owed) where
     pub saved : (p : ℕ) → listed f.saved p ≡ true → IsSentAway mid p
     pub told : (p : ℕ) → listed f.told p ≡ true → WasTold old mid e.left p
     pub more : (p : ℕ) → listed e.told p ≡ true → listed f.told p ≡ true
-    pub takes : Takes e f paying going
+    pub takes : SpendsRights e f paying going
     pub pays : All (HasPaid mid f.told) paying
     pub goes : All (HasGone mid) going
 
@@ -172,13 +172,13 @@ module _ (old mid : State) (owed : Owed) where
           goes = weaker (λ (x : Token). (x.kind ≡ receive) × (x.port ≡ t.port) × IsAtDoomed e x.place) (HasGone mid) (λ x h. inr ((λ is. let a = h.0 in cc), around e s x.place h.2)) t.going t.carried;
         }
 
-    destroys_sound : Destroys mid e f → IsSound old mid owed f
+    destroys_sound : DestroysDoomed mid e f → IsSound old mid owed f
     destroys_sound t = grind (arith, adds_sound, was_doomed, was_saved, was_told, still_told, takes_none, none_all)
 
     loses_sound : Loses mid e f → IsSound old mid owed f
     loses_sound t = go t.takes
       where
-        lost : (paying : Owed) (going : List Token) → Takes e f paying going → All (HasPaid mid f.told) paying → All (HasGone mid) going → IsSound old mid owed f
+        lost : (paying : Owed) (going : List Token) → SpendsRights e f paying going → All (HasPaid mid f.told) paying → All (HasGone mid) going → IsSound old mid owed f
         lost paying going takes pays goes = adds_sound e f paying going s record {
           begun = ap (λ (x : Ending). x.begun) t.rest;
           doomed = was_doomed (ap (λ (x : Ending). x.doomed) t.rest);
@@ -190,7 +190,7 @@ module _ (old mid : State) (owed : Owed) where
           goes = goes;
         }
 
-        go : (t.right.kind ≡ send_once) × Takes e f ((t.right, right_unused) ∷ []) [] ⊎ (t.right.kind ≡ send_once → ⊥) × Takes e f [] (t.right ∷ []) → IsSound old mid owed f
+        go : (t.right.kind ≡ send_once) × SpendsRights e f ((t.right, right_unused) ∷ []) [] ⊎ (t.right.kind ≡ send_once → ⊥) × SpendsRights e f [] (t.right ∷ []) → IsSound old mid owed f
         go (inl (once, takes)) = lost ((t.right, right_unused) ∷ []) [] takes
             (one_all (HasPaid mid f.told) (t.right, right_unused) (once, paid_around f.told t.right.place (around e s t.right.place t.destroyed))) (none_all (HasGone mid))
         go (inr (not_once, takes)) = lost [] (t.right ∷ []) takes (none_all (HasPaid mid f.told)) (one_all (HasGone mid) t.right (inr (not_once, around e s t.right.place t.destroyed)))
@@ -319,7 +319,7 @@ pub dead_lived : (mid : State) (owed : Owed) → MidLawful mid owed → (p : ℕ
 dead_lived mid owed l p d = grind (arith, dead_cases, lives, lying_le_of)
 
 -- Each port is judged once, each message destroyed once, of those that waited at a doomed port; and each port that is judged takes a turn.
-pub record IsCounted (mid : State) (e : Ending) : Type 0 where
+pub record AreTurnsCounted (mid : State) (e : Ending) : Type 0 where
   pub least : length e.doomed + length e.saved ≤ e.turns
   pub port_once : (p : ℕ) → tally (λ q. p == q) e.doomed + tally (λ q. p == q) e.saved ≤ 1
   pub destroyed : All (λ m. (listed e.doomed m.0 ≡ true) × IsWaiting mid e m) e.destroyed
@@ -344,7 +344,7 @@ module _ (old mid : State) (owed : Owed) where
 
   -- ---- each turn
 
-  module _ (e f : Ending) (t : IsCounted mid e) where
+  module _ (e f : Ending) (t : AreTurnsCounted mid e) where
     -- a port that wasn't judged before stands in one list more
     once_more : (port : ℕ) (ps qs : List ℕ) → listed ps port ≡ false → listed qs port ≡ false → ((p : ℕ) → tally (λ q. p == q) ps + tally (λ q. p == q) qs ≤ 1) →
         (p : ℕ) → tally (λ q. p == q) (port ∷ ps) + tally (λ q. p == q) qs ≤ 1
@@ -357,7 +357,7 @@ module _ (old mid : State) (owed : Owed) where
     kept_once is m = let a = t.message_once m in let b = ap (tally (λ n. m.0 == n.0 && m.1 == n.1)) is in omega (arith, a, b)
 
     -- what follows from a turn that judges no port and destroys no message
-    plain : f.begun ≡ e.begun → f.doomed ≡ e.doomed → f.saved ≡ e.saved → f.destroyed ≡ e.destroyed → e.turns ≤ f.turns → IsCounted mid f
+    plain : f.begun ≡ e.begun → f.doomed ≡ e.doomed → f.saved ≡ e.saved → f.destroyed ≡ e.destroyed → e.turns ≤ f.turns → AreTurnsCounted mid f
     plain begun doomed saved destroyed no_fewer = record {
       least = let a = ap length doomed in let b = ap length saved in let c = t.least in omega (arith, a, b, c, no_fewer);
       port_once = λ p.
@@ -369,7 +369,7 @@ module _ (old mid : State) (owed : Owed) where
       message_once = kept_once destroyed;
     }
 
-    dooms_counted : Dooms mid e f → IsCounted mid f
+    dooms_counted : Dooms mid e f → AreTurnsCounted mid f
     dooms_counted w =
         let now : f.doomed ≡ w.port ∷ e.doomed = ap (λ (x : Ending). x.doomed) w.rest in
         let saved : f.saved ≡ e.saved = ap (λ (x : Ending). x.saved) w.rest in
@@ -391,7 +391,7 @@ module _ (old mid : State) (owed : Owed) where
           message_once = kept_once destroyed;
         }
 
-    saves_counted : Saves mid e f → IsCounted mid f
+    saves_counted : Saves mid e f → AreTurnsCounted mid f
     saves_counted w =
         let now : f.saved ≡ w.port ∷ e.saved = ap (λ (x : Ending). x.saved) w.rest in
         let doomed : f.doomed ≡ e.doomed = ap (λ (x : Ending). x.doomed) w.rest in
@@ -409,7 +409,7 @@ module _ (old mid : State) (owed : Owed) where
           message_once = kept_once destroyed;
         }
 
-    destroys_counted : Destroys mid e f → IsCounted mid f
+    destroys_counted : DestroysDoomed mid e f → AreTurnsCounted mid f
     destroys_counted w =
         let now : f.destroyed ≡ (w.port, w.entry) ∷ e.destroyed = ap (λ (x : Ending). x.destroyed) w.rest in
         let doomed : f.doomed ≡ e.doomed = ap (λ (x : Ending). x.doomed) w.rest in
@@ -439,7 +439,7 @@ module _ (old mid : State) (owed : Owed) where
             let z = uncontained e.destroyed m (λ c. w.undestroyed (subst (Contains e.destroyed) (sym same) c)) in
             rw is (omega (arith, z))
 
-    turn_counted : Turn old mid e f → IsCounted mid f
+    turn_counted : Turn old mid e f → AreTurnsCounted mid f
     turn_counted (inl w) = dooms_counted w
     turn_counted (inr (inl w)) = saves_counted w
     turn_counted (inr (inr (inl w))) = destroys_counted w
@@ -452,10 +452,10 @@ module _ (old mid : State) (owed : Owed) where
     turn_counted (inr (inr (inr (inr (inr (inr w)))))) = plain (ap (λ (x : Ending). x.begun) w.rest) (ap (λ (x : Ending). x.doomed) w.rest) (ap (λ (x : Ending). x.saved) w.rest) (ap (λ (x : Ending). x.destroyed) w.rest)
         (let n : f.turns ≡ e.turns + length w.paying = ap (λ (x : Ending). x.turns) w.rest in omega (arith, n))
 
-  begins_counted : (e : Ending) → Begins mid owed e → IsCounted mid e
+  begins_counted : (e : Ending) → Begins mid owed e → AreTurnsCounted mid e
   begins_counted e b = grind arith
 
-  pub reached_counted : (e : Ending) → IsReached old mid owed e → IsCounted mid e
+  pub reached_counted : (e : Ending) → IsReached old mid owed e → AreTurnsCounted mid e
   reached_counted e' (begins e b) = begins_counted e b
   reached_counted f' (turns e f before t) = turn_counted e f (reached_counted e before) t
 
@@ -474,7 +474,7 @@ module _ (old mid : State) (owed : Owed) where
       pub live : All LivesOn e.paid
 
     -- more rights pay that lay in no message, or whose ports live
-    more_live : (e f : Ending) (paying : Owed) (going : List Token) → IsFew e → Takes e f paying going → All LivesOn paying → All LivesOn f.paid
+    more_live : (e f : Ending) (paying : Owed) (going : List Token) → IsFew e → SpendsRights e f paying going → All LivesOn paying → All LivesOn f.paid
     more_live e f paying going few t all = subst (λ (xs : Owed). All LivesOn xs) (sym t.paid) (All-append LivesOn e.paid paying few.live all)
 
     same_live : (e f : Ending) → IsFew e → f.paid ≡ e.paid → All LivesOn f.paid
@@ -483,10 +483,10 @@ module _ (old mid : State) (owed : Owed) where
     of_request : (r : Request) (x : Token × Notice) → x.0.place ≡ in_request r → LivesOn x
     of_request r x at queued = absurd (let h : is_queued (in_request r) ≡ true = subst (λ (y : Place). is_queued y ≡ true) at queued in cc)
 
-    taken_paid : (e f : Ending) (paying : Owed) (going : List Token) → Takes e f paying going → length f.paid ≡ length e.paid + length paying
+    taken_paid : (e f : Ending) (paying : Owed) (going : List Token) → SpendsRights e f paying going → length f.paid ≡ length e.paid + length paying
     taken_paid e f paying going t = ap length t.paid ∙ length-append e.paid paying
 
-    taken_lost : (e f : Ending) (paying : Owed) (going : List Token) → Takes e f paying going → lost_in dies f ≡ lost_in dies e + count is_lost_here going
+    taken_lost : (e f : Ending) (paying : Owed) (going : List Token) → SpendsRights e f paying going → lost_in dies f ≡ lost_in dies e + count is_lost_here going
     taken_lost e f paying going t = ap (count is_lost_here) t.gone ∙ weigh-append (λ x. if is_lost_here x then 1 else 0) e.gone going
 
     turn_few : (e f : Ending) → IsReached old mid owed e → IsFew e → Turn old mid e f → IsFew f
@@ -546,11 +546,11 @@ module _ (old mid : State) (owed : Owed) where
         own : (if is_lost_here w.right then suc zero else zero) ≡ 1
         own = rw (lies w.right.place w.destroyed, lives_on) refl
 
-        lost : (w.right.kind ≡ send_once) × Takes e f ((w.right, right_unused) ∷ []) [] ⊎ (w.right.kind ≢ send_once) × Takes e f [] (w.right ∷ []) → length f.paid + lost_in dies f ≡ length e.paid + lost_in dies e + 1
+        lost : (w.right.kind ≡ send_once) × SpendsRights e f ((w.right, right_unused) ∷ []) [] ⊎ (w.right.kind ≢ send_once) × SpendsRights e f [] (w.right ∷ []) → length f.paid + lost_in dies f ≡ length e.paid + lost_in dies e + 1
         lost (inl h) = let a = taken_paid e f _ _ h.1 in let b = taken_lost e f _ _ h.1 in omega (arith, a, b)
         lost (inr h) = let a = taken_paid e f _ _ h.1 in let b = taken_lost e f _ _ h.1 in let c = own in omega (arith, a, b, c)
 
-        all : (w.right.kind ≡ send_once) × Takes e f ((w.right, right_unused) ∷ []) [] ⊎ (w.right.kind ≢ send_once) × Takes e f [] (w.right ∷ []) → All LivesOn f.paid
+        all : (w.right.kind ≡ send_once) × SpendsRights e f ((w.right, right_unused) ∷ []) [] ⊎ (w.right.kind ≢ send_once) × SpendsRights e f [] (w.right ∷ []) → All LivesOn f.paid
         all (inl h) = more_live e f _ _ few h.1 (one_all LivesOn (w.right, right_unused) (λ queued. lives_on))
         all (inr h) = more_live e f _ _ few h.1 (none_all LivesOn)
     turn_few e f r few (inr (inr (inr (inr (inl w))))) =

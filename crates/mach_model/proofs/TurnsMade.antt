@@ -12,7 +12,7 @@ use Rattle.mach_model.specs.Settles.{PlaceStays, StaysWith, Settles, tokens_of}
 use Rattle.mach_model.specs.Carried.{lying}
 use Rattle.mach_model.specs.Lawful.{is_once}
 use Rattle.mach_model.specs.Midway.{MidLawful}
-use Rattle.mach_model.specs.Turns.{Ending, listed, lives_after, became_dead, has_ended, outcome, IsNameOf, IsRequestOf, IsOnGone, IsOffRequest, is_among, Takes, Begins, Dooms, Saves, Destroys, Loses, EndsRequest, Buries, TellsSenderless, Turn, IsReached, begins, turns, IsDone, Begun, IsWaiting, is_judged, IsFound, AreJudged, IsAtDoomed, death_notice, PaysAtEnd, owed_in, went_in, PaidForName}
+use Rattle.mach_model.specs.Turns.{Ending, listed, lives_after, became_dead, has_ended, outcome, IsNameOf, IsRequestOf, IsOnGone, IsOffRequest, is_among, SpendsRights, Begins, Dooms, Saves, DestroysDoomed, Loses, EndsRequest, Buries, TellsSenderless, Turn, IsReached, begins, turns, IsDone, Begun, IsWaiting, is_judged, IsFound, AreJudged, IsAtDoomed, death_notice, PaysAtEnd, owed_in, went_in, PaidForName}
 use Rattle.mach_model.proofs.Names.{left_of, count_some, lying_le_of, held_le_of, right_of, some_tally}
 use Rattle.mach_model.proofs.Settling.{is_at, own_test, place_refl, lives}
 use Rattle.mach_model.proofs.SettledReceives.{or_cases, or_right, of_kind, at_place, kind_is, place_is}
@@ -158,14 +158,14 @@ module _ (old mid : State) (owed : Owed) where
     dooms_cleared : Dooms mid e f → IsCleared f
     dooms_cleared t = grind (arith, calm_kept, listed_later, still_ended, no_less)
 
-    destroys_cleared : Destroys mid e f → IsCleared f
+    destroys_cleared : DestroysDoomed mid e f → IsCleared f
     destroys_cleared t = grind (arith, calm_kept, same_doomed, still_ended, no_less)
 
     loses_cleared : Loses mid e f → IsCleared f
     loses_cleared t = calm_kept e f (record { doomed = same_doomed e f (ap (λ (x : Ending). x.doomed) t.rest); ended = still_ended e f (ap (λ (x : Ending). x.ended) t.rest); left = less t.takes })
         c (ap (λ (x : Ending). x.ended) t.rest) (ap (λ (x : Ending). x.buried) t.rest) (ap (λ (x : Ending). x.told) t.rest) (ap (λ (x : Ending). x.saved) t.rest)
       where
-        less : (t.right.kind ≡ send_once) × Takes e f ((t.right, right_unused) ∷ []) [] ⊎ (t.right.kind ≢ send_once) × Takes e f [] (t.right ∷ []) → (h : Token → ℕ) → weigh h f.left ≤ weigh h e.left
+        less : (t.right.kind ≡ send_once) × SpendsRights e f ((t.right, right_unused) ∷ []) [] ⊎ (t.right.kind ≢ send_once) × SpendsRights e f [] (t.right ∷ []) → (h : Token → ℕ) → weigh h f.left ≤ weigh h e.left
         less (inl a) = takes_less e f _ _ a.1
         less (inr a) = takes_less e f _ _ a.1
 
@@ -482,7 +482,7 @@ lose x e = record e {
 pub lose_is : (mid : State) (e : Ending) (x : Token) → AreJudged mid e → listed e.doomed x.port ≡ false → IsAtDoomed e x.place → 0 < count (is_at x.kind x.port x.place) e.left → Loses mid e (lose x e)
 lose_is mid e x judged lives at there = record { right = x; judged = judged; lives = lives; destroyed = at; takes = go (same_kind send_once x.kind) refl; rest = refl }
   where
-    go : (b : Bool) → same_kind send_once x.kind ≡ b → (x.kind ≡ send_once) × Takes e (lose x e) ((x, right_unused) ∷ []) [] ⊎ (x.kind ≢ send_once) × Takes e (lose x e) [] (x ∷ [])
+    go : (b : Bool) → same_kind send_once x.kind ≡ b → (x.kind ≡ send_once) × SpendsRights e (lose x e) ((x, right_unused) ∷ []) [] ⊎ (x.kind ≢ send_once) × SpendsRights e (lose x e) [] (x ∷ [])
     go true is = grind (arith, kind_is, without_weigh, append-nil)
     go false is = grind (arith, without_weigh, append-nil)
 
@@ -672,5 +672,5 @@ start_is mid owed begun owes went same = record {
 abbrev pub destroy : (port entry : ℕ) → Ending → Ending
 destroy p k e = record e { destroyed = (p, k) ∷ e.destroyed; turns = e.turns + 1 }
 
-pub destroy_is : (mid : State) (e : Ending) (p k : ℕ) → listed e.doomed p ≡ true → IsWaiting mid e (p, k) → ¬ (Contains e.destroyed (p, k)) → Destroys mid e (destroy p k e)
+pub destroy_is : (mid : State) (e : Ending) (p k : ℕ) → listed e.doomed p ≡ true → IsWaiting mid e (p, k) → ¬ (Contains e.destroyed (p, k)) → DestroysDoomed mid e (destroy p k e)
 destroy_is mid e p k doomed waits not = record { port = p; entry = k; doomed = doomed; waits = waits.0; within = waits.1; undestroyed = not; rest = refl }

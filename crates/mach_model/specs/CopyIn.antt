@@ -85,4 +85,5 @@ abbrev pub CopyCarried : (task : ℕ) → Place → State → ℕ × ℕ → Kin
 CopyCarried task place old w r new = CopyWord task place w.0 w.1 old r.1 new
 
 abbrev pub CopyBody : (task : ℕ) → Place → WireBody → State → Body → State → Type 0
-CopyBody task place written old body new = SameBody IsSent written body × Through (CopyCarried task place) old (body_words written) (body_rights body) new
+CopyBody task place written old body new =
+    SameBody IsSent written body × Through (CopyCarried task place) old (body_words written) (body_rights body) new

@@ -1,20 +1,16 @@
 -- Copying out: what a right in a message becomes with its receiver (IPC Interface, `mach_msg` with MACH_RCV_MSG).
-use Rattle.std.specs.Prelude.{◌≡◌, ◌≢◌, ℕ, ◌<◌, ◌≤◌, true, List, [], ◌∷◌, Some, if◌then◌else◌, ◌⊎◌, nat_lt, MatchBool}
+use Rattle.std.specs.Prelude.{◌≡◌, ◌≢◌, ℕ, ◌<◌, List, [], ◌∷◌, Some, if◌then◌else◌, ◌⊎◌, nat_lt, MatchBool}
 use Rattle.std.specs.FinMap as map
 use Rattle.mach_types.specs.Numbers.{null_word, dead_word, most_names, most_references}
 use Rattle.mach_types.specs.Tokens.{Kind, send, send_once, Place, in_task, Token, token, Moves}
-use Rattle.mach_types.specs.Messages.{Mark, to_port, null, dead, Message}
-use Rattle.mach_types.specs.Bodies.{message_rights, OneFails}
-use Rattle.mach_model.specs.State.{State, Target, lookup, held, with_name, IsFresh}
+use Rattle.mach_types.specs.Messages.{Mark, to_port, null, dead}
+use Rattle.mach_model.specs.State.{State, Target, lookup, held, with_name, IsFreshFor, gives}
 
 -- The name is fresh, there is room for it, and it is given to the target.
 pub record Named (task name : ℕ) (target : Target) (old new : State) : Type 0 where
   pub room : map.len (old.naming task) < most_names
-  pub fresh : IsFresh (old.naming task) name
-  pub rest : new ≡ with_name task name target old
-
-abbrev pub HasNoRoom : State → (task : ℕ) → Type 0
-HasNoRoom s task = most_names ≤ map.len (s.naming task)
+  pub fresh : IsFreshFor old task name
+  pub rest : new ≡ with_name task name target (gives task name old)
 
 -- A send or receive right goes under the task's name for the port, if it has one.
 abbrev pub NamedOnce : (task name : ℕ) → (port : ℕ) → State → State → Type 0
@@ -46,24 +42,6 @@ GiveMark task place kind dead old word new = (word ≡ dead_word) × (new ≡ ol
 GiveMark task place kind (to_port p) old word new =
     MatchBool (old.live_port p) (GiveRight task place kind p old word new) ((word ≡ dead_word) × (new ≡ old))
 
--- the word of a right, read with its number
+-- the same of a word that stands beside its disposition's number
 abbrev pub GiveWord : (task : ℕ) → Place → State → ℕ × ℕ → Kind × Mark → State → Type 0
 GiveWord task place old w r new = GiveMark task place r.0 r.1 old w.1 new
-
--- ---- want of names
-
--- The right needs a fresh name: a send-once right always, another where the task has no name for the port.
-abbrev pub NeedsName : State → (task : ℕ) → Kind → (port : ℕ) → Type 0
-NeedsName s task send_once p = Unit {0}
-NeedsName s task kind p = (n : ℕ) → lookup s task n ≢ Some (Target.port p)
-
--- there is none for it
-abbrev pub MarkLacks : (task : ℕ) → Kind → Mark → State → Type 0
-MarkLacks task kind (to_port p) s = (s.live_port p ≡ true) × HasNoRoom s task × NeedsName s task kind p
-MarkLacks task kind null s = ⊥
-MarkLacks task kind dead s = ⊥
-
--- The task's names don't suffice: there is none for one of the message's rights, once those before it were given.
-abbrev pub MessageLacks : (task : ℕ) → Place → Message → State → Type 0
-MessageLacks task place m s =
-    OneFails (λ old r. MarkLacks task r.0 r.1 old) (λ old r new. (word : ℕ) × GiveMark task place r.0 r.1 old word new) s (message_rights m)

@@ -15,19 +15,9 @@ same_place a b = false
 abbrev pub LiesAt : State → Kind → ℕ → Place → Type 0
 LiesAt s kind p place = 0 < count (λ x. is_of kind p x && same_place place x.place) s.ledger
 
--- The port's receive right is carried by a message that is queued at another.
+-- The first port's receive right lies in an entry of the second one's log.
 abbrev pub CarriedAt : State → (port at : ℕ) → Type 0
 CarriedAt s p q = (k : ℕ) × LiesAt s receive p (in_message q k)
-
--- Following from port to carrying port reaches it.
-pub data Reaches (s : State) : ℕ → ℕ → Type 0 where
-  here : (p : ℕ) → Reaches s p p
-  there : (p q r : ℕ) → CarriedAt s p q → Reaches s q r → Reaches s p r
-
--- Following ends at a task.
-pub data IsGrounded (s : State) : ℕ → Type 0 where
-  at_task : (p task : ℕ) → LiesAt s receive p (in_task task) → IsGrounded s p
-  carried : (p q : ℕ) → CarriedAt s p q → IsGrounded s q → IsGrounded s p
 
 -- ---- which ports die
 
@@ -43,7 +33,7 @@ pub record IsSaved (mid : State) (port : ℕ) : Type 0 where
   pub task : ℕ
   pub with_task : LiesAt mid receive notify (in_task task)
 
--- The least set with each orphan, and each port carried at a member, save those that are saved.
+-- The least set with each orphan, and with each port carried at a member, but for ports that are saved.
 pub data Dies (mid : State) : ℕ → Type 0 where
   orphan : (p : ℕ) → IsOrphan mid p → ¬ (IsSaved mid p) → Dies mid p
   carried_at : (p q : ℕ) → Dies mid q → CarriedAt mid p q → ¬ (IsSaved mid p) → Dies mid p
@@ -51,8 +41,3 @@ pub data Dies (mid : State) : ℕ → Type 0 where
 -- a saved port that would have died
 abbrev pub IsSentAway : State → ℕ → Type 0
 IsSentAway mid p = IsSaved mid p × (IsOrphan mid p ⊎ ((q : ℕ) × Dies mid q × CarriedAt mid p q))
-
--- Dies is contained in each set that is closed in this way.
-pub record IsClosed (mid : State) (S : ℕ → Type 0) : Type 0 where
-  pub orphans : (p : ℕ) → IsOrphan mid p → ¬ (IsSaved mid p) → S p
-  pub carried : (p q : ℕ) → S q → CarriedAt mid p q → ¬ (IsSaved mid p) → S p

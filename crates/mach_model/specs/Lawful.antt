@@ -8,6 +8,8 @@ use Rattle.mach_types.specs.Messages.{Entry}
 use Rattle.mach_model.specs.State.{State, Target, Names, held}
 use Rattle.mach_model.specs.Death.{same_place}
 use Rattle.mach_model.specs.Carried.{message_count, lying_among}
+use Rattle.mach_types.specs.declared.profiles.Profile.{Profile}
+use Rattle.mach_types.specs.declared.profiles.Profile.TheVariants.{One, Two, Three}
 
 -- ---- tasks and their names
 
@@ -80,10 +82,21 @@ pub record LawfulSets (naming : ℕ → Names) (owner : ℕ → Option ℕ) (mad
   pub set_named : (set task : ℕ) → owner set ≡ Some task → (name : ℕ) × (map.get (naming task) name ≡ Some (Target.set set))
   pub one_set_name : (task n m set : ℕ) → map.get (naming task) n ≡ Some (Target.set set) → map.get (naming task) m ≡ Some (Target.set set) → n ≡ m
 
--- A port is in one set at most, and a dead one in none.
-pub record LawfulMembership (live : ℕ → Bool) (sets_of : ℕ → List ℕ) : Type 0 where
+-- each stands once
+abbrev pub AreApart : List ℕ → Type 0
+AreApart [] = Unit {0}
+AreApart (x ∷ xs) = ¬ (Contains xs x) × AreApart xs
+
+-- which sets a port may be in
+abbrev pub HasFewSets : Profile → List ℕ → Type 0
+HasFewSets One sets = length sets ≤ 1
+HasFewSets Two sets = length sets ≤ 1
+HasFewSets Three sets = AreApart sets
+
+-- A port is in each of its sets once, and in one at most but where the profile has it in several; a dead one is in none.
+pub record LawfulMembership (profile : Profile) (live : ℕ → Bool) (sets_of : ℕ → List ℕ) : Type 0 where
   pub no_sets : (p : ℕ) → live p ≡ false → sets_of p ≡ []
-  pub one_set : (p : ℕ) → length (sets_of p) ≤ 1
+  pub few_sets : (p : ℕ) → HasFewSets profile (sets_of p)
 
 -- ---- logs
 
@@ -142,7 +155,7 @@ pub record IsLawful (s : State) : Type 0 where
   pub few_rights : length s.ledger ≤ most_rights
   pub sets : LawfulSets s.naming s.set_owner s.sets_made
   pub open sets use *
-  pub membership : LawfulMembership s.live_port s.sets_of
+  pub membership : LawfulMembership s.profile s.live_port s.sets_of
   pub open membership use *
   pub logs : LawfulLogs s.ports_made s.log s.taken
   pub open logs use *

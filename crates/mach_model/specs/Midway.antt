@@ -50,7 +50,7 @@ pub record MidLawful (s : State) (owed : Owed) : Type 0 where
   pub open room use *
   pub sets : LawfulSets s.naming s.set_owner s.sets_made
   pub open sets use *
-  pub membership : LawfulMembership s.live_port s.sets_of
+  pub membership : LawfulMembership s.profile s.live_port s.sets_of
   pub open membership use *
   pub logs : LawfulLogs s.ports_made s.log s.taken
   pub open logs use *

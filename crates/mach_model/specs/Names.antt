@@ -1,13 +1,10 @@
--- A task's names: allocating a port, a port set or a dead name under one, listing them with their types, and giving one another
--- number (Port Manipulation Interface, `mach_port_allocate`, `mach_port_allocate_name`, `mach_port_type`, `mach_port_names` and
--- `mach_port_rename`).
-use Rattle.std.specs.Prelude.{◌≡◌, ◌≢◌, ℕ, ◌+◌, ◌≤◌, ◌⊎◌, Bool, true, false, List, [], ◌∷◌, length, map, Some, if◌then◌else◌, nat_lt}
+-- Names: making a port, a set or a dead name under one, renaming, and what is set of the port under one (Port Manipulation Interface,
+-- `mach_port_allocate`, `mach_port_rename`, `mach_port_set_qlimit`, `mach_port_move_member` and the like).
+use Rattle.std.specs.Prelude.{◌≡◌, ℕ, ◌+◌, ◌⊎◌, Bool, true, false, [], ◌∷◌, Some, if◌then◌else◌, filter, ◌==◌, not, ◌++◌}
 use Rattle.std.specs.FinMap as names
-use Rattle.mach_types.specs.declared.rights.Right.TheVariants.{Send, Receive, SendOnce, PortSet, DeadName}
-use Rattle.mach_types.specs.Numbers.{right_bit, request_bit, first_limit, most_rights, most_identities}
-use Rattle.mach_types.specs.Tokens.{receive, send, Request, dead_name, Place, in_task, in_message, in_request, Token, token, Moves, weigh}
-use Rattle.mach_model.specs.State.{State, Target, lookup, at, held, with_name, same_request, request_at}
-use Rattle.mach_model.specs.CopyOut.{HasNoRoom}
+use Rattle.mach_types.specs.Numbers.{first_limit}
+use Rattle.mach_types.specs.Tokens.{receive, Request, dead_name, Place, in_task, in_message, in_request, Token, token, Moves, weigh}
+use Rattle.mach_model.specs.State.{State, Target, lookup, at, with_name, same_request, request_at, Holds}
 
 -- ---- allocating
 
@@ -42,40 +39,6 @@ Makes task right name old mid =
     ⊎ (right ≡ 3) × (mid ≡ with_set task name old)
     ⊎ (right ≡ 4) × (mid ≡ with_name task name (Target.dead 1) old)
 
--- the right numbers that nothing can be made of
-abbrev pub IsNoMaking : ℕ → Type 0
-IsNoMaking right = (right ≢ 1) × (right ≢ 3) × (right ≢ 4)
-
--- there is no room for one more of what the right would make
-abbrev pub IsFull : State → (task right : ℕ) → Type 0
-IsFull s task right =
-    HasNoRoom s task
-    ⊎ (right ≡ 1) × ((most_rights ≤ length s.ledger) ⊎ (most_identities ≤ s.ports_made))
-    ⊎ (right ≡ 3) × (most_identities ≤ s.sets_made)
-
--- ---- types
-
--- the bits of the rights that are held
-abbrev pub target_bits : State → (task : ℕ) → Target → ℕ
-target_bits s task (Target.port p) =
-    (if nat_lt 0 (held s task send p) then right_bit Send else 0) + (if nat_lt 0 (held s task receive p) then right_bit Receive else 0)
-target_bits s task (Target.once p) = right_bit SendOnce
-target_bits s task (Target.set set) = right_bit PortSet
-target_bits s task (Target.dead n) = right_bit DeadName
-
--- and of a dead-name request that stands on the name
-abbrev pub type_of : State → (task name : ℕ) → Target → ℕ
-type_of s task name target = target_bits s task target + (if s.stands (dead_name task name) then request_bit else 0)
-
-abbrev pub TellsType : State → (task name type : ℕ) → Type 0
-TellsType s task name n = (target : Target) × (lookup s task name ≡ Some target) × (n ≡ type_of s task name target)
-
--- ---- listing
-
--- the names with their types, names rising
-abbrev pub names_of : State → (task : ℕ) → List (ℕ × ℕ)
-names_of s task = map (λ e. (e.0, type_of s task e.0 e.1)) (names.entries (s.naming task))
-
 -- ---- renaming
 
 -- a right that a request on the name keeps is kept by the request on the new one
@@ -100,3 +63,32 @@ pub record Renames (task old_name new_name : ℕ) (old mid : State) : Type 0 whe
     ledger = mid.ledger;
   }
   pub tokens : (h : Token → ℕ) → weigh h mid.ledger ≡ weigh (λ x. h (renamed_token task old_name new_name x)) old.ledger
+
+-- ---- a port's numbers, and its sets
+
+-- A number of the port under the name is set; the receive right is the task's.
+abbrev pub ChangesPort : State → (task name : ℕ) → (ℕ → State) → State → Type 0
+ChangesPort old task name change mid = (p : ℕ) × (lookup old task name ≡ Some (Target.port p)) × Holds old task receive p × (mid ≡ change p)
+
+-- The port under the first name leaves its sets for the one under the second, or for none where that is 0.
+abbrev pub JoinsSet : (task member after : ℕ) → State → State → Type 0
+JoinsSet task member after old mid =
+    (p : ℕ) × (lookup old task member ≡ Some (Target.port p))
+    × ((after ≡ 0) × (mid ≡ record old { sets_of = at old.sets_of p [] })
+    ⊎ ((set : ℕ) × (lookup old task after ≡ Some (Target.set set)) × (mid ≡ record old { sets_of = at old.sets_of p (set ∷ []) })))
+
+-- It enters the set, besides those that it is in.
+pub record EntersSet (task member set : ℕ) (old mid : State) : Type 0 where
+  pub port : ℕ
+  pub found : lookup old task member ≡ Some (Target.port port)
+  pub entered : ℕ
+  pub found_set : lookup old task set ≡ Some (Target.set entered)
+  pub rest : mid ≡ record old { sets_of = at old.sets_of port (old.sets_of port ++ entered ∷ []) }
+
+-- It leaves the set, and stays in the others.
+pub record LeavesSet (task member set : ℕ) (old mid : State) : Type 0 where
+  pub port : ℕ
+  pub found : lookup old task member ≡ Some (Target.port port)
+  pub left : ℕ
+  pub found_set : lookup old task set ≡ Some (Target.set left)
+  pub rest : mid ≡ record old { sets_of = at old.sets_of port (filter (λ t. not (t == left)) (old.sets_of port)) }

@@ -25,7 +25,7 @@ notice_body (no_more_senders n) = Body.raw (word 0x10012002 ++ word n)
 notice_body right_unused = Body.raw []
 notice_body (name_died name) = Body.raw (word 0x1001200f ++ word name)
 
--- the rights that a step's own part leaves unused, each with the notice that it is owed
+-- rights, each with the notice that it is owed, or pays for
 abbrev pub Owed : Type 0
 Owed = List (Token × Notice)
 

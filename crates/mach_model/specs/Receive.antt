@@ -1,19 +1,18 @@
--- Receiving a message (IPC Interface, `mach_msg` with MACH_RCV_MSG), and which code refuses it.
-use Rattle.std.specs.Prelude.{◌≡◌, ℕ, ◌+◌, ◌%◌, ◌^◌, ◌<◌, ◌≤◌, ◌⊎◌, Bool, List, [], ◌∷◌, length, slice_get, Some, min, MatchBool, Contains}
+-- Receiving a message (IPC Interface, `mach_msg` with MACH_RCV_MSG).
+use Rattle.std.specs.Prelude.{◌≡◌, ℕ, ◌+◌, ◌%◌, ◌^◌, ◌<◌, ◌≤◌, Bool, List, [], ◌∷◌, length, slice_get, Some, min, MatchBool, Contains}
 use Rattle.mach_types.specs.declared.calls.Waited.{Waited}
 use Rattle.mach_types.specs.declared.calls.Reply.{Reply}
-use Rattle.mach_types.specs.declared.codes.MsgReturn.TheVariants.{ReceiveBodyErrorMemory, ReceiveBodyErrorNames}
-use Rattle.mach_types.specs.Numbers.{kind_number, most_bytes, msg_number}
+use Rattle.mach_types.specs.Numbers.{kind_number, most_bytes}
 use Rattle.mach_types.specs.Tokens.{receive, in_message, token, Moves}
 use Rattle.mach_types.specs.Messages.{Entry}
 use Rattle.mach_types.specs.Grammar.{WireBody, Header, Spells}
 use Rattle.mach_types.specs.Bodies.{message_rights, SameReply, SameBody, Through}
 use Rattle.mach_model.specs.State.{State, Target, lookup, at, Holds, queue}
 use Rattle.mach_model.specs.Death.{same_place}
-use Rattle.mach_model.specs.CopyOut.{GiveWord, MessageLacks}
+use Rattle.mach_model.specs.CopyOut.{GiveWord}
 use Rattle.mach_model.specs.ReceivedMeans.{message_length, IsReceived, received_words}
 use Rattle.mach_model.specs.Notices.{Owed}
-use Rattle.mach_model.specs.References.{LosesAll, unused}
+use Rattle.mach_model.specs.References.{LosesAll, unused_among}
 
 -- ---- where from
 
@@ -70,7 +69,7 @@ pub record DestroysFront (port : ℕ) (e : Entry) (old mid : State) (owed : Owed
   pub takes : Takes port e old taken
   pub loses : LosesAll (λ x. same_place (in_message port (old.taken port)) x.place) taken.ledger mid.ledger
   pub rest : mid ≡ record taken { ledger = mid.ledger }
-  pub owed_are : owed ≡ unused loses.gone
+  pub owed_are : owed ≡ unused_among loses.gone
 
 -- A receipt from what is waited for: a message, none, or one that is too long, which stays where that was asked for.
 abbrev pub Receipt : State → (task : ℕ) → Waited → (room : ℕ) → (large : Bool) → Reply → State → Owed → Type 0
@@ -82,14 +81,3 @@ Receipt old task waited room large (Reply.TooLarge n) mid owed =
     × (n ≡ message_length e.message) × (min room most_bytes < n)
     × MatchBool large ((mid ≡ old) × (owed ≡ [])) (DestroysFront p e old mid owed)
 Receipt old task waited room large reply mid owed = ⊥
-
--- ---- refusals where a port that it may take from has a message that fits: names are judged before memory
-
-pub record ReceiptRefuses (s : State) (task : ℕ) (waited : Waited) (room code : ℕ) : Type 0 where
-  pub port : ℕ
-  pub from : TakesFrom s task waited port
-  pub e : Entry
-  pub front : IsFront s port e
-  pub fits : message_length e.message ≤ min room most_bytes
-  pub refused : MessageLacks task (in_message port (s.taken port)) e.message s × (code ≡ msg_number ReceiveBodyErrorNames)
-      ⊎ ¬ (MessageLacks task (in_message port (s.taken port)) e.message s) × (code ≡ msg_number ReceiveBodyErrorMemory)

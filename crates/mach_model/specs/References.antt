@@ -1,29 +1,12 @@
--- The references of a right under a name: asked for, taken by one, taken whole, changed by a number (Port Manipulation Interface,
--- `mach_port_get_refs`, `mach_port_deallocate`, `mach_port_destroy` and `mach_port_mod_refs`), and what refuses it.
-use Rattle.std.specs.Prelude.{◌≡◌, ℕ, ℤ, pos, negsuc, ◌+◌, ◌-◌, ◌<◌, ◌⊎◌, Bool, true, List, [], ◌∷◌, map, filter, replicate, Option, Some, None, if◌then◌else◌, ◌==◌, ◌&&◌, ◌||◌, nat_lt, All}
+-- The references of a right under a name: one is taken, all are taken, or they change by a number (Port Manipulation Interface,
+-- `mach_port_deallocate`, `mach_port_destroy` and `mach_port_mod_refs`).
+use Rattle.std.specs.Prelude.{◌≡◌, ℕ, ℤ, pos, negsuc, ◌+◌, ◌-◌, ◌⊎◌, Bool, true, List, [], ◌∷◌, map, filter, replicate, Some, None, if◌then◌else◌, ◌==◌, ◌||◌, nat_lt, All, not}
 use Rattle.mach_types.specs.declared.rights.Disposition.{Disposition}
 use Rattle.mach_types.specs.declared.rights.Disposition.TheVariants.{MoveSend, MoveSendOnce}
-use Rattle.mach_types.specs.declared.rights.Right.TheVariants.{Send, Receive, SendOnce, PortSet, DeadName}
-use Rattle.mach_types.specs.Numbers.{right_number, most_references}
 use Rattle.mach_types.specs.Tokens.{receive, send, send_once, in_task, Token, token, Moves, count, is_held, same_kind}
-use Rattle.mach_model.specs.State.{State, Target, lookup, held, Holds, without_name, with_name}
+use Rattle.mach_model.specs.State.{State, Target, lookup, held, without_name, with_name, at}
 use Rattle.mach_model.specs.CopyIn.{changed_by, taken_by, name_kept}
 use Rattle.mach_model.specs.Notices.{right_unused, Owed}
-use Rattle.mach_model.specs.Sets.{without_set}
-
--- ---- how many there are
-
--- how many references of the right of this number are under a name that stands for the target; 0 where it isn't held
-abbrev pub references : State → (task : ℕ) → Target → (right : ℕ) → ℕ
-references s task (Target.port p) right =
-    if right == right_number Send then held s task send p else
-    if right == right_number Receive && nat_lt 0 (held s task receive p) then 1 else 0
-references s task (Target.once p) right = if right == right_number SendOnce then 1 else 0
-references s task (Target.set set) right = if right == right_number PortSet then 1 else 0
-references s task (Target.dead n) right = if right == right_number DeadName then n else 0
-
-abbrev pub TellsReferences : State → (task name right references : ℕ) → Type 0
-TellsReferences s task name right n = (target : Target) × (lookup s task name ≡ Some target) × (n ≡ references s task target right)
 
 -- ---- one reference, or the send-once right
 
@@ -43,14 +26,6 @@ Deallocates task name old mid owed =
     ⊎ ((p : ℕ) × LosesOne task name MoveSendOnce (Target.once p) old mid × (owed ≡ unused_once p task))
     ⊎ ((n : ℕ) × LosesOne task name MoveSend (Target.dead n) old mid × (owed ≡ []))
 
--- what may be deallocated
-abbrev pub HasReference : State → (task : ℕ) → Option Target → Type 0
-HasReference s task (Some (Target.port p)) = Holds s task send p
-HasReference s task (Some (Target.once p)) = Unit {0}
-HasReference s task (Some (Target.dead n)) = Unit {0}
-HasReference s task (Some (Target.set set)) = ⊥
-HasReference s task None = ⊥
-
 -- ---- all under the name
 
 abbrev pub is_either : (task port : ℕ) → Token → Bool
@@ -64,8 +39,12 @@ pub record LosesAll (test : Token → Bool) (old new : List Token) : Type 0 wher
   pub none_left : count test new ≡ 0
 
 -- the send-once rights among these go unused
-abbrev pub unused : List Token → Owed
-unused xs = map (λ x. (x, right_unused)) (filter (λ x. same_kind send_once x.kind) xs)
+abbrev pub unused_among : List Token → Owed
+unused_among xs = map (λ x. (x, right_unused)) (filter (λ x. same_kind send_once x.kind) xs)
+
+-- the set is gone, and no port is in it
+abbrev pub without_set : (set : ℕ) → State → State
+without_set set s = record s { set_owner = at s.set_owner set None; sets_of = λ p. filter (λ t. not (t == set)) (s.sets_of p) }
 
 abbrev pub DestroysTarget : (task name : ℕ) → Target → State → State → Owed → Type 0
 DestroysTarget task name (Target.port p) old mid owed =
@@ -106,37 +85,13 @@ RemovesRight right task name (Target.once p) old mid owed = (right ≡ 2) × Des
 RemovesRight right task name (Target.set set) old mid owed = (right ≡ 3) × DestroysTarget task name (Target.set set) old mid owed
 RemovesRight right task name (Target.dead n) old mid owed = ⊥
 
-abbrev pub IsCounted : (right : ℕ) → Type 0
-IsCounted right = (right ≡ 0) ⊎ (right ≡ 4)
-
-abbrev pub IsUncounted : (right : ℕ) → Type 0
-IsUncounted right = (right ≡ 1) ⊎ (right ≡ 2) ⊎ (right ≡ 3)
+abbrev pub CountsNoReferences : (right : ℕ) → Type 0
+CountsNoReferences right = (right ≡ 1) ⊎ (right ≡ 2) ⊎ (right ≡ 3)
 
 abbrev pub Modifies : (task name right : ℕ) → ℤ → State → State → Owed → Type 0
 Modifies task name right delta old mid owed =
-    ((p m : ℕ) × (right ≡ 0) × (lookup old task name ≡ Some (Target.port p)) × AddsTo (held old task send p) delta m × SetsSends task name p m old mid × (owed ≡ []))
+    ((p m : ℕ) × (right ≡ 0) × (lookup old task name ≡ Some (Target.port p)) × AddsTo (held old task send p) delta m
+    × SetsSends task name p m old mid × (owed ≡ []))
     ⊎ ((n m : ℕ) × (right ≡ 4) × (lookup old task name ≡ Some (Target.dead n)) × AddsTo n delta m × (mid ≡ with_dead task name m old) × (owed ≡ []))
-    ⊎ IsUncounted right × (delta ≡ pos 0) × (mid ≡ old) × (owed ≡ [])
+    ⊎ CountsNoReferences right × (delta ≡ pos 0) × (mid ≡ old) × (owed ≡ [])
     ⊎ ((target : Target) × (delta ≡ negsuc 0) × (lookup old task name ≡ Some target) × RemovesRight right task name target old mid owed)
-
--- ---- what refuses a change by a number
-
-abbrev pub references_under : State → (task : ℕ) → Option Target → (right : ℕ) → ℕ
-references_under s task (Some target) right = references s task target right
-references_under s task None right = 0
-
--- how many references of the right are under the name
-abbrev pub references_at : State → (task name right : ℕ) → ℕ
-references_at s task name right = references_under s task (lookup s task name) right
-
-abbrev pub IsBelowZero : ℕ → ℤ → Type 0
-IsBelowZero n (pos k) = ⊥
-IsBelowZero n (negsuc k) = n < k + 1
-
-abbrev pub IsAbove : ℕ → ℤ → Type 0
-IsAbove n (pos k) = most_references < n + k
-IsAbove n (negsuc k) = ⊥
-
-abbrev pub added_rights : ℤ → ℕ
-added_rights (pos k) = k
-added_rights (negsuc k) = 0

@@ -2,29 +2,28 @@
 use Rattle.std.specs.Prelude.{◌≡◌, ◌≢◌, ℕ, false, ℤ, pos, negsuc, ◌+◌, ◌<◌, ◌≤◌, ◌⊎◌, List, [], ◌∷◌, length, Option, Some, None}
 use Rattle.mach_types.specs.declared.calls.Event.{Event}
 use Rattle.mach_types.specs.declared.calls.Waited.{Waited}
-use Rattle.mach_types.specs.declared.codes.KernReturn.TheVariants.{NoSpace, ResourceShortage, NameExists, InvalidName, InvalidTask, InvalidRight, InvalidValue, UrefsOverflow, InvalidCapability, NotInSet}
+use Rattle.mach_types.specs.declared.codes.KernReturn.TheVariants.{NoSpace, ResourceShortage, NameExists, InvalidName, InvalidTask, InvalidRight, InvalidValue, UrefsOverflow, InvalidCapability, NotInSet, AlreadyInSet, InvalidArgument}
 use Rattle.mach_types.specs.declared.codes.MsgReturn.TheVariants.{ReceiveInvalidName, ReceiveInSet, ReceivePortDied, ReceivePortChanged}
-use Rattle.mach_types.specs.Numbers.{null_word, dead_word, kern_number, msg_number, most_tasks, most_rights, greatest_limit}
+use Rattle.mach_types.specs.declared.codes.KernReturn.{KernReturn}
+use Rattle.mach_types.specs.Numbers.{most_tasks, most_rights, greatest_limit, most_references}
+use Rattle.mach_types.specs.Codes.{kern_number, msg_number}
 use Rattle.mach_types.specs.Tokens.{receive, in_task}
 use Rattle.mach_types.specs.Guards.{Guards, FirstIs, NoneHolds}
 use Rattle.mach_types.specs.TextGuards.{header_guards}
 use Rattle.mach_model.specs.State.{State, Target, lookup, Holds}
-use Rattle.mach_model.specs.Tasks.{IsNoTask}
-use Rattle.mach_model.specs.Names.{IsNoMaking, IsFull}
-use Rattle.mach_model.specs.ReceiveRight.{NamesReceive}
-use Rattle.mach_model.specs.Transfer.{inserted_guards, extracted_guards, CopyRefuses}
-use Rattle.mach_model.specs.Send.{IsLegalName, IsDeadName, SendRefuses}
-use Rattle.mach_model.specs.Sets.{IsSet}
-use Rattle.mach_model.specs.Receive.{waits_for, ReceiptRefuses}
-use Rattle.mach_model.specs.Requests.{notify_guards, RequestRefuses}
-use Rattle.mach_model.specs.References.{HasReference, IsCounted, IsUncounted, references_at, IsBelowZero, IsAbove, added_rights}
+use Rattle.mach_model.specs.NameGuards.{HasSeveral, IsNoTask, IsSet, NamesReceive, HasReference, IsLegalName, IsDeadName, IsMember, IsUnused, IsNoName}
+use Rattle.mach_model.specs.Room.{IsFull}
+use Rattle.mach_model.specs.TransferRefusals.{CopyRefuses, extracted_guards, inserted_guards}
+use Rattle.mach_model.specs.SendRefusals.{SendRefuses}
+use Rattle.mach_model.specs.Receive.{waits_for}
+use Rattle.mach_model.specs.ReceiptRefusals.{ReceiptRefuses}
+use Rattle.mach_model.specs.RequestRefusals.{RequestRefuses, notify_guards}
+use Rattle.mach_model.specs.References.{CountsNoReferences}
+use Rattle.mach_model.specs.Telling.{references}
 
-abbrev pub IsUnused : State → (task name : ℕ) → Type 0
-IsUnused s task name = lookup s task name ≡ None
-
--- numbers that are no names
-abbrev pub IsNoName : ℕ → Type 0
-IsNoName name = (name ≡ null_word) ⊎ (dead_word ≤ name)
+-- the right numbers that nothing can be made of
+abbrev pub IsNoMaking : ℕ → Type 0
+IsNoMaking right = (right ≢ 1) × (right ≢ 3) × (right ≢ 4)
 
 abbrev pub IsDisposition : ℕ → Type 0
 IsDisposition number = (16 ≤ number) × (number ≤ 21)
@@ -49,6 +48,8 @@ tasks_of (Event.SetMscount task name n) = task ∷ []
 tasks_of (Event.SetSeqno task name n) = task ∷ []
 tasks_of (Event.SetStatus task name) = task ∷ []
 tasks_of (Event.MoveMember task member after) = task ∷ []
+tasks_of (Event.InsertMember task member set) = task ∷ []
+tasks_of (Event.ExtractMember task member set) = task ∷ []
 tasks_of (Event.InsertRight task name from poly number) = task ∷ from ∷ []
 tasks_of (Event.ExtractRight task name number to) = task ∷ to ∷ []
 tasks_of (Event.RequestNotification task name variant sync notify number) = task ∷ []
@@ -81,6 +82,31 @@ set_guards s task name =
     ∷ (¬ (IsSet (lookup s task name)), kern_number InvalidRight)
     ∷ []
 
+-- ---- references that are changed by a number
+
+abbrev pub CountsReferences : (right : ℕ) → Type 0
+CountsReferences right = (right ≡ 0) ⊎ (right ≡ 4)
+
+abbrev pub references_under : State → (task : ℕ) → Option Target → (right : ℕ) → ℕ
+references_under s task (Some target) right = references s task target right
+references_under s task None right = 0
+
+-- how many references of the right are under the name
+abbrev pub references_at : State → (task name right : ℕ) → ℕ
+references_at s task name right = references_under s task (lookup s task name) right
+
+abbrev pub IsBelowZero : ℕ → ℤ → Type 0
+IsBelowZero n (pos k) = ⊥
+IsBelowZero n (negsuc k) = n < k + 1
+
+abbrev pub IsAbove : ℕ → ℤ → Type 0
+IsAbove n (pos k) = most_references < n + k
+IsAbove n (negsuc k) = ⊥
+
+abbrev pub added_rights : ℤ → ℕ
+added_rights (pos k) = k
+added_rights (negsuc k) = 0
+
 -- ---- the guards of each call, of tasks that live
 
 abbrev pub move_guards : State → (task member after : ℕ) → Guards
@@ -88,6 +114,15 @@ move_guards s task member after =
     (IsUnused s task member ⊎ (after ≢ 0) × IsUnused s task after, kern_number InvalidName)
     ∷ (¬ (NamesReceive s task member) ⊎ (after ≢ 0) × ¬ (IsSet (lookup s task after)), kern_number InvalidRight)
     ∷ ((after ≡ 0) × ((p : ℕ) × (lookup s task member ≡ Some (Target.port p)) × (s.sets_of p ≡ [])), kern_number NotInSet)
+    ∷ []
+
+-- a port's membership of a set, where it may be in several; the last guard is its own
+abbrev pub member_guards : State → (task member set : ℕ) → Type 0 → KernReturn → Guards
+member_guards s task member set last code =
+    (¬ (HasSeveral s.profile), kern_number InvalidArgument)
+    ∷ (IsUnused s task member ⊎ IsUnused s task set, kern_number InvalidName)
+    ∷ (¬ (NamesReceive s task member) ⊎ ¬ (IsSet (lookup s task set)), kern_number InvalidRight)
+    ∷ (last, kern_number code)
     ∷ []
 
 -- what is waited for is gone, or was never there; or the task could not receive from it by a name
@@ -106,8 +141,12 @@ modify_guards s task name right delta =
     (4 < right, kern_number InvalidValue)
     ∷ (IsUnused s task name, kern_number InvalidName)
     ∷ (references_at s task name right ≡ 0, kern_number InvalidRight)
-    ∷ (IsCounted right × IsBelowZero (references_at s task name right) delta ⊎ IsUncounted right × (delta ≢ pos 0) × (delta ≢ negsuc 0), kern_number InvalidValue)
-    ∷ (IsCounted right × IsAbove (references_at s task name right) delta, kern_number UrefsOverflow)
+    ∷ (
+      CountsReferences right × IsBelowZero (references_at s task name right) delta
+          ⊎ CountsNoReferences right × (delta ≢ pos 0) × (delta ≢ negsuc 0),
+      kern_number InvalidValue,
+    )
+    ∷ (CountsReferences right × IsAbove (references_at s task name right) delta, kern_number UrefsOverflow)
     ∷ ((right ≡ 0) × (most_rights < length s.ledger + added_rights delta), kern_number NoSpace)
     ∷ []
 
@@ -160,6 +199,8 @@ call_guards s (Event.SetMscount task name n) = receive_guards s task name
 call_guards s (Event.SetSeqno task name n) = receive_guards s task name
 call_guards s (Event.SetStatus task name) = set_guards s task name
 call_guards s (Event.MoveMember task member after) = move_guards s task member after
+call_guards s (Event.InsertMember task member set) = member_guards s task member set (IsMember s task member set) AlreadyInSet
+call_guards s (Event.ExtractMember task member set) = member_guards s task member set (¬ (IsMember s task member set)) NotInSet
 call_guards s (Event.InsertRight task name from poly number) = insert_guards s task name from poly number
 call_guards s (Event.ExtractRight task name number to) = extract_guards s task name number to
 call_guards s (Event.RequestNotification task name variant sync notify number) = notify_guards s task name variant sync notify number
@@ -182,6 +223,7 @@ memory_refusal (Event.AllocateName task right name) = Some (kern_number Resource
 memory_refusal (Event.Names task) = Some (kern_number ResourceShortage)
 memory_refusal (Event.Rename task o n) = Some (kern_number ResourceShortage)
 memory_refusal (Event.SetStatus task name) = Some (kern_number ResourceShortage)
+memory_refusal (Event.InsertMember task member set) = Some (kern_number ResourceShortage)
 memory_refusal event = None
 
 -- refusals that come after those guards

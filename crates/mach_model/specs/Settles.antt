@@ -17,7 +17,8 @@ PlaceStays new (in_request request) = new.stands request ≡ true
 abbrev pub StaysWith : State → Token → Type 0
 StaysWith new x = (new.live_port x.port ≡ true) × PlaceStays new x.place
 
--- what is told by the right that a request kept: a request on a name that went has ended already in the step's own part
+-- What is told by the right that a request kept. A request on a name that doesn't stand any more has ended in the step's own part: its
+-- name went.
 abbrev pub told_by : (mid new : State) → Request → Notice
 told_by mid new (no_senders p) = if new.live_port p then no_more_senders (new.make_send p) else right_unused
 told_by mid new (port_destroyed p) = if new.live_port p then port_sent p else right_unused
@@ -56,7 +57,7 @@ BecameDead mid new (Some (Target.port p)) = new.live_port p ≡ false
 BecameDead mid new (Some (Target.once p)) = new.live_port p ≡ false
 BecameDead mid new target = ⊥
 
--- A request that stood after the step's own part ends now.
+-- why a request that stood after the step's own part ends with the step
 abbrev pub Ends : (old mid new : State) → Request → Type 0
 Ends old mid new (no_senders p) = (new.live_port p ≡ false) ⊎ (0 < senders old p) × (senders new p ≡ 0)
 Ends old mid new (port_destroyed p) = (new.live_port p ≡ false) ⊎ IsSentAway mid p
@@ -92,7 +93,8 @@ pub record NoticesSettle (now : ℕ) (mid : State) (owed : Owed) (new : State) (
   pub due : map (λ x. (x.port, x.notice)) posted ≡ due_notices (paying ++ filter (λ x. new.live_port x.0.port) owed)
   pub ledger : (h : Token → ℕ) → weigh h new.ledger ≡ weigh h staying + weigh h (all_posted_tokens posted)
   pub logs : (p : ℕ) → (added : List Entry) × (new.log p ≡ mid.log p ++ added) × (length added ≡ length (filter (λ (x : Posted). x.port == p) posted))
-  pub stand : All (λ (x : Posted). (length (mid.log x.port) ≤ x.entry) × (slice_get (new.log x.port) x.entry ≡ Some record { origin = now; message = notice_message x.port x.notice })) posted
+  pub stand : All (λ (x : Posted). (length (mid.log x.port) ≤ x.entry)
+      × (slice_get (new.log x.port) x.entry ≡ Some record { origin = now; message = notice_message x.port x.notice })) posted
   pub cover : (p k : ℕ) → length (mid.log p) ≤ k → k < length (new.log p) → Any (λ (x : Posted). (x.port ≡ p) × (x.entry ≡ k)) posted
 
 -- A name stands for what it stood for, or is dead.

@@ -3,11 +3,8 @@ use Rattle.std.specs.Prelude.{◌≡◌, ℕ, ◌+◌, Bool, true, false, filter
 use Rattle.std.specs.FinMap as names
 use Rattle.mach_types.specs.Tokens.{Request, no_senders, port_destroyed, dead_name, is_in_task}
 use Rattle.mach_model.specs.State.{State, at}
-use Rattle.mach_model.specs.References.{LosesAll, unused}
+use Rattle.mach_model.specs.References.{LosesAll, unused_among}
 use Rattle.mach_model.specs.Notices.{Owed}
-
-abbrev pub IsNoTask : State → ℕ → Type 0
-IsNoTask s task = s.live_task task ≡ false
 
 -- A new task has no names.
 pub record CreatesTask (old : State) (task : ℕ) (mid : State) : Type 0 where
@@ -26,7 +23,7 @@ abbrev pub is_owner : (task : ℕ) → Option ℕ → Bool
 is_owner task (Some t) = t == task
 is_owner task None = false
 
--- The task is gone with its names, the requests on them, its sets and its rights. Its ports are orphans.
+-- The task is gone with its names, the requests on them, its sets and its rights.
 pub record EndsTask (task : ℕ) (old mid : State) (owed : Owed) : Type 0 where
   pub loses : LosesAll (λ x. is_in_task task x.place) old.ledger mid.ledger
   pub rest : mid ≡ record old {
@@ -37,4 +34,4 @@ pub record EndsTask (task : ℕ) (old mid : State) (owed : Owed) : Type 0 where
     stands = λ r. if ends_with task r then false else old.stands r;
     ledger = mid.ledger;
   }
-  pub owed_are : owed ≡ unused loses.gone
+  pub owed_are : owed ≡ unused_among loses.gone

@@ -113,7 +113,7 @@ IsOnGone mid (in_request (dead_name task name)) = mid.stands (dead_name task nam
 IsOnGone mid place = ⊥
 
 -- Of the rights that are left some pay, in this order, and some go.
-pub record Takes (e f : Ending) (paying : Owed) (going : List Token) : Type 0 where
+pub record SpendsRights (e f : Ending) (paying : Owed) (going : List Token) : Type 0 where
   pub left : (h : Token → ℕ) → weigh h e.left ≡ weigh h f.left + weigh h (tokens_of paying) + weigh h going
   pub paid : f.paid ≡ e.paid ++ paying
   pub gone : f.gone ≡ e.gone ++ going
@@ -166,11 +166,11 @@ pub record Saves (mid : State) (e f : Ending) : Type 0 where
   pub saved : IsSaved mid port
   pub going : List Token
   pub carried : All (λ x. (x.kind ≡ receive) × (x.port ≡ port) × IsAtDoomed e x.place) going
-  pub takes : Takes e f ((token send_once saved.notify (in_request (port_destroyed port)), port_sent port) ∷ []) going
+  pub takes : SpendsRights e f ((token send_once saved.notify (in_request (port_destroyed port)), port_sent port) ∷ []) going
   pub rest : f ≡ record e { saved = port ∷ e.saved; left = f.left; paid = f.paid; gone = f.gone; turns = e.turns + 1 }
 
 -- A message of a doomed port is destroyed, or a notice that the step's own part posted there.
-pub record Destroys (mid : State) (e f : Ending) : Type 0 where
+pub record DestroysDoomed (mid : State) (e f : Ending) : Type 0 where
   pub port : ℕ
   pub entry : ℕ
   pub doomed : listed e.doomed port ≡ true
@@ -185,7 +185,7 @@ pub record Loses (mid : State) (e f : Ending) : Type 0 where
   pub judged : AreJudged mid e
   pub lives : listed e.doomed right.port ≡ false
   pub destroyed : IsAtDoomed e right.place
-  pub takes : (right.kind ≡ send_once) × Takes e f ((right, right_unused) ∷ []) [] ⊎ (right.kind ≢ send_once) × Takes e f [] (right ∷ [])
+  pub takes : (right.kind ≡ send_once) × SpendsRights e f ((right, right_unused) ∷ []) [] ⊎ (right.kind ≢ send_once) × SpendsRights e f [] (right ∷ [])
   pub rest : f ≡ record e { left = f.left; paid = f.paid; gone = f.gone; turns = e.turns + 1 }
 
 -- The right of the request pays, since its own port lives.
@@ -211,7 +211,7 @@ pub record EndsRequest (mid : State) (e f : Ending) : Type 0 where
   pub unended : is_among e.ended request ≡ false
   pub paying : Owed
   pub pays : All (PaysAtEnd e request) paying
-  pub takes : Takes e f paying []
+  pub takes : SpendsRights e f paying []
   pub all_left : All (IsOffRequest e request) f.left
   pub rest : f ≡ record e { ended = request ∷ e.ended; left = f.left; paid = f.paid; turns = e.turns + length paying }
 
@@ -224,7 +224,7 @@ pub record Buries (mid : State) (e f : Ending) : Type 0 where
   pub ended : (request : Request) → mid.stands request ≡ true → IsRequestOf mid port request → is_among e.ended request ≡ true
   pub going : List Token
   pub goes : All (λ x. x.port ≡ port) going
-  pub takes : Takes e f [] going
+  pub takes : SpendsRights e f [] going
   pub all_left : All (λ x. x.port ≢ port) f.left
   pub rest : f ≡ record e { buried = port ∷ e.buried; left = f.left; gone = f.gone }
 
@@ -239,12 +239,12 @@ pub record TellsSenderless (old mid : State) (e f : Ending) : Type 0 where
   pub untold : listed e.told port ≡ false
   pub paying : Owed
   pub pays : All (λ x. (x.0.kind ≡ send_once) × (x.0.place ≡ in_request (no_senders port)) × (x.1 ≡ no_more_senders ((outcome mid e).make_send port))) paying
-  pub takes : Takes e f paying []
+  pub takes : SpendsRights e f paying []
   pub all_left : All (IsOffRequest e (no_senders port)) f.left
   pub rest : f ≡ record e { told = port ∷ e.told; left = f.left; paid = f.paid; gone = f.gone; turns = e.turns + length paying }
 
 abbrev pub Turn : (old mid : State) → Ending → Ending → Type 0
-Turn old mid e f = Dooms mid e f ⊎ Saves mid e f ⊎ Destroys mid e f ⊎ Loses mid e f ⊎ EndsRequest mid e f ⊎ Buries mid e f ⊎ TellsSenderless old mid e f
+Turn old mid e f = Dooms mid e f ⊎ Saves mid e f ⊎ DestroysDoomed mid e f ⊎ Loses mid e f ⊎ EndsRequest mid e f ⊎ Buries mid e f ⊎ TellsSenderless old mid e f
 
 -- A chain of turns leads to it.
 pub data IsReached (old mid : State) (owed : Owed) : Ending → Type 0 where

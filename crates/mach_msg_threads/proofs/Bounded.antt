@@ -2,8 +2,9 @@
 use Rattle.std.proofs.Common.{◌≡◌, ℕ, ◌+◌, ◌≤◌, List, [], ◌∷◌, ◌++◌, length, inl, inr, refl, sym, subst, arith}
 use Rattle.mach_types.specs.declared.calls.Event.{Event}
 use Rattle.mach_types.specs.declared.calls.Reply.{Reply}
-use Rattle.mach_model.specs.State.{State, opening}
-use Rattle.mach_model.specs.Machine.{Does, Step, RunFrom}
+use Rattle.mach_model.specs.State.{State}
+use Rattle.mach_model.specs.Machine.{opening, Step, RunFrom}
+use Rattle.mach_model.specs.Acts.{Does}
 use Rattle.mach_model.specs.Notices.{Owed}
 use Rattle.kernel_lock.specs.declared.entry.Entry.{Entry}
 use Rattle.kernel_lock.specs.History.{Known, Called, Extends, Legal, entry, events_of, replies_of}
@@ -41,6 +42,8 @@ bytes_few now s (Event.SetMscount a b x) bytes mid owed d = absurd d
 bytes_few now s (Event.SetSeqno a b x) bytes mid owed d = absurd d
 bytes_few now s (Event.SetStatus a b) bytes mid owed d = absurd d
 bytes_few now s (Event.MoveMember a b x) bytes mid owed d = absurd d
+bytes_few now s (Event.InsertMember a b x) bytes mid owed d = absurd d
+bytes_few now s (Event.ExtractMember a b x) bytes mid owed d = absurd d
 bytes_few now s (Event.InsertRight a b x y z) bytes mid owed d = absurd d
 bytes_few now s (Event.ExtractRight a b x y) bytes mid owed d = absurd d
 bytes_few now s (Event.RequestNotification a b x y z v) bytes mid owed d = absurd d

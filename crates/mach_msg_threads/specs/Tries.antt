@@ -2,7 +2,8 @@
 use Rattle.std.specs.Prelude.{◌≡◌, ℕ, ◌⊎◌, Bool, true, false, List, ◌++◌, length, drop, Option, Some, None, is_some, min, ◌==◌, ◌&&◌, MatchBool}
 use Rattle.std.specs.Int.RustNames.{bit_and}
 use Rattle.mach_types.specs.Bits.{send_msg_option, rcv_msg_option, send_timeout_option, rcv_timeout_option, rcv_large_option}
-use Rattle.mach_types.specs.Numbers.{most_bytes, kern_number, msg_number}
+use Rattle.mach_types.specs.Numbers.{most_bytes}
+use Rattle.mach_types.specs.Codes.{kern_number, msg_number}
 use Rattle.mach_types.specs.declared.codes.KernReturn.TheVariants.{InvalidArgument}
 use Rattle.mach_types.specs.declared.codes.MsgReturn.TheVariants.{SendTimedOut, SendNoBuffer, ReceiveTimedOut, ReceiveTooLarge, ReceiveBodyErrorMemory}
 use Rattle.mach_types.specs.declared.calls.Event.{Event}

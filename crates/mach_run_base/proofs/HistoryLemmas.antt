@@ -8,7 +8,7 @@ use Rattle.std.proofs.lemmas.List.Elements.{All-nil}
 use Rattle.tracer_base.specs.Words.{Lacks, IsWord}
 use Rattle.tracer_base.proofs.CallLemmas.{before}
 use Rattle.tracer_base.proofs.WordLemmas.{IsWord-plain, Lacks-line}
-use Rattle.mach_model.specs.State.{opening}
+use Rattle.mach_model.specs.Machine.{opening}
 use Rattle.copyin_base.specs.Shows.{Shows}
 use Rattle.kernel_lock.specs.Replays.{Replays}
 use Rattle.kernel_lock.proofs.Replaying.{legal_of, replays_push}

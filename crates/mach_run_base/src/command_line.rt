@@ -23,6 +23,8 @@ const CALLS: &str = "\
     mscount T NAME N\n  \
     seqno T NAME N\n  \
     move T MEMBER SET             SET 0: into none\n  \
+    insmember T MEMBER SET        refused with code 4,\n  \
+    exmember T MEMBER SET         since a port is in one set at most\n  \
     members T NAME\n  \
     notify T NAME VARIANT SYNC NOTIFY DISP\n  \
                                   VARIANT 69: port destroyed, 70: no senders, 72: dead name;\n  \

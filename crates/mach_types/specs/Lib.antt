@@ -1,9 +1,11 @@
 pub mod Tokens
 pub mod Messages
 pub mod Numbers
+pub mod Codes
 pub mod Rights
 pub mod Bits
 pub mod Grammar
 pub mod Bodies
 pub mod Guards
 pub mod TextGuards
+pub mod Touching

@@ -1,6 +1,7 @@
 -- Which texts are no messages, and the code that says so. The whole text is judged before any right; the order is this project's own.
 use Rattle.std.specs.Prelude.{◌≡◌, ◌≢◌, ℕ, ◌+◌, ◌*◌, ◌/◌, ◌%◌, ◌^◌, ◌<◌, ◌≤◌, ◌⊎◌, List, [], ◌∷◌, ◌++◌, length, slice_index, drop, All}
-use Rattle.mach_types.specs.Numbers.{most_bytes, msg_number}
+use Rattle.mach_types.specs.Numbers.{most_bytes}
+use Rattle.mach_types.specs.Codes.{msg_number}
 use Rattle.mach_types.specs.declared.codes.MsgReturn.TheVariants.{SendMsgTooSmall, SendInvalidData, SendInvalidHeader, SendInvalidType}
 use Rattle.mach_types.specs.Grammar.{Wire, wires_text, IsWire, NamesPorts}
 use Rattle.mach_types.specs.Guards.{Guards, FirstIs, NoneHolds}
@@ -34,7 +35,8 @@ header_guards bytes =
 -- A descriptor at the front of these bytes: its fields are those of the first word, or of the two after it.
 abbrev pub DescriptorFields : (bytes : List ℕ) → (name size number : ℕ) → Type 0
 DescriptorFields bytes name size number =
-    (¬ (is_bit (word_at bytes 0) 29) × (name ≡ word_at bytes 0 % 2 ^ 8) × (size ≡ word_at bytes 0 / 2 ^ 8 % 2 ^ 8) × (number ≡ word_at bytes 0 / 2 ^ 16 % 2 ^ 12))
+    (¬ (is_bit (word_at bytes 0) 29)
+    × (name ≡ word_at bytes 0 % 2 ^ 8) × (size ≡ word_at bytes 0 / 2 ^ 8 % 2 ^ 8) × (number ≡ word_at bytes 0 / 2 ^ 16 % 2 ^ 12))
     ⊎ (is_bit (word_at bytes 0) 29 × (name ≡ word_at bytes 4 % 2 ^ 16) × (size ≡ word_at bytes 4 / 2 ^ 16) × (number ≡ word_at bytes 8))
 
 -- how long the descriptor at the front of these bytes is

@@ -76,6 +76,12 @@ pub enum Event {
     /// Takes the port whose receive right is under the first name out of the set that it is in, and puts it
     /// into the one under the second, unless that is 0 (`mach_port_move_member`).
     MoveMember(TaskId, Name, Name),
+    /// Puts the port whose receive right is under the first name into the port set under the second, beside
+    /// those that it is in. Only where a port may be in several sets.
+    InsertMember(TaskId, Name, Name),
+    /// Takes the port whose receive right is under the first name out of the port set under the second. Only
+    /// where a port may be in several sets.
+    ExtractMember(TaskId, Name, Name),
     /// Gives the task, under the name, a right that another task has under a name, by the disposition of
     /// this number (`mach_port_insert_right`).
     InsertRight(TaskId, Name, TaskId, Name, u32),

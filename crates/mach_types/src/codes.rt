@@ -2,7 +2,7 @@
 ghost use Rattle.std.specs.Prelude.{◌≡◌, ◌≢◌, ℕ, MatchOption};
 ghost use Rattle.mach_types.specs.declared.codes.KernReturn.{KernReturn as AnyKernReturn};
 ghost use Rattle.mach_types.specs.declared.codes.MsgReturn.{MsgReturn as AnyMsgReturn};
-ghost use Rattle.mach_types.specs.Numbers.{kern_number, msg_number};
+ghost use Rattle.mach_types.specs.Codes.{kern_number, msg_number};
 
 use std::fmt;
 

@@ -12,11 +12,15 @@ pub mod calls;
 pub mod codes;
 pub mod identities;
 pub mod limits;
+pub mod profiles;
 pub mod rights;
+pub mod touched;
 
 pub use bits::Options;
 pub use bytes::{Bytes, NameList, NameTypes};
 pub use calls::{Event, Reply, Status, Waited};
 pub use codes::{KernReturn, MsgReturn};
 pub use identities::{Name, PortId, SetId, TaskId};
+pub use profiles::Profile;
 pub use rights::{Disposition, Right};
+pub use touched::Touched;

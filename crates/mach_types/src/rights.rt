@@ -2,8 +2,8 @@
 ghost use Rattle.std.specs.Prelude.{◌≡◌, ◌≢◌, ℕ, ◌^◌, MatchBool, MatchOption};
 ghost use Rattle.mach_types.specs.declared.rights.Right.{Right as AnyRight};
 ghost use Rattle.mach_types.specs.Tokens.{send_once, same_kind};
-ghost use Rattle.mach_types.specs.Numbers.{right_number, right_bit, disposition, disposition_number, kind_sent, kind_number};
-ghost use Rattle.mach_types.specs.Rights.{makes_right, right_of, IsOfKind};
+ghost use Rattle.mach_types.specs.Numbers.{right_number, disposition, kind_sent, kind_number};
+ghost use Rattle.mach_types.specs.Rights.{right_bit, disposition_number, makes_right, right_of, IsOfKind};
 
 use std::fmt;
 

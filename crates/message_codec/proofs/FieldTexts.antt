@@ -8,7 +8,9 @@ use Rattle.mach_types.specs.declared.rights.Disposition.{Disposition}
 use Rattle.mach_types.specs.declared.rights.Disposition.TheVariants.{MoveReceive, MoveSend, MoveSendOnce, CopySend, MakeSend, MakeSendOnce}
 use Rattle.mach_types.specs.Grammar.{wire_text, WireBody, items, IsWire, IsWireBody, Spells, words_text, descriptor_text, bits, complex_bit, body_text, text}
 use Rattle.mach_types.specs.Guards.{FirstIs, NoneHolds}
-use Rattle.mach_types.specs.Numbers.{disposition_number, msg_number, most_bytes}
+use Rattle.mach_types.specs.Numbers.{most_bytes}
+use Rattle.mach_types.specs.Rights.{disposition_number}
+use Rattle.mach_types.specs.Codes.{msg_number}
 use Rattle.mach_types.specs.TextGuards.{BadHeader, header_guards, word_at}
 use Rattle.mach_types.specs.Messages.{Form}
 use Rattle.type_descriptor.specs.declared.descriptor.Descriptor.{Descriptor}

@@ -3,7 +3,7 @@ use Rattle.std.proofs.Common.{◌≡◌, ℕ, zero, suc, ◌+◌, ◌-◌, ◌*�
 use Rattle.std.proofs.lemmas.Bool.{cases_eq}
 use Rattle.std.proofs.lemmas.List.{drop_at, drop-drop, take-append-drop, length-drop, length-take-le, get_or-drop}
 use Rattle.mach_types.specs.declared.codes.MsgReturn.TheVariants.{SendMsgTooSmall}
-use Rattle.mach_types.specs.Numbers.{msg_number}
+use Rattle.mach_types.specs.Codes.{msg_number}
 use Rattle.mach_types.specs.Grammar.{word, words_text, data_item, port_item, descriptor_text, NamesPorts}
 use Rattle.mach_types.specs.TextGuards.{IsDescriptorLength, ItemRefuses, word_at, data_length}
 use Rattle.type_descriptor.specs.declared.descriptor.Descriptor.{Descriptor}

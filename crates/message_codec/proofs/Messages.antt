@@ -7,7 +7,7 @@ use Rattle.mach_types.specs.Grammar.{word, Header, WireBody, raw, items, text, c
 use Rattle.mach_types.specs.Guards.{Guards, FirstIs, NoneHolds}
 use Rattle.mach_types.specs.declared.codes.MsgReturn.{MsgReturn}
 use Rattle.mach_types.specs.declared.codes.MsgReturn.TheVariants.{SendNoBuffer}
-use Rattle.mach_types.specs.Numbers.{msg_number}
+use Rattle.mach_types.specs.Codes.{msg_number}
 use Rattle.mach_types.specs.TextGuards.{word_at, is_bit, BadHeader, header_guards, TextRefuses, ItemsRefuse}
 use Rattle.type_descriptor.proofs.ByteWords.{AreBytes, word-word_at, word_at-lt, word_at-word}
 use Rattle.message_codec.specs.declared.spans.Span.{Span}

@@ -4,7 +4,9 @@ use Rattle.mach_types.specs.declared.codes.MsgReturn.TheVariants.{SendInvalidTyp
 use Rattle.mach_types.specs.Grammar.{Wire, data_item, port_item, WireBody, raw, items, Header, text, bits, body_text, wires_text, NamesPorts, Spells}
 use Rattle.mach_types.specs.Guards.{Guards, FirstIs, NoneHolds}
 use Rattle.mach_types.specs.Messages.{Form, short, long}
-use Rattle.mach_types.specs.Numbers.{disposition_number, most_bytes, msg_number, null_word}
+use Rattle.mach_types.specs.Numbers.{most_bytes, null_word}
+use Rattle.mach_types.specs.Rights.{disposition_number}
+use Rattle.mach_types.specs.Codes.{msg_number}
 use Rattle.mach_types.specs.TextGuards.{TextRefuses, data_length, header_guards}
 use Rattle.message_codec.specs.declared.header.Header.{Header as Words}
 use Rattle.message_codec.specs.declared.writer.PortRight.{PortRight}

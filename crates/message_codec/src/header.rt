@@ -1,7 +1,7 @@
 //! The header of a message.
 ghost use Rattle.std.specs.Prelude.{◌≡◌, ◌≢◌, ◌/◌, ◌%◌, ◌^◌, ◌≤◌, ◌⊎◌, ◌↔◌, ◌++◌, length, drop, IfOk, IfErr, OnOk, IsTrue};
 ghost use Rattle.mach_types.specs.Guards.{FirstIs, NoneHolds};
-ghost use Rattle.mach_types.specs.Numbers.{msg_number};
+ghost use Rattle.mach_types.specs.Codes.{msg_number};
 ghost use Rattle.mach_types.specs.TextGuards.{BadHeader, IsSendable, header_guards, is_bit};
 ghost use Rattle.message_codec.specs.Received.{header_text};
 ghost use Rattle.message_codec.specs.Putting.{WordsFit};

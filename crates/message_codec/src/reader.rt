@@ -2,7 +2,8 @@
 ghost use Rattle.std.specs.Prelude.{◌≡◌, ℕ, ◌+◌, ◌/◌, ◌%◌, ◌^◌, ◌<◌, ◌≤◌, ◌⊎◌, [], List, length, drop, slice_get, All, IfSome, IfNone, IfErr, OnOk};
 ghost use Rattle.std.specs.Iterator.{at_most};
 ghost use Rattle.mach_types.specs.Grammar.{Header as AnyHeader, Wire, WireBody, IsWire, Spells, wires_text, words_text};
-ghost use Rattle.mach_types.specs.Numbers.{msg_number, most_bytes};
+ghost use Rattle.mach_types.specs.Numbers.{most_bytes};
+ghost use Rattle.mach_types.specs.Codes.{msg_number};
 ghost use Rattle.mach_types.specs.TextGuards.{ItemsRefuse, is_bit, word_at};
 ghost use Rattle.message_codec.specs.Parses.{header_at};
 ghost use Rattle.message_codec.specs.Reading.{ReadsItems};

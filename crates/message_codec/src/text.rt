@@ -1,7 +1,7 @@
 //! Reading a message's text.
 ghost use Rattle.std.specs.Prelude.{◌≡◌, ◌≢◌, ℕ, ◌+◌, ◌*◌, ◌^◌, ◌⊎◌, [], ◌∷◌, IfOk, IfErr, OnOk, IfSome, IfNone};
 ghost use Rattle.mach_types.specs.declared.codes.MsgReturn.TheVariants.{SendNoBuffer};
-ghost use Rattle.mach_types.specs.Numbers.{msg_number};
+ghost use Rattle.mach_types.specs.Codes.{msg_number};
 ghost use Rattle.mach_types.specs.Grammar.{Header as AnyHeader, WireBody, Spells, NamesPorts};
 ghost use Rattle.mach_types.specs.Guards.{NoneHolds};
 ghost use Rattle.mach_types.specs.TextGuards.{TextRefuses, header_guards};

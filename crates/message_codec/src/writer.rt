@@ -2,7 +2,8 @@
 ghost use Rattle.std.specs.Prelude.{◌≡◌, ◌+◌, ◌-◌, ◌%◌, ◌<◌, ◌≤◌, ◌^◌, ◌++◌, ◌↔◌, length, take, replicate, All, IsTrue, IfOk, IfErr, OnOk, map};
 ghost use Rattle.mach_types.specs.Grammar.{IsWire, IsWireBody, body_text, wire_text};
 ghost use Rattle.mach_types.specs.Guards.{NoneHolds};
-ghost use Rattle.mach_types.specs.Numbers.{disposition_number, most_bytes};
+ghost use Rattle.mach_types.specs.Numbers.{most_bytes};
+ghost use Rattle.mach_types.specs.Rights.{disposition_number};
 ghost use Rattle.type_descriptor.specs.Describes.{form_of};
 ghost use Rattle.message_codec.specs.declared.writer.SendHeader.{SendHeader as AnySendHeader};
 ghost use Rattle.message_codec.specs.declared.writer.WriteError.TheVariants.{OutOfMemory};

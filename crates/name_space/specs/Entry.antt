@@ -1,6 +1,7 @@
 -- What stands under a name.
 use Rattle.std.specs.Prelude.{ℕ, ◌+◌, Bool, true, false, Option, Some, None, if◌then◌else◌, min}
-use Rattle.mach_types.specs.Numbers.{right_bit, most_references}
+use Rattle.mach_types.specs.Numbers.{most_references}
+use Rattle.mach_types.specs.Rights.{right_bit}
 use Rattle.mach_types.specs.declared.rights.Right.{Right}
 use Rattle.mach_types.specs.declared.rights.Right.TheVariants as right
 use Rattle.name_space.specs.declared.Entry.{Entry}

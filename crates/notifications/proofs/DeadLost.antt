@@ -5,7 +5,7 @@ use Rattle.std.specs.Option.{option_map}
 use Rattle.std.specs.FinMap as map
 use Rattle.mach_types.specs.Tokens.{send_once, count, is_held}
 use Rattle.mach_model.specs.State.{State, Target, Names, at}
-use Rattle.mach_model.specs.References.{unused}
+use Rattle.mach_model.specs.References.{unused_among}
 use Rattle.mach_model.proofs.Names.{at_own, at_other, other_unnamed}
 use Rattle.name_space.specs.declared.Entry.{Entry}
 use Rattle.name_space.specs.declared.Entry.TheVariants as entry_of
@@ -96,7 +96,7 @@ module _ (now : ℕ) (start : WorldView) (task : ℕ) (s : State) (sh : Shows st
       moves = sp.is_part.moves;
       own = sp.is_part.own;
     };
-    agrees = subst (Agrees v) (sym (posted_is now (with_part s task part) (unused x.gone))) agrees;
+    agrees = subst (Agrees v) (sym (posted_is now (with_part s task part) (unused_among x.gone))) agrees;
     holders = put_holders_left w v sp.holders task name None r (λ q i. absurd (none_receives q i));
     carriers = carriers_same w v sp.carriers (ap (λ (y : WorldView). y.ports.made) r.rest) (ap (λ (y : WorldView). y.ports.ports) r.rest);
     slots = subst SlotsSuffice (sym r.rest) sp.slots;

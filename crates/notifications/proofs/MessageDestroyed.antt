@@ -18,7 +18,7 @@ use Rattle.mach_model.proofs.Names.{length-weigh, both_test, at_own, at_other, w
 use Rattle.mach_model.specs.Death.{same_place}
 use Rattle.mach_model.specs.Carried.{lying, mark_count, rights_count}
 use Rattle.mach_model.specs.Notices.{right_unused, notice_message, Owed, posted_tokens}
-use Rattle.mach_model.specs.References.{unused}
+use Rattle.mach_model.specs.References.{unused_among}
 use Rattle.mach_model.proofs.Copying.{at_entry}
 use Rattle.mach_model.proofs.Settling.{place_refl}
 use Rattle.mach_model.specs.Lawful.{IsLawful}
@@ -158,7 +158,7 @@ posted_live now mid (x ∷ owed) = posted_live now (with_notice now mid x) owed
 
 -- ---- one right more is lost
 
-unused_push : (gone : List Token) (x : Token) → unused (gone ++ x ∷ []) ≡ unused gone ++ unused (x ∷ [])
+unused_push : (gone : List Token) (x : Token) → unused_among (gone ++ x ∷ []) ≡ unused_among gone ++ unused_among (x ∷ [])
 unused_push gone x = grind (arith, filter-append, map-append)
 
 -- What is so while the rights of a message are lost that was taken from this entry, from the state t: these are still to be lost.
@@ -168,7 +168,7 @@ pub record IsLosing (now o k : ℕ) (t : State) (cs : List Carried) (u : WorldVi
   pub rest : mid ≡ record t { ledger = mid.ledger }
   pub moves : (h : Token → ℕ) → weigh h mid.ledger + weigh h gone ≡ weigh h t.ledger
   pub passed : All (λ x. same_place (in_message o k) x.place ≡ true) gone
-  pub agrees : Agrees u (with_posted now mid (unused gone))
+  pub agrees : Agrees u (with_posted now mid (unused_among gone))
   pub lie : (kind : Kind) (q : ℕ) → t.live_port q ≡ true → lying mid kind q (in_message o k) ≡ rights_for kind q cs
   pub can : CanLoseAll u cs
 
@@ -176,8 +176,8 @@ module _ (now o k : ℕ) (t : State) (within : (q : ℕ) → t.taken q ≤ lengt
   abbrev kind : Kind
   kind = kind_sent c.given
 
-  live_same : (q : ℕ) → t.live_port q ≡ true → (with_posted now x.mid (unused x.gone)).live_port q ≡ true
-  live_same q live = ap (λ (f : ℕ → Bool). f q) (posted_live now x.mid (unused x.gone)) ∙ ap (λ (s : State). s.live_port q) x.rest ∙ live
+  live_same : (q : ℕ) → t.live_port q ≡ true → (with_posted now x.mid (unused_among x.gone)).live_port q ≡ true
+  live_same q live = ap (λ (f : ℕ → Bool). f q) (posted_live now x.mid (unused_among x.gone)) ∙ ap (λ (s : State). s.live_port q) x.rest ∙ live
 
   -- where nothing was lost
   stays : (v : WorldView) → v ≡ u → ((of : Kind) (q : ℕ) → t.live_port q ≡ true → one_for of q kind c.mark ≡ 0) → CanLoseAll v cs → IsLosing now o k t cs v
@@ -187,7 +187,7 @@ module _ (now o k : ℕ) (t : State) (within : (q : ℕ) → t.taken q ≤ lengt
     rest = x.rest;
     moves = x.moves;
     passed = x.passed;
-    agrees = subst (λ (w : WorldView). Agrees w (with_posted now x.mid (unused x.gone))) (sym same) x.agrees;
+    agrees = subst (λ (w : WorldView). Agrees w (with_posted now x.mid (unused_among x.gone))) (sym same) x.agrees;
     lie = λ of q live. let l = x.lie of q live in let z = none of q live in omega (arith, l, z);
     can = can;
   }
@@ -210,16 +210,16 @@ module _ (now o k : ℕ) (t : State) (within : (q : ℕ) → t.taken q ≤ lengt
     after = record x.mid { ledger = left_destroyed.others }
 
     abbrev before_posted : State
-    before_posted = with_posted now x.mid (unused x.gone)
+    before_posted = with_posted now x.mid (unused_among x.gone)
 
     abbrev after_posted : State
-    after_posted = with_posted now after (unused x.gone)
+    after_posted = with_posted now after (unused_among x.gone)
 
     swapped : after_posted ≡ record before_posted { ledger = after_posted.ledger }
-    swapped = posted_swap now x.mid left_destroyed.others (unused x.gone)
+    swapped = posted_swap now x.mid left_destroyed.others (unused_among x.gone)
 
     parts_after : (h : Token → ℕ) → weigh h after_posted.ledger + h going ≡ weigh h before_posted.ledger
-    parts_after h = let a = posted_weigh now x.mid left_destroyed.others (unused x.gone) h in let b = left_destroyed.parts h in omega (arith, a, b)
+    parts_after h = let a = posted_weigh now x.mid left_destroyed.others (unused_among x.gone) h in let b = left_destroyed.parts h in omega (arith, a, b)
 
     abbrev without : (of : Kind) → kind ≡ of → Without (token of p (in_message o k)) before_posted.ledger
     without of e = record {
@@ -230,7 +230,7 @@ module _ (now o k : ℕ) (t : State) (within : (q : ℕ) → t.taken q ≤ lengt
     lie_after : (of : Kind) (q : ℕ) → t.live_port q ≡ true → lying after of q (in_message o k) ≡ rights_for of q cs
     lie_after of q live_q = grind (arith, left_destroyed, at_entry)
 
-    lost : (v : WorldView) → Agrees v (with_posted now after (unused (x.gone ++ going ∷ []))) → CanLoseAll v cs → IsLosing now o k t cs v
+    lost : (v : WorldView) → Agrees v (with_posted now after (unused_among (x.gone ++ going ∷ []))) → CanLoseAll v cs → IsLosing now o k t cs v
     lost v agrees can = record {
       mid = after;
       gone = x.gone ++ going ∷ [];
@@ -243,10 +243,10 @@ module _ (now o k : ℕ) (t : State) (within : (q : ℕ) → t.taken q ≤ lengt
     }
 
     -- one that goes without a notice
-    silent : same_kind send_once kind ≡ false → (v : WorldView) → Agrees v (record before_posted { ledger = after_posted.ledger }) → Agrees v (with_posted now after (unused (x.gone ++ going ∷ [])))
+    silent : same_kind send_once kind ≡ false → (v : WorldView) → Agrees v (record before_posted { ledger = after_posted.ledger }) → Agrees v (with_posted now after (unused_among (x.gone ++ going ∷ [])))
     silent not v a = grind (arith, unused_push, append-nil, swapped)
 
-    by_kind : (of : Kind) → kind ≡ of → CanLoseRight u of p → (v : WorldView) → LosesRight u of p v → Agrees v (with_posted now after (unused (x.gone ++ going ∷ [])))
+    by_kind : (of : Kind) → kind ≡ of → CanLoseRight u of p → (v : WorldView) → LosesRight u of p v → Agrees v (with_posted now after (unused_among (x.gone ++ going ∷ [])))
     by_kind send e can v loses = silent (ap (same_kind send_once) e) v
         (noted_agrees (record u { ledger = taken u.ledger p right.Send 1 }) v p loses (record before_posted { ledger = after_posted.ledger })
         (send_lost u before_posted x.agrees o k p (live_same p live) (without send e)))
@@ -254,16 +254,16 @@ module _ (now o k : ℕ) (t : State) (within : (q : ℕ) → t.taken q ≤ lengt
         (subst (λ (w : WorldView). Agrees w (record before_posted { ledger = after_posted.ledger })) (sym loses.rest)
         (receive_lost u before_posted x.agrees o k p (live_same p live) (without receive e) loses.v loses.there (u.ports.lost ++ p ∷ [])))
     by_kind send_once e can v loses =
-        let grown = posted_within now x.mid (unused x.gone) p (subst (λ (s : State). s.taken p ≤ length (s.log p)) (sym x.rest) (within p)) in
+        let grown = posted_within now x.mid (unused_among x.gone) p (subst (λ (s : State). s.taken p ≤ length (s.log p)) (sym x.rest) (within p)) in
         let told = told_agrees u before_posted x.agrees p notice.SendOnce v loses now grown can.paid (in_message o k) (λ r. refl) (length (before_posted.log p))
         (token send_once p (in_message p (length (before_posted.log p))) ∷ (without send_once e).others) (λ h. let m = (without send_once e).parts h in omega (arith, m)) in
-        let one : unused (going ∷ []) ≡ (going, right_unused) ∷ [] = once (ap (same_kind send_once) e) in
-        let owed : unused (x.gone ++ going ∷ []) ≡ unused x.gone ++ (going, right_unused) ∷ [] = unused_push x.gone going ∙ ap (λ (ys : Owed). unused x.gone ++ ys) one in
-        let is : with_posted now after (unused (x.gone ++ going ∷ [])) ≡ with_notice now (record before_posted { ledger = after_posted.ledger }) (going, right_unused) =
-        ap (with_posted now after) owed ∙ posted_push now after (unused x.gone) (going, right_unused) ∙ ap (λ (s : State). with_notice now s (going, right_unused)) swapped in
+        let one : unused_among (going ∷ []) ≡ (going, right_unused) ∷ [] = once (ap (same_kind send_once) e) in
+        let owed : unused_among (x.gone ++ going ∷ []) ≡ unused_among x.gone ++ (going, right_unused) ∷ [] = unused_push x.gone going ∙ ap (λ (ys : Owed). unused_among x.gone ++ ys) one in
+        let is : with_posted now after (unused_among (x.gone ++ going ∷ [])) ≡ with_notice now (record before_posted { ledger = after_posted.ledger }) (going, right_unused) =
+        ap (with_posted now after) owed ∙ posted_push now after (unused_among x.gone) (going, right_unused) ∙ ap (λ (s : State). with_notice now s (going, right_unused)) swapped in
         subst (Agrees v) (sym is) told
       where
-        once : same_kind send_once kind ≡ true → unused (going ∷ []) ≡ (going, right_unused) ∷ []
+        once : same_kind send_once kind ≡ true → unused_among (going ∷ []) ≡ (going, right_unused) ∷ []
         once e = rw e refl
 
   -- What a right that was lost leaves is so for those behind it.
@@ -274,7 +274,7 @@ module _ (now o k : ℕ) (t : State) (within : (q : ℕ) → t.taken q ≤ lengt
       can = can_later u c cs x.can v loses
 
       is_there : (p : ℕ) → is_some (port_at u p) ≡ t.live_port p
-      is_there p = x.agrees.live_port p ∙ ap (λ (f : ℕ → Bool). f p) (posted_live now x.mid (unused x.gone)) ∙ ap (λ (s : State). s.live_port p) x.rest
+      is_there p = x.agrees.live_port p ∙ ap (λ (f : ℕ → Bool). f p) (posted_live now x.mid (unused_among x.gone)) ∙ ap (λ (s : State). s.live_port p) x.rest
 
       -- a right for a dead port is none for a port that lives
       none : (p : ℕ) → t.live_port p ≡ false → (of : Kind) (q : ℕ) → t.live_port q ≡ true → one_for of q kind (mark.Port p) ≡ 0
@@ -632,7 +632,7 @@ module _ (w : WorldView) (s : State) (sh : Shows w s) (now p : ℕ) (t : WorldVi
         omega (arith, none, few, le)
   ]
 
-  destroys_front : DestroysFront p (front w s sh.agrees sh.lawful p t f).first s x.mid (unused x.gone)
+  destroys_front : DestroysFront p (front w s sh.agrees sh.lawful p t f).first s x.mid (unused_among x.gone)
   destroys_front = record {
     taken = from;
     takes = record { front = shown_is_front w s sh.agrees p f.v f.there f.front f.behind f.queue; rest = refl; tokens = taken_moves w s sh.agrees sh.lawful p t f };
@@ -645,14 +645,14 @@ module _ (w : WorldView) (s : State) (sh : Shows w s) (now p : ℕ) (t : WorldVi
   receives q = (x.agrees.counts q).receivers ∙ posted_receives now x.mid (filter (λ (y : Token). same_kind send_once y.kind) x.gone) q
 
   is_live_ended : (q : ℕ) → is_some (port_at new q) ≡ x.mid.live_port q
-  is_live_ended q = x.agrees.live_port q ∙ ap (λ (g : ℕ → Bool). g q) (posted_live now x.mid (unused x.gone))
+  is_live_ended q = x.agrees.live_port q ∙ ap (λ (g : ℕ → Bool). g q) (posted_live now x.mid (unused_among x.gone))
 
   ended : MessageDestroyed now w s p new
   ended = record {
     kept = f.front;
     e = (front w s sh.agrees sh.lawful p t f).first;
     mid = x.mid;
-    owed = unused x.gone;
+    owed = unused_among x.gone;
     keeps = (front w s sh.agrees sh.lawful p t f).keeps;
     front = shown_is_front w s sh.agrees p f.v f.there f.front f.behind f.queue;
     destroys = destroys_front;

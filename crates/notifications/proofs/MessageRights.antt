@@ -13,7 +13,7 @@ use Rattle.mach_types.specs.Tokens.{Kind, receive, send, send_once, same_kind, i
 use Rattle.mach_types.specs.Messages.{Entry}
 use Rattle.mach_model.specs.State.{State, at, queue}
 use Rattle.mach_model.specs.Notices.{Notice, right_unused, Owed, notice_message, posted_tokens}
-use Rattle.mach_model.specs.References.{unused}
+use Rattle.mach_model.specs.References.{unused_among}
 use Rattle.mach_model.proofs.Names.{at_own, at_other, weigh-append, slice_get_drop, elsewhere}
 use Rattle.mach_model.specs.Carried.{lying}
 use Rattle.mach_model.specs.Unused.{onces_queued}
@@ -468,24 +468,24 @@ none_brought h none now log (x ∷ xs) =
     let c = none x.port x.port (length (log x.port)) in
     omega (arith, a, b, c)
 
-pub spared : (h : Token → ℕ) → Spares h → (now : ℕ) (log : ℕ → List Entry) (gone tokens : List Token) → weigh h (rights_with now log (unused gone) tokens) ≡ weigh h tokens
+pub spared : (h : Token → ℕ) → Spares h → (now : ℕ) (log : ℕ → List Entry) (gone tokens : List Token) → weigh h (rights_with now log (unused_among gone) tokens) ≡ weigh h tokens
 spared h none now log gone tokens =
-    let a = rights_weigh h now log (unused gone) tokens in
+    let a = rights_weigh h now log (unused_among gone) tokens in
     let b = none_brought h none now log (filter (λ x. same_kind send_once x.kind) gone) in
     omega (arith, a, b)
 
 -- ---- more rights that are gone
 
-pub unused_append : (xs ys : List Token) → unused (xs ++ ys) ≡ unused xs ++ unused ys
+pub unused_append : (xs ys : List Token) → unused_among (xs ++ ys) ≡ unused_among xs ++ unused_among ys
 unused_append [] ys = refl
 unused_append (x ∷ xs) ys = go (same_kind send_once x.kind) (unused_append xs ys)
   where
     mark : List Token → Owed
     mark zs = map (λ x. (x, right_unused)) zs
 
-    go : (b : Bool) → unused (xs ++ ys) ≡ unused xs ++ unused ys →
+    go : (b : Bool) → unused_among (xs ++ ys) ≡ unused_among xs ++ unused_among ys →
         mark (if b then x ∷ filter (λ x. same_kind send_once x.kind) (xs ++ ys) else filter (λ x. same_kind send_once x.kind) (xs ++ ys)) ≡
-        mark (if b then x ∷ filter (λ x. same_kind send_once x.kind) xs else filter (λ x. same_kind send_once x.kind) xs) ++ unused ys
+        mark (if b then x ∷ filter (λ x. same_kind send_once x.kind) xs else filter (λ x. same_kind send_once x.kind) xs) ++ unused_among ys
     go true e = ap (λ (zs : Owed). (x, right_unused) ∷ zs) e
     go false e = e
 
@@ -493,7 +493,7 @@ filtered_none : (x : Token) → same_kind send_once x.kind ≡ false → (n : �
 filtered_none x not zero = refl
 filtered_none x not (suc n) = let rest = filtered_none x not n in rw not rest
 
-pub unused_none : (x : Token) → same_kind send_once x.kind ≡ false → (n : ℕ) → unused (replicate n x) ≡ []
+pub unused_none : (x : Token) → same_kind send_once x.kind ≡ false → (n : ℕ) → unused_among (replicate n x) ≡ []
 unused_none x not n = ap (λ (ys : List Token). map (λ x. (x, right_unused)) ys) (filtered_none x not n)
 
 -- ---- The send-once rights at an entry that was taken aren't those by which queued messages go.

@@ -11,9 +11,9 @@ use Rattle.std.proofs.Math.Path.{fun_ext}
 use Rattle.mach_types.specs.Tokens.{receive, send, Kind, send_once, Token, in_task, weigh, count, is_of, is_held, is_in_task}
 use Rattle.mach_model.specs.State.{State, Target, at}
 use Rattle.mach_model.specs.Lawful.{is_once, LawfulNames}
-use Rattle.mach_model.specs.ReceiveRight.{one_if}
+use Rattle.mach_model.specs.Telling.{one_if}
 use Rattle.mach_model.proofs.Names.{some_tally, held_le_of, port_unnamed}
-use Rattle.mach_model.specs.References.{unused}
+use Rattle.mach_model.specs.References.{unused_among}
 use Rattle.mach_model.proofs.Copying.{other_port}
 use Rattle.rights.specs.Ledger.{IsEntered, counts_of, LedgerView, taken}
 use Rattle.rights.specs.declared.RightKind.TheVariants as right
@@ -243,8 +243,8 @@ module _ (now : ℕ) (start : WorldView) (task : ℕ) (s : State) (sh : Shows st
   abbrev part : Part
   part = part_then now s task x sh.lawful sp.is_part receive receive_not_once p name None
 
-  posted : Agrees v (with_posted now (with_part s task part) (unused part.gone))
-  posted = subst (λ (y : WorldView). Agrees y (with_posted now (with_part s task part) (unused part.gone))) (sym tables_are)
+  posted : Agrees v (with_posted now (with_part s task part) (unused_among part.gone))
+  posted = subst (λ (y : WorldView). Agrees y (with_posted now (with_part s task part) (unused_among part.gone))) (sym tables_are)
       (posted_then now s task x sh.lawful sp.is_part receive receive_not_once p name None w a_lost sp.requested space r.puts.there (entry_of.Receive p) at_name refl lost_ports refl
       (same_put w.ports p vp (port_held vp by.Nobody) there) ports_show own_left)
 

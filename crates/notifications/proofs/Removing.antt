@@ -5,7 +5,7 @@ use Rattle.std.specs.FinMap as map
 use Rattle.mach_types.specs.Tokens.{send_once, Request, Token, Moves, count, is_held, is_in_task}
 use Rattle.mach_model.specs.State.{State, Target, Names, at}
 use Rattle.mach_model.specs.Lawful.{LawfulNames}
-use Rattle.mach_model.specs.References.{unused}
+use Rattle.mach_model.specs.References.{unused_among}
 use Rattle.mach_model.specs.Tasks.{ends_with}
 use Rattle.name_space.specs.declared.Entry.{Entry}
 use Rattle.name_space.specs.declared.Entry.TheVariants as entry
@@ -97,7 +97,7 @@ pub record IsPart (s : State) (task : ℕ) (x : Part) : Type 0 where
 pub record ShowsPart (now : ℕ) (start : WorldView) (task : ℕ) (s : State) (w : WorldView) : Type 0 where
   pub part : Part
   pub is_part : IsPart s task part
-  pub agrees : Agrees w (with_posted now (with_part s task part) (unused part.gone))
+  pub agrees : Agrees w (with_posted now (with_part s task part) (unused_among part.gone))
   pub holders : HoldersAgree w
   pub carriers : CarriersAgree w
   pub slots : SlotsSuffice w

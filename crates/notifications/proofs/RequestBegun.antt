@@ -21,7 +21,7 @@ use Rattle.mach_model.proofs.Copying.{Copies, CopyRight-copies}
 use Rattle.mach_model.specs.Death.{same_place}
 use Rattle.mach_model.proofs.Lost.{Rekeeps, kept_taken, rekept}
 use Rattle.mach_model.specs.Unused.{onces_queued}
-use Rattle.mach_model.specs.Send.{IsLegalName, IsDeadName}
+use Rattle.mach_model.specs.NameGuards.{IsDeadName, IsLegalName}
 use Rattle.mach_model.specs.SentMeans.{target_mark}
 use Rattle.mach_model.proofs.MessagesLawful.{put_is}
 use Rattle.rights.specs.declared.RightKind.TheVariants as right

@@ -8,7 +8,8 @@ use Rattle.std.proofs.lemmas.Bool.Decides.{leb_tells}
 use Rattle.mach_types.specs.declared.rights.Disposition.{Disposition}
 use Rattle.mach_types.specs.declared.rights.Disposition.TheVariants.{MoveReceive, MoveSend, MoveSendOnce, CopySend, MakeSend, MakeSendOnce}
 use Rattle.mach_types.specs.declared.codes.KernReturn.TheVariants.{InvalidCapability, NoSpace, InvalidValue, ResourceShortage}
-use Rattle.mach_types.specs.Numbers.{disposition, kern_number, most_names, most_rights, null_word, kind_sent, most_references}
+use Rattle.mach_types.specs.Numbers.{disposition, most_names, most_rights, null_word, kind_sent, most_references}
+use Rattle.mach_types.specs.Codes.{kern_number}
 use Rattle.mach_types.specs.Guards.{NoneHolds, FirstIs}
 use Rattle.mach_types.specs.Tokens.{Kind, send_once, Request, in_request, Token, count, is_of, receive, in_task, is_held, weigh, send}
 use Rattle.mach_types.specs.declared.calls.Event.{Event}
@@ -16,16 +17,18 @@ use Rattle.mach_types.specs.Messages.{to_port}
 use Rattle.mach_types.specs.declared.calls.Reply.{Reply}
 use Rattle.mach_types.specs.Rights.{makes_right}
 use Rattle.mach_model.specs.State.{State, Target, held, lookup}
-use Rattle.mach_model.specs.Send.{IsLegalName, IsDeadName}
+use Rattle.mach_model.specs.NameGuards.{IsDeadName, IsLegalName}
 use Rattle.mach_model.proofs.Moving.{moving, IsOutside, IsMoving}
 use Rattle.mach_model.proofs.Names.{count_le, right_of, removed_own, length-weigh, held_le_of}
 use Rattle.mach_model.specs.Death.{same_place}
 use Rattle.mach_model.specs.Carried.{lying_among}
-use Rattle.mach_model.specs.CopyOut.{HasNoRoom}
-use Rattle.mach_model.specs.Requests.{RequestOn, GivesRight, noted_guards}
+use Rattle.mach_model.specs.Room.{HasNoRoom}
+use Rattle.mach_model.specs.Requests.{RequestOn}
+use Rattle.mach_model.specs.RequestRefusals.{noted_guards, GivesRight}
 use Rattle.mach_model.specs.CopyIn.{CopyRight}
 use Rattle.mach_model.specs.Refusals.{call_guards}
-use Rattle.mach_model.specs.Machine.{Does}
+use Rattle.mach_model.specs.Acts.{Does}
+use Rattle.mach_model.specs.Machine.{Judged}
 use Rattle.mach_model.specs.Notices.{Owed}
 use Rattle.number_map.specs.Maps.{MapView}
 use Rattle.rights.specs.declared.RightKind.TheVariants as right
@@ -37,7 +40,7 @@ use Rattle.name_space.specs.Names.{SpaceView}
 use Rattle.port.specs.Ports.{PortsView, PortView}
 use Rattle.request_table.specs.declared.Request.{Request as NameRequest}
 use Rattle.request_table.specs.Requests.{name_key, key_of}
-use Rattle.copyin_base.specs.Acts.{IsRefused, Declines, IsAllowed, Acts}
+use Rattle.copyin_base.specs.Serving.{IsRefused, Declines, IsAllowed, Completes}
 use Rattle.copyin_base.specs.Shows.{target_of, Shows, Agrees, SlotsSuffice}
 use Rattle.copyin_base.specs.Worlds.{WorldView, entry_in, entry_at, space_at, HasTask, port_at}
 use Rattle.copyin_base.specs.declared.message.Mark.TheVariants as mark
@@ -515,13 +518,15 @@ module _ (w : WorldView) (s : State) (task name : ℕ) (subject : Subject) (prev
       let d = b.slots in omega (arith, a, c, d)
 
   -- the call leaves the tables so
-  pub leaves : (event : Event) (reply : Reply) (now : ℕ) (new : WorldView) (after : State) (owed : Owed) → Does now s event reply after owed → Agrees new (with_posted now after owed) → AreSound new → SlotsSuffice new →
+  pub leaves : (event : Event) (reply : Reply) (now : ℕ) (new : WorldView) (after : State) (owed : Owed) → (d : Does now s event reply after owed) × Judged now s event reply after owed d →
+      Agrees new (with_posted now after owed) → AreSound new → SlotsSuffice new →
       KeepsSends out.ledger new.ledger → new.ports.noted ≡ out.ports.noted → ((p : ℕ) → after.live_port p ≡ bk.t3.live_port p) → ((p : ℕ) → count (is_of receive p) after.ledger ≡ count (is_of receive p) bk.t3.ledger) →
       Leaves-so w event reply new now s
   leaves event reply now new after owed does agrees sound slots sends noted live receivers = record {
     mid = after;
     owed = owed;
-    does = does;
+    does = does.0;
+    judged = does.1;
     agrees = agrees;
     holders = sound.holders;
     carriers = sound.carriers;
@@ -552,21 +557,23 @@ module _ (w : WorldView) (task name : ℕ) (asked : Asked) (subject : Subject) (
   pub can_end : Stands w → CanEnd ready task name subject previous
   can_end stands = can_give w stands.state stands.shown task name subject previous may.stood below None ready (begun stands.state stands.shown) e.0 e.1 may.space
 
-  pub end_done : (word : ℕ) (new : WorldView) → Ends ready task name subject previous word new → Acts w (event_of task name asked) (Reply.Previous word) new
+  pub end_done : (word : ℕ) (new : WorldView) → Ends ready task name subject previous word new → Completes w (event_of task name asked) (Reply.Previous word) new
   end_done word new ends = done_leaving w (event_of task name asked) (Reply.Previous word) new below record { allowed = λ s sh. (allowed w task name asked below may.good None may.pays).allowed s sh } (λ now s sh.
       let b = begun s sh in
       let bk = back w s sh task name subject previous may.stood below None ready b e.0 e.1 may.space word new ends in
       let is = subst (λ (o : Option Entry). IsSubject o may.variant asked.sync asked.notify subject) e.1 may.is_on in
-      leaves w s task name subject previous None ready b word new bk (event_of task name asked) (Reply.Previous word) now new bk.back []
-      (record {
-        request = r_doing;
-        copied = s;
-        back = bk.back;
-        copy = inl (may.pays, refl, refl, refl);
-        on = subst (λ (n : ℕ). RequestOn s task name n r_doing) may.number (subject_on w s sh task name subject previous may.stood ready s b.agrees s.ledger (Some e.0) (b.left name ∙ e.1) may.variant asked.sync asked.notify is);
-        unrefused = subst (λ (n : ℕ). NoneHolds (noted_guards s s task name n asked.sync asked.notify)) may.number (good_noted w s sh task name subject previous may.stood below None ready b e.0 e.1 may.space may.variant asked.sync asked.notify is);
-        given_back = bk.gives;
-      })
+      leaves w s task name subject previous None ready b word new bk (event_of task name asked) (Reply.Previous word) now new bk.back [] (
+        record {
+          request = r_doing;
+          copied = s;
+          back = bk.back;
+          copy = inl (may.pays, refl, refl, refl);
+          on = subst (λ (n : ℕ). RequestOn s task name n r_doing) may.number (subject_on w s sh task name subject previous may.stood ready s b.agrees s.ledger (Some e.0) (b.left name ∙ e.1) may.variant asked.sync asked.notify is);
+          given_back = bk.gives;
+        },
+        subst (λ (n : ℕ). NoneHolds (noted_guards s s task name n asked.sync asked.notify)) may.number
+            (good_noted w s sh task name subject previous may.stood below None ready b e.0 e.1 may.space may.variant asked.sync asked.notify is),
+      )
       (subst (λ (x : State). Agrees new x) (sym bk.rest) (reordered new bk.t3 bk.back.ledger bk.agrees (λ h. let m = bk.rights h in omega (arith, m))))
       bk.sound (out_slots w s task name subject previous None ready b word new bk) (λ q none. none) refl
       (λ p. ap (λ (x : State). x.live_port p) bk.rest)

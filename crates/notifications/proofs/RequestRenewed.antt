@@ -9,7 +9,8 @@ use Rattle.mach_types.specs.declared.calls.Reply.{Reply}
 use Rattle.mach_model.specs.State.{State, senders}
 use Rattle.mach_model.specs.CopyIn.{CopyRight}
 use Rattle.mach_model.specs.Notices.{Owed, no_more_senders}
-use Rattle.mach_model.specs.Requests.{Requests, RequestOn, Keeps, noted_guards}
+use Rattle.mach_model.specs.Requests.{Requests, RequestOn, Keeps}
+use Rattle.mach_model.specs.RequestRefusals.{noted_guards}
 use Rattle.mach_model.specs.Death.{same_place}
 use Rattle.mach_model.specs.Carried.{lying}
 use Rattle.rights.specs.Ledger.{counts_of}
@@ -56,22 +57,25 @@ module _ (w : WorldView) (task name : ℕ) (asked : Asked) (g : Paying) (subject
       (pays_ready w s sh task name subject previous may.stood ready below g asked.disposition may.pays.2 may.pays.3 may.pays.4 rdy (e w task name asked g subject previous below may ready rdy).0 (e w task name asked g subject previous below may ready rdy).1) mid c)
       (in_request r))
 
-  -- What the machine does, where the new right is kept or used so.
-  pub requests : (after : State) (owed : Owed) → Keeps task name asked.sync r g.port back after owed → Requests task name asked.variant asked.sync asked.notify asked.disposition word s after owed
+  -- What the machine does, where the new right is kept or used so; nothing refuses it then.
+  pub requests : (after : State) (owed : Owed) → Keeps task name asked.sync r g.port back after owed →
+      (d : Requests task name asked.variant asked.sync asked.notify asked.disposition word s after owed)
+      × NoneHolds (noted_guards s d.copied task name asked.variant asked.sync asked.notify)
   requests after owed keeps =
       let x = e w task name asked g subject previous below may ready rdy in
-      let is = subst (λ (o : Option Entry). IsSubject o may.variant asked.sync asked.notify subject) x.1 may.is_on in
-      record {
-        request = r;
-        copied = record b.t { ledger = b.C };
-        back = back;
-        copy = inr (may.pays.0, (g.port, copied_in, keeps));
-        on = subst (λ (n : ℕ). RequestOn (record b.t { ledger = b.C }) task name n r) may.number
-            (subject_on w s sh task name subject previous may.stood mid b.t b.agrees b.C (Some x.0) (b.left name ∙ x.1) may.variant asked.sync asked.notify is);
-        unrefused = subst (λ (n : ℕ). NoneHolds (noted_guards s (record b.t { ledger = b.C }) task name n asked.sync asked.notify)) may.number
-            (good_noted w s sh task name subject previous may.stood below (Some g) mid b x.0 x.1 may.space may.variant asked.sync asked.notify is);
-        given_back = (bk w task name asked g subject previous below may ready rdy s sh mid c word out ends).gives;
-      }
+      let is = subst (λ (o : Option Entry). IsSubject o may.variant asked.sync asked.notify subject) x.1 may.is_on in (
+        record {
+          request = r;
+          copied = record b.t { ledger = b.C };
+          back = back;
+          copy = inr (may.pays.0, (g.port, copied_in, keeps));
+          on = subst (λ (n : ℕ). RequestOn (record b.t { ledger = b.C }) task name n r) may.number
+              (subject_on w s sh task name subject previous may.stood mid b.t b.agrees b.C (Some x.0) (b.left name ∙ x.1) may.variant asked.sync asked.notify is);
+          given_back = (bk w task name asked g subject previous below may ready rdy s sh mid c word out ends).gives;
+        },
+        subst (λ (n : ℕ). NoneHolds (noted_guards s (record b.t { ledger = b.C }) task name n asked.sync asked.notify)) may.number
+            (good_noted w s sh task name subject previous may.stood below (Some g) mid b x.0 x.1 may.space may.variant asked.sync asked.notify is),
+      )
 
 -- ---- A request that is told at once, or kept: the tables agree with the state midway.
 

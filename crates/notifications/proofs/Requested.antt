@@ -4,7 +4,8 @@ use Rattle.std.specs.Prelude.{is_some, max, min, if◌then◌else◌, ◌&&◌, 
 use Rattle.std.specs.FinMap as map
 use Rattle.std.proofs.lemmas.Bool.{eqb-true, eq-eqb}
 use Rattle.std.specs.Option.{option_map}
-use Rattle.mach_types.specs.Numbers.{most_references, kern_number}
+use Rattle.mach_types.specs.Numbers.{most_references}
+use Rattle.mach_types.specs.Codes.{kern_number}
 use Rattle.mach_types.specs.Tokens.{Kind, receive, send, send_once, is_held, Request, in_message, in_request, Token, token, weigh, is_of, dead_name, no_senders, port_destroyed}
 use Rattle.mach_types.specs.declared.calls.Reply.{Reply}
 use Rattle.mach_types.specs.declared.codes.KernReturn.TheVariants.{NoSpace}
@@ -44,7 +45,7 @@ use Rattle.copyin_base.proofs.Carriers.{carriers_same}
 use Rattle.copyin_base.proofs.Holders.{no_receive, put_holders_left}
 use Rattle.copyin_base.proofs.Idle.{none_lost_left}
 use Rattle.copyin_base.proofs.Requested.{requested_replaced}
-use Rattle.copyin_base.specs.Acts.{Acts, Declines}
+use Rattle.copyin_base.specs.Serving.{Completes, Declines}
 use Rattle.copyin_base.specs.Stands.{Stands}
 use Rattle.copyout.proofs.GivenAll.{AreSound}
 use Rattle.notifications.specs.declared.request.Paying.{Paying}
@@ -590,7 +591,7 @@ module _ (w : WorldView) (task name : ℕ) (asked : Asked) (g : Paying) (previou
 
 pub renewed : (w : WorldView) (task name : ℕ) (asked : Asked) (g : Paying) (subject : Subject) (previous : Option ℕ) → HasTask w task → Stands w → MayRequest w task name asked (Some g) subject previous →
     (ready : WorldView) → Readies w task subject (Some g) previous ready → (word : ℕ) (new : WorldView) → Renews ready task name asked.sync g subject previous word new →
-    Acts w (event_of task name asked) (Reply.Previous word) new
+    Completes w (event_of task name asked) (Reply.Previous word) new
 renewed w task name asked g subject previous below stands_requested may ready rdy word new renews =
     done_leaving w (event_of task name asked) (Reply.Previous word) new below (record { allowed = λ s sh. (allowed w task name asked below may.good (Some g) may.pays).allowed s sh })
     (λ now s sh. put_so w task name asked g previous below ready renews.mid renews.copies word renews.out new renews.slots now s sh subject may rdy renews.ends renews.puts)
@@ -601,7 +602,7 @@ can_renew w task name asked g subject previous below stands_requested may ready 
 
 pub removed : (w : WorldView) (task name : ℕ) (asked : Asked) (subject : Subject) (previous : Option ℕ) → HasTask w task → Stands w → MayRequest w task name asked None subject previous →
     (ready : WorldView) → Readies w task subject None previous ready → (word : ℕ) (new : WorldView) → Ends ready task name subject previous word new →
-    Acts w (event_of task name asked) (Reply.Previous word) new
+    Completes w (event_of task name asked) (Reply.Previous word) new
 removed w task name asked subject previous below stands_requested may ready rdy word new ends = judged.end_done w task name asked subject previous below may ready rdy word new ends
 
 pub can_end : (w : WorldView) (task name : ℕ) (asked : Asked) (subject : Subject) (previous : Option ℕ) → HasTask w task → Stands w → MayRequest w task name asked None subject previous →
@@ -636,6 +637,6 @@ module _ (w : WorldView) (task name : ℕ) (asked : Asked) (subject : Subject) (
   can_carry (Some g) may rdy = can_renew w task name asked g subject previous below stands may ready rdy
 
   pub carried : (paying : Option Paying) → MayRequest w task name asked paying subject previous → Readies w task subject paying previous ready →
-      (word : ℕ) (new : WorldView) → CarriesOut ready task name asked.sync paying subject previous word new → Acts w (event_of task name asked) (Reply.Previous word) new
+      (word : ℕ) (new : WorldView) → CarriesOut ready task name asked.sync paying subject previous word new → Completes w (event_of task name asked) (Reply.Previous word) new
   carried None may rdy word new c = removed w task name asked subject previous below stands may ready rdy word new c
   carried (Some g) may rdy word new c = renewed w task name asked g subject previous below stands may ready rdy word new c

@@ -3,22 +3,23 @@ use Rattle.std.proofs.Common.{◌≡◌, ℕ, ◌+◌, ◌<◌, ◌≤◌, ◌^�
 use Rattle.std.specs.Prelude.{is_some, if◌then◌else◌, MatchBool}
 use Rattle.std.proofs.lemmas.Bool.{eq-eqb}
 use Rattle.std.specs.Option.{option_map, option_and_then}
-use Rattle.mach_types.specs.Numbers.{dead_word, null_word, kern_number, most_references, most_rights}
+use Rattle.mach_types.specs.Numbers.{dead_word, null_word, most_references, most_rights}
+use Rattle.mach_types.specs.Codes.{kern_number}
 use Rattle.mach_types.specs.Tokens.{Kind, send_once, Request, in_task, in_message, in_request, Token, token, weigh, count, Moves, receive, is_held}
 use Rattle.mach_types.specs.declared.codes.KernReturn.TheVariants.{NoSpace}
 use Rattle.mach_types.specs.Guards.{FirstIs, NoneHolds}
 use Rattle.mach_model.specs.State.{State, Target, same_request, request_at, with_name, lookup, held}
 use Rattle.mach_model.specs.Carried.{lying_among, lying}
-use Rattle.mach_model.specs.CopyOut.{Named, HasNoRoom}
-use Rattle.mach_model.specs.Requests.{GivesBack, noted_guards, GivesRight}
+use Rattle.mach_model.specs.CopyOut.{Named}
+use Rattle.mach_model.specs.Room.{HasNoRoom}
+use Rattle.mach_model.specs.Requests.{GivesBack}
+use Rattle.mach_model.specs.RequestRefusals.{noted_guards, GivesRight}
 use Rattle.mach_model.proofs.Copying.{come_once}
 use Rattle.mach_model.proofs.MessagesLawful.{named_new}
 use Rattle.mach_model.proofs.Moving.{IsMoving, IsOutside}
 use Rattle.mach_model.proofs.Lost.{kept_taken, same_request_is}
 use Rattle.mach_model.proofs.Settling.{is_at, request_refl}
-use Rattle.mach_model.specs.ReceiveRight.{NamesReceive}
-use Rattle.mach_model.specs.Sets.{IsSet}
-use Rattle.mach_model.specs.Send.{IsDeadName}
+use Rattle.mach_model.specs.NameGuards.{NamesReceive, IsSet, IsDeadName}
 use Rattle.name_space.specs.declared.Entry.{Entry}
 use Rattle.name_space.specs.Names.{SpaceView}
 use Rattle.name_space.specs.declared.Entry.TheVariants as entry
@@ -26,6 +27,7 @@ use Rattle.name_space.specs.Entry.{receive_named, port_of}
 use Rattle.copyin_base.specs.Requests.{notify_of, rights_kept, rights_went}
 use Rattle.copyin_base.specs.Worlds.{WorldView, entry_in, entry_at, port_at}
 use Rattle.copyin_base.specs.Shows.{Agrees, target_of}
+use Rattle.copyin_base.proofs.ProfileOne.{none_counted}
 use Rattle.copyin_base.proofs.Requested.{entry_other}
 use Rattle.copyin_base.proofs.Told.{names_receive, not_receive}
 use Rattle.copyout.specs.Giving.{alone, TakesName, GivesPort, GivesMark}
@@ -173,7 +175,7 @@ module _ (before : State) (w : WorldView) (t : State) (a : Agrees w t) (k : ℕ)
     named_then = given.gives.named
 
     t3_is : given.t ≡ record (with_name task word (Target.once q) t2) { ledger = given.t.ledger }
-    t3_is = given.gives.rest ∙ ap (λ (x : State). record x { ledger = given.t.ledger }) named_then.rest
+    t3_is = given.gives.rest ∙ ap (λ (x : State). record x { ledger = given.t.ledger }) (named_then.rest ∙ ap (with_name task word (Target.once q)) (none_counted t2 a.is_first task word))
 
     cut : (zs : List Token) × Moves C zs (token send_once q (in_request r) ∷ []) []
     cut = kept_taken send_once q r C (let b = more q in let c = some_kept w t a k l sound.requested task name small subject unwent q (is ∙ some) live in omega (arith, b, c))
@@ -199,7 +201,7 @@ module _ (before : State) (w : WorldView) (t : State) (a : Agrees w t) (k : ℕ)
     live_comes = record {
       t3 = given.t;
       agrees = given.agrees;
-      keeps = (come_once task 0 k t2 given.t send_once q taken.keeps is_task given.gives.tokens word refl (named_new task word (Target.once q) t2 given.gives.named_state named_then) t3_is).keeps;
+      keeps = (come_once task 0 k t2 given.t send_once q taken.keeps is_task given.gives.tokens t2.given word refl (named_new task word (Target.once q) t2 given.gives.named_state named_then) t3_is).keeps;
       sound = (port_given_sound away t2 taken.agrees away_sound 0 k taken.keeps outside task send_once q word out at_entry g).sound;
       back = record (with_name task word (Target.once q) copied) { stands = request_at t.stands r false; ledger = B };
       gives = inr (inr (
@@ -207,7 +209,7 @@ module _ (before : State) (w : WorldView) (t : State) (a : Agrees w t) (k : ℕ)
         with_name task word (Target.once q) copied,
         stood ∙ ap is_some some,
         one_lies,
-        record { room = named_then.room; fresh = named_then.fresh; rest = refl },
+        record { room = named_then.room; fresh = named_then.fresh; rest = ap (with_name task word (Target.once q)) (sym (none_counted copied a.is_first task word)) },
         (λ h. let m = cut.1 h in omega (arith, m)),
         refl,
       ));

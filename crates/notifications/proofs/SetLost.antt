@@ -6,7 +6,7 @@ use Rattle.std.specs.FinMap as map
 use Rattle.std.proofs.Math.Path.{fun_ext}
 use Rattle.mach_types.specs.Tokens.{send_once, count, is_held}
 use Rattle.mach_model.specs.State.{State, Target, Names, lookup, at}
-use Rattle.mach_model.specs.References.{unused}
+use Rattle.mach_model.specs.References.{unused_among}
 use Rattle.mach_model.proofs.Names.{at_own, at_other, other_unnamed}
 use Rattle.name_space.specs.declared.Entry.{Entry}
 use Rattle.name_space.specs.declared.Entry.TheVariants as entry_of
@@ -128,8 +128,8 @@ module _ (now : ℕ) (start : WorldView) (task : ℕ) (s : State) (sh : Shows st
   sets_are : ◌≡◌ {A = ℕ → List ℕ} (λ (p : ℕ). filter (λ k. not (k == set)) (filter (λ k. not (x.disbanded k)) (s.sets_of p))) (λ (p : ℕ). filter (λ k. not (k == set || x.disbanded k)) (s.sets_of p))
   sets_are = fun_ext (λ p. filter_twice (λ k. k == set) x.disbanded (s.sets_of p))
 
-  posted : Agrees v (with_posted now (with_part s task part) (unused x.gone))
-  posted = subst (Agrees v) (sym (posted_is now (with_part s task part) (unused x.gone)))
+  posted : Agrees v (with_posted now (with_part s task part) (unused_among x.gone))
+  posted = subst (Agrees v) (sym (posted_is now (with_part s task part) (unused_among x.gone)))
       (subst (Agrees v) (λ i. record t { naming = naming_is i; sets_of = sets_are i })
       (subst (λ (y : WorldView). Agrees y (record t { sets_of = λ p. filter (λ k. not (k == set)) (u.sets_of p) })) (sym r.rest)
       (disbanded_agrees without t names_go set v.ports r.disbanded)))

@@ -14,12 +14,12 @@ use Rattle.mach_types.specs.Tokens.{Kind, receive, send, send_once, Request, in_
 use Rattle.mach_model.specs.State.{State, Target, Names, lookup, held, at}
 use Rattle.mach_model.specs.Death.{same_place}
 use Rattle.mach_model.specs.Lawful.{IsLawful, LawfulNames, is_once, onces}
-use Rattle.mach_model.specs.References.{unused}
+use Rattle.mach_model.specs.References.{unused_among}
 use Rattle.mach_model.proofs.Names.{at_own, same_naming, both_test, at_other, weigh-append, length-weigh, held_le_of, port_kept, port_unnamed, all_unused, no_values, count_none, count_some, pos_or_zero}
 use Rattle.mach_model.proofs.Copying.{own_right, other_port}
 use Rattle.mach_model.proofs.Moving.{TaskNaming}
 use Rattle.mach_model.proofs.Settling.{named_lives, once_lives, kind_refl}
-use Rattle.mach_model.specs.ReceiveRight.{one_if}
+use Rattle.mach_model.specs.Telling.{one_if}
 use Rattle.mach_model.specs.Tasks.{ends_with, is_owner}
 use Rattle.mach_model.specs.Unused.{onces_queued}
 use Rattle.rights.specs.Counts.{with_fewer}
@@ -129,10 +129,10 @@ spares_kept r kind q p o k = both_test (is_of kind q (token send_once p (in_mess
 
 module _ (now : ℕ) (s : State) (task : ℕ) (x : Part) where
   abbrev pub shown : State
-  shown = record (with_part s task x) { log = logs_with now s.log (unused x.gone); ledger = rights_with now s.log (unused x.gone) x.kept }
+  shown = record (with_part s task x) { log = logs_with now s.log (unused_among x.gone); ledger = rights_with now s.log (unused_among x.gone) x.kept }
 
-  pub shown_is : with_posted now (with_part s task x) (unused x.gone) ≡ shown
-  shown_is = posted_is now (with_part s task x) (unused x.gone)
+  pub shown_is : with_posted now (with_part s task x) (unused_among x.gone) ≡ shown
+  shown_is = posted_is now (with_part s task x) (unused_among x.gone)
 
   pub held_shown : (t : ℕ) (kind : Kind) (q : ℕ) → held shown t kind q ≡ count (is_held t kind q) x.kept
   held_shown t kind q = spared (λ y. if is_held t kind q y then 1 else 0) (spares_held t kind q) now s.log x.gone x.kept
@@ -227,7 +227,7 @@ module _ (now : ℕ) (s : State) (task : ℕ) (x : Part) (l : IsLawful s) (is : 
   none_held = let a = kept_alike (λ y. if is_held task k p y then 1 else 0) (own_right task k p (kind_refl k)) in omega (arith, a)
 
   abbrev pub ledger_then : List Token
-  ledger_then = rights_with now s.log (unused x.gone) kept_then
+  ledger_then = rights_with now s.log (unused_among x.gone) kept_then
 
   pub parts_then : (h : Token → ℕ) → weigh h ledger_then + weigh h (replicate number tok) ≡ weigh h (shown now s task x).ledger
   parts_then h = grind (arith, takes, rights_weigh)
@@ -236,7 +236,7 @@ module _ (now : ℕ) (s : State) (task : ℕ) (x : Part) (l : IsLawful s) (is : 
   ledger_unlike h z = let a = parts_then h in let b = weigh_unlike h number tok z in omega (arith, a, b)
 
   -- the same notices are owed
-  not_owed : unused (x.gone ++ replicate number tok) ≡ unused x.gone
+  not_owed : unused_among (x.gone ++ replicate number tok) ≡ unused_among x.gone
   not_owed = grind (arith, unused_append, unused_none, append-nil)
 
   in_own : is_in_task task (in_task task) ≡ true
@@ -252,7 +252,7 @@ module _ (now : ℕ) (s : State) (task : ℕ) (x : Part) (l : IsLawful s) (is : 
     abbrev t : State
     t = record (shown now s task x) { naming = at s.naming task names_then; stands = stands_after x.stands task name left; ledger = ledger_then }
 
-    pub then_is : with_posted now (with_part s task part_then) (unused part_then.gone) ≡ t
+    pub then_is : with_posted now (with_part s task part_then) (unused_among part_then.gone) ≡ t
     then_is = grind (arith, posted_is, with_part, logs_with, rights_with, not_owed)
 
     pub is_part_then : LawfulNames names_then (λ kind q. count (is_held task kind q) kept_then) → ((target : Target) → option_map target_of left ≡ Some target → map.get (s.naming task) name ≡ Some target) →
@@ -323,7 +323,7 @@ module _ (now : ℕ) (s : State) (task : ℕ) (x : Part) (l : IsLawful s) (is : 
             own : t.naming task ≡ put ((shown now s task x).naming task) name (option_map target_of left)
             own = at_own s.naming task names_then ∙ ap (λ (m : Names). put m name (option_map target_of left)) (sym (at_own s.naming task x.names))
 
-        pub posted_then : Agrees tables_then (with_posted now (with_part s task part_then) (unused part_then.gone))
+        pub posted_then : Agrees tables_then (with_posted now (with_part s task part_then) (unused_among part_then.gone))
         posted_then = subst (Agrees tables_then) (sym then_is) agrees_then
 
 -- ---- A name lost its send references: the tables show what is left of the task.
@@ -438,7 +438,7 @@ module _ (now : ℕ) (start : WorldView) (task : ℕ) (s : State) (sh : Shows st
     sends_lost = record {
       part = part;
       is_part = is_part_then now s task x sh.lawful sp.is_part send send_not_once p name left lawful here;
-      agrees = noted_agrees fallen v p r.notes (with_posted now (with_part s task part) (unused part.gone)) (subst (λ (y : WorldView). Agrees y (with_posted now (with_part s task part) (unused part.gone))) (sym fallen_is)
+      agrees = noted_agrees fallen v p r.notes (with_posted now (with_part s task part) (unused_among part.gone)) (subst (λ (y : WorldView). Agrees y (with_posted now (with_part s task part) (unused_among part.gone))) (sym fallen_is)
           (posted_then now s task x sh.lawful sp.is_part send send_not_once p name left w agrees_shown sp.requested r.puts.space r.puts.there entry at_name named w.ports refl (λ q. refl) (λ q y is. agrees_shown.ports q y is) own_left));
       holders = noted_holders fallen v p r.notes (let h = put_holders_left w r.named sp.holders task name left r.puts fewer in record { held = h.held });
       carriers = noted_carriers fallen v p r.notes (carriers_same w fallen sp.carriers (ap (λ (y : PortsView Kept). y.made) ports_is) (ap (λ (y : PortsView Kept). y.ports) ports_is));
@@ -648,7 +648,7 @@ module _ (now : ℕ) (start : WorldView) (task : ℕ) (s : State) (sh : Shows st
   }
 
   abbrev told : State → State
-  told y = record y { log = logs_with now s.log (unused x_ended.gone); ledger = rights_with now s.log (unused x_ended.gone) x_ended.kept }
+  told y = record y { log = logs_with now s.log (unused_among x_ended.gone); ledger = rights_with now s.log (unused_among x_ended.gone) x_ended.kept }
 
   b : Agrees w (told bare)
   b = subst (λ (y : State). Agrees w (told y)) bare_is a_ended
@@ -670,6 +670,7 @@ module _ (now : ℕ) (start : WorldView) (task : ℕ) (s : State) (sh : Shows st
           (λ n. ap (λ (m : Names). map.get m n) (at_own s.naming task map.empty) ∙ get-empty nat_cmp n) (λ k not n. b.naming k n);
       names_kept = each (λ k o. (y : SpaceView) → o ≡ Some y → map.len y.names ≡ map.len (at s.naming task map.empty k)) (λ y e. absurd (no_some y e)) (λ k not y e. b.names_kept k y e);
       counted = each (λ k o. (n : ℕ) (e : Entry) → entry_in o n ≡ Some e → HasCount e) (λ n e is. absurd (no_some e is)) (λ k not n e is. b.counted k n e is);
+      is_first = b.is_first;
     };
     rights = record {
       references = each (λ k o. (n : ℕ) (e : Entry) (p : ℕ) → entry_in o n ≡ Some e → port_named e ≡ Some p →
@@ -698,13 +699,13 @@ module _ (now : ℕ) (start : WorldView) (task : ℕ) (s : State) (sh : Shows st
   pub has_ended : HasEnded now start task s closed
   has_ended = record {
     mid = ended;
-    owed = unused x_ended.gone;
+    owed = unused_among x_ended.gone;
     ends = record {
       loses = record { gone = x_ended.gone; moves = sp.is_part.moves; passed = sp.is_part.own; none_left = none_in_task task x_ended.kept no_right };
       rest = refl;
       owed_are = refl;
     };
-    agrees = subst (Agrees closed) (sym (posted_is now ended (unused x_ended.gone))) agrees;
+    agrees = subst (Agrees closed) (sym (posted_is now ended (unused_among x_ended.gone))) agrees;
     holders = holders;
     carriers = carriers_same w closed sp.carriers refl refl;
     slots = sp.slots;

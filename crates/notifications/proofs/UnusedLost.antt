@@ -11,7 +11,7 @@ use Rattle.mach_types.specs.Tokens.{receive, send, send_once, Token, token, in_t
 use Rattle.mach_model.specs.State.{State, Target, Names, at}
 use Rattle.mach_model.specs.Lawful.{LawfulNames, is_once}
 use Rattle.mach_model.specs.Notices.{Notice, right_unused, Owed}
-use Rattle.mach_model.specs.References.{unused}
+use Rattle.mach_model.specs.References.{unused_among}
 use Rattle.mach_model.proofs.Names.{at_own, at_other, some_tally, other_unnamed, weigh-append}
 use Rattle.mach_model.proofs.Copying.{own_task}
 use Rattle.mach_types.specs.Messages.{Entry as LogEntry}
@@ -86,22 +86,22 @@ module _ (now : ℕ) (start : WorldView) (task : ℕ) (s : State) (sh : Shows st
   part = record { names = map.remove x.names name; stands = stands_after {A = Entry} x.stands task name None; disbanded = x.disbanded; gone = x.gone ++ tok ∷ []; kept = kept }
 
   abbrev log : ℕ → List LogEntry
-  log = logs_with now s.log (unused x.gone)
+  log = logs_with now s.log (unused_among x.gone)
 
   abbrev due : Token × Notice
   due = (tok, right_unused)
 
   abbrev ledger : List Token
-  ledger = brought log due ++ rights_with now s.log (unused x.gone) kept
+  ledger = brought log due ++ rights_with now s.log (unused_among x.gone) kept
 
   -- the name is gone, and the right still with the task
   abbrev moved : State
   moved = record u { naming = at s.naming task part.names; stands = part.stands }
 
-  then_is : with_posted now (with_part s task part) (unused part.gone) ≡ record moved { log = log_with now log due; ledger = ledger }
-  then_is = posted_is now (with_part s task part) (unused part.gone)
+  then_is : with_posted now (with_part s task part) (unused_among part.gone) ≡ record moved { log = log_with now log due; ledger = ledger }
+  then_is = posted_is now (with_part s task part) (unused_among part.gone)
       ∙ ap (λ (o : Owed). record (with_part s task part) { log = logs_with now s.log o; ledger = rights_with now s.log o kept }) (unused_append x.gone (tok ∷ []))
-      ∙ (λ i. record (with_part s task part) { log = logs_more now s.log (unused x.gone) due i; ledger = rights_more now s.log (unused x.gone) due kept i })
+      ∙ (λ i. record (with_part s task part) { log = logs_more now s.log (unused_among x.gone) due i; ledger = rights_more now s.log (unused_among x.gone) due kept i })
 
   abbrev there_tok : Token
   there_tok = token send_once p (in_message p (length (log p)))
@@ -138,7 +138,7 @@ module _ (now : ℕ) (start : WorldView) (task : ℕ) (s : State) (sh : Shows st
       })
 
   within : s.taken p ≤ length (log p)
-  within = let b = sh.lawful.within p in let c = logs_longer now s.log (unused x.gone) p in omega (arith, b, c)
+  within = let b = sh.lawful.within p in let c = logs_longer now s.log (unused_among x.gone) p in omega (arith, b, c)
 
   ledger_same : r.named.ledger ≡ w.ledger
   ledger_same = ap (λ (y : WorldView). y.ledger) r.puts.rest
@@ -146,7 +146,7 @@ module _ (now : ℕ) (start : WorldView) (task : ℕ) (s : State) (sh : Shows st
   paid : 0 < (counts_of r.named.ledger p).send_once
   paid = subst (λ (l : LedgerView). 0 < (counts_of l p).send_once) (sym ledger_same) (let o = sp.onces p in let n = some in omega (arith, o, n))
 
-  posted : Agrees v (with_posted now (with_part s task part) (unused part.gone))
+  posted : Agrees v (with_posted now (with_part s task part) (unused_among part.gone))
   posted = subst (Agrees v) (sym then_is)
       (told_agrees r.named moved moved_agrees p notice.SendOnce v r.posts now within paid (in_task task) (λ q. refl) (length (log p)) ledger (λ h. let m = weighs h in omega (arith, m)))
 

@@ -5,13 +5,14 @@ use Rattle.std.specs.FinMap as map
 use Rattle.mach_types.specs.declared.codes.KernReturn.TheVariants.{InvalidName, InvalidRight, InvalidArgument, UrefsOverflow, InvalidCapability}
 use Rattle.mach_types.specs.declared.rights.Disposition.{Disposition}
 use Rattle.mach_types.specs.Guards.{Guards}
-use Rattle.mach_types.specs.Numbers.{kind_sent, kern_number, null_word, most_names, most_references, most_rights}
+use Rattle.mach_types.specs.Numbers.{kind_sent, null_word, most_names, most_references, most_rights}
+use Rattle.mach_types.specs.Codes.{kern_number}
 use Rattle.mach_types.specs.Rights.{makes_right}
 use Rattle.mach_types.specs.Tokens.{send_once, Request, no_senders, port_destroyed, dead_name}
 use Rattle.mach_types.specs.Numbers.{disposition}
 use Rattle.mach_model.specs.State.{State}
-use Rattle.mach_model.specs.Requests.{IsVariant}
-use Rattle.mach_model.specs.Send.{IsLegalName, IsDeadName}
+use Rattle.mach_model.specs.RequestRefusals.{IsVariant}
+use Rattle.mach_model.specs.NameGuards.{IsDeadName, IsLegalName}
 use Rattle.name_space.specs.declared.Entry.{Entry}
 use Rattle.name_space.specs.declared.Entry.TheVariants as entry
 use Rattle.name_space.specs.Entry.{port_of, receive_named}

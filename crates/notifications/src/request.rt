@@ -2,12 +2,13 @@
 ghost use Rattle.std.specs.Prelude.{◌≡◌, [], ◌∷◌, ◌+◌, true, is_some, max, ◌≢◌, ◌⊎◌, ◌<◌, ◌≤◌, ℕ, Option, Some, None, IfOk, IfErr, OnOk, OnErr, IfSome, IfNone, MatchBool};
 ghost use Rattle.mach_types.specs.declared.codes.KernReturn.TheVariants as kern;
 ghost use Rattle.mach_types.specs.Guards.{FirstIs, NoneHolds};
-ghost use Rattle.mach_types.specs.Numbers.{disposition, kern_number, kind_sent, most_references, most_rights, null_word};
+ghost use Rattle.mach_types.specs.Numbers.{disposition, kind_sent, most_references, most_rights, null_word};
+ghost use Rattle.mach_types.specs.Codes.{kern_number};
 ghost use Rattle.mach_types.specs.Tokens.{send_once};
 ghost use Rattle.name_space.specs.declared.Entry.TheVariants as AnyEntry;
 ghost use Rattle.notifications.specs.declared.request.Variant.TheVariants as AnyVariant;
 ghost use Rattle.mach_types.specs.declared.calls.Event.TheVariants as AnyEvent;
-ghost use Rattle.copyin_base.specs.Acts.{Declines, IsRefused, Serves, code_number};
+ghost use Rattle.copyin_base.specs.Serving.{Declines, IsRefused, Serves, code_number};
 ghost use Rattle.copyin_base.specs.Changes.{with_slots};
 ghost use Rattle.copyin_base.specs.Stands.{Stands};
 ghost use Rattle.copyin_base.specs.Wanted.{LacksRoomFor, LacksSlots, KeepsSpares};

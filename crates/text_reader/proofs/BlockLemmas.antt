@@ -4,7 +4,7 @@ use Rattle.std.specs.Str.{bytes_eq}
 use Rattle.std.proofs.lemmas.Bool.{eqb-false}
 use Rattle.std.proofs.lemmas.Fmt.{decimal_injective}
 use Rattle.mach_types.specs.declared.calls.Event.{Event}
-use Rattle.mach_types.specs.declared.calls.Event.TheVariants.{TaskCreate, TaskTerminate, Allocate, AllocateName, Deallocate, Destroy, ModRefs, GetRefs, NameType, Names, Rename, ReceiveStatus, SetQlimit, SetMscount, SetSeqno, InsertRight, ExtractRight, RequestNotification, MoveMember, SetStatus, Send, Receive, ReceiveAgain}
+use Rattle.mach_types.specs.declared.calls.Event.TheVariants.{TaskCreate, TaskTerminate, Allocate, AllocateName, Deallocate, Destroy, ModRefs, GetRefs, NameType, Names, Rename, ReceiveStatus, SetQlimit, SetMscount, SetSeqno, InsertRight, ExtractRight, RequestNotification, MoveMember, InsertMember, ExtractMember, SetStatus, Send, Receive, ReceiveAgain}
 use Rattle.tracer_base.specs.declared.blocks.MessageCall.{MessageCall}
 use Rattle.tracer_base.specs.declared.blocks.ScriptLine.{ScriptLine}
 use Rattle.tracer_base.specs.declared.blocks.ScriptLine.TheVariants.{Call, Message, Thread}
@@ -73,6 +73,8 @@ second_letter (InsertRight _ _ _ _ _) = refl
 second_letter (ExtractRight _ _ _ _) = refl
 second_letter (RequestNotification _ _ _ _ _ _) = refl
 second_letter (MoveMember _ _ _) = refl
+second_letter (InsertMember _ _ _) = refl
+second_letter (ExtractMember _ _ _) = refl
 second_letter (SetStatus _ _) = refl
 second_letter (Send _ _) = refl
 second_letter (Receive _ _ _ _) = refl
@@ -98,6 +100,8 @@ third_letter (InsertRight _ _ _ _ _) = refl
 third_letter (ExtractRight _ _ _ _) = refl
 third_letter (RequestNotification _ _ _ _ _ _) = refl
 third_letter (MoveMember _ _ _) = refl
+third_letter (InsertMember _ _ _) = refl
+third_letter (ExtractMember _ _ _) = refl
 third_letter (SetStatus _ _) = refl
 third_letter (Send _ _) = refl
 third_letter (Receive _ _ _ _) = refl

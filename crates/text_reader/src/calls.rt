@@ -120,6 +120,14 @@ fn read_port_call(keyword: &str, words: &mut Words<'_>) -> Result<Event, TextFau
             let (task, member) = words.task_and_name()?;
             Ok(Event::MoveMember(task, member, words.name()?))
         }
+        "insmember" => {
+            let (task, member) = words.task_and_name()?;
+            Ok(Event::InsertMember(task, member, words.name()?))
+        }
+        "exmember" => {
+            let (task, member) = words.task_and_name()?;
+            Ok(Event::ExtractMember(task, member, words.name()?))
+        }
         "members" => Ok(Event::SetStatus(words.task()?, words.name()?)),
         _ => Err(TextFault::Bad),
     }

@@ -3,7 +3,9 @@ use Rattle.std.proofs.Common.{◌≡◌, ℕ, ◌+◌, ◌<◌, List, [], ◌∷
 use Rattle.std.proofs.lemmas.List.{take_more, take-append-drop, length-take-le}
 use Rattle.mach_types.specs.declared.calls.Event.{Event}
 use Rattle.mach_types.specs.declared.calls.Reply.{Reply}
-use Rattle.mach_model.specs.State.{State, opening}
+use Rattle.mach_model.specs.State.{State}
+use Rattle.mach_model.specs.Machine.{opening}
+use Rattle.mach_model.proofs.Failing.{refusal_fails}
 use Rattle.copyin_base.specs.Shows.{Shows}
 use Rattle.kernel_core.specs.Answers.{Answers}
 use Rattle.kernel_core.specs.Kernels.{KernelView}
@@ -20,7 +22,7 @@ use Rattle.tracer.proofs.EntryLemmas.{next_line, behind}
 
 -- a refusal is answered, and the state stays
 pub refusal-answers : (kernel : KernelView) (event : Event) (reply : Reply) → IsRefusal kernel event reply → Answers kernel.tables event reply kernel.tables
-refusal-answers kernel event reply r = λ now s shown. (s, inl (record { code = r.code; told = r.told; refuses = r.refuses s shown; same = refl }), shown)
+refusal-answers kernel event reply r = λ now s shown. (s, inl (record { declined = record { code = r.code; failed = refusal_fails s event r.code (r.refuses s shown); told = r.told; same = refl }; refuses = r.refuses s shown }), shown)
 
 -- no code tells of want of memory that is 0
 some_code : (event : Event) → memory_code event ≡ 0 → ⊥
@@ -41,6 +43,8 @@ some_code (Event.SetMscount a b d) is = absurd (omega (arith, is))
 some_code (Event.SetSeqno a b d) is = absurd (omega (arith, is))
 some_code (Event.SetStatus a b) is = absurd (omega (arith, is))
 some_code (Event.MoveMember a b d) is = absurd (omega (arith, is))
+some_code (Event.InsertMember a b d) is = absurd (omega (arith, is))
+some_code (Event.ExtractMember a b d) is = absurd (omega (arith, is))
 some_code (Event.InsertRight a b d e f) is = absurd (omega (arith, is))
 some_code (Event.ExtractRight a b d e) is = absurd (omega (arith, is))
 some_code (Event.RequestNotification a b d e f g) is = absurd (omega (arith, is))

@@ -3,7 +3,7 @@ use Rattle.std.proofs.Common.{codes, ◌≡◌, ℕ, ◌<◌, ◌^◌, List, [],
 use Rattle.std.proofs.lemmas.List.Elements.{All-nil, All-cons, All-head, All-tail}
 use Rattle.std.specs.Fmt.{signed_decimal}
 use Rattle.mach_types.specs.declared.calls.Event.{Event}
-use Rattle.mach_types.specs.declared.calls.Event.TheVariants.{TaskCreate, TaskTerminate, Allocate, AllocateName, Deallocate, Destroy, ModRefs, GetRefs, NameType, Names, Rename, ReceiveStatus, SetQlimit, SetMscount, SetSeqno, InsertRight, ExtractRight, RequestNotification, MoveMember, SetStatus, Send, Receive, ReceiveAgain}
+use Rattle.mach_types.specs.declared.calls.Event.TheVariants.{TaskCreate, TaskTerminate, Allocate, AllocateName, Deallocate, Destroy, ModRefs, GetRefs, NameType, Names, Rename, ReceiveStatus, SetQlimit, SetMscount, SetSeqno, InsertRight, ExtractRight, RequestNotification, MoveMember, InsertMember, ExtractMember, SetStatus, Send, Receive, ReceiveAgain}
 use Rattle.mach_types.specs.declared.calls.Waited.{Waited}
 use Rattle.mach_types.specs.declared.calls.Waited.TheVariants.{Port, Set}
 use Rattle.tracer_base.specs.Calls.{Fits, call_word, call_arguments, call_text, line_text, StartsNoCall, IsFirstBadLine}
@@ -69,6 +69,8 @@ is_plain-call_word (InsertRight _ _ _ _ _) = refl
 is_plain-call_word (ExtractRight _ _ _ _) = refl
 is_plain-call_word (RequestNotification _ _ _ _ _ _) = refl
 is_plain-call_word (MoveMember _ _ _) = refl
+is_plain-call_word (InsertMember _ _ _) = refl
+is_plain-call_word (ExtractMember _ _ _) = refl
 is_plain-call_word (SetStatus _ _) = refl
 is_plain-call_word (Send _ _) = refl
 is_plain-call_word (Receive _ _ _ _) = refl
@@ -99,6 +101,8 @@ plain-call_arguments (RequestNotification task name variant sync notify disposit
     number task (decimal name ∷ decimal variant ∷ decimal sync ∷ decimal notify ∷ decimal disposition ∷ []) fits.0
     (number name (decimal variant ∷ decimal sync ∷ decimal notify ∷ decimal disposition ∷ []) fits.1 (four variant sync notify disposition fits.2 fits.3 fits.4 fits.5))
 plain-call_arguments (MoveMember task member set) fits = three task member set fits.0 fits.1 fits.2
+plain-call_arguments (InsertMember task member set) fits = three task member set fits.0 fits.1 fits.2
+plain-call_arguments (ExtractMember task member set) fits = three task member set fits.0 fits.1 fits.2
 plain-call_arguments (SetStatus task name) fits = two task name fits.0 fits.1
 plain-call_arguments (Send task bytes) fits = number task (bytes_text bytes ∷ []) fits.0 (before (bytes_text bytes) [] (IsWord-bytes_text bytes fits.1) none)
 plain-call_arguments (Receive task name room large) fits =

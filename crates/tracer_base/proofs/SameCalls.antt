@@ -4,7 +4,7 @@ use Rattle.std.specs.Fmt.{signed_decimal}
 use Rattle.std.specs.Str.{bytes_eq}
 use Rattle.std.proofs.lemmas.List.{append_cancel_left}
 use Rattle.mach_types.specs.declared.calls.Event.{Event}
-use Rattle.mach_types.specs.declared.calls.Event.TheVariants.{TaskCreate, TaskTerminate, Allocate, AllocateName, Deallocate, Destroy, ModRefs, GetRefs, NameType, Names, Rename, ReceiveStatus, SetQlimit, SetMscount, SetSeqno, InsertRight, ExtractRight, RequestNotification, MoveMember, SetStatus, Send, Receive, ReceiveAgain}
+use Rattle.mach_types.specs.declared.calls.Event.TheVariants.{TaskCreate, TaskTerminate, Allocate, AllocateName, Deallocate, Destroy, ModRefs, GetRefs, NameType, Names, Rename, ReceiveStatus, SetQlimit, SetMscount, SetSeqno, InsertRight, ExtractRight, RequestNotification, MoveMember, InsertMember, ExtractMember, SetStatus, Send, Receive, ReceiveAgain}
 use Rattle.mach_types.specs.declared.calls.Waited.{Waited}
 use Rattle.mach_types.specs.declared.calls.Waited.TheVariants.{Port, Set}
 use Rattle.tracer_base.specs.Calls.{Fits, call_word, call_arguments, call_words}
@@ -54,7 +54,9 @@ port_call_of word a others =
     (case_of word (codes "mscount") (SetMscount (number_at a 0) (number_at a 1) (number_at a 2))
     (case_of word (codes "seqno") (SetSeqno (number_at a 0) (number_at a 1) (number_at a 2))
     (case_of word (codes "move") (MoveMember (number_at a 0) (number_at a 1) (number_at a 2))
-    (case_of word (codes "members") (SetStatus (number_at a 0) (number_at a 1)) others)))))
+    (case_of word (codes "insmember") (InsertMember (number_at a 0) (number_at a 1) (number_at a 2))
+    (case_of word (codes "exmember") (ExtractMember (number_at a 0) (number_at a 1) (number_at a 2))
+    (case_of word (codes "members") (SetStatus (number_at a 0) (number_at a 1)) others)))))))
 
 -- the call that a keyword and the words behind it spell
 abbrev event_of : List ℕ → List (List ℕ) → Event
@@ -87,6 +89,8 @@ event_of-words (RequestNotification task name variant sync notify disposition) b
     three (λ t n v. RequestNotification t n v (number_of (decimal sync)) (number_of (decimal notify)) (number_of (decimal disposition))) task name variant fits.0 fits.1 fits.2
     ∙ three (RequestNotification task name variant) sync notify disposition fits.3 fits.4 fits.5
 event_of-words (MoveMember task member set) behind fits = three MoveMember task member set fits.0 fits.1 fits.2
+event_of-words (InsertMember task member set) behind fits = three InsertMember task member set fits.0 fits.1 fits.2
+event_of-words (ExtractMember task member set) behind fits = three ExtractMember task member set fits.0 fits.1 fits.2
 event_of-words (SetStatus task name) behind fits = two SetStatus task name fits.0 fits.1
 event_of-words (Send task bytes) behind fits = one (λ t. Send t (bytes_of (bytes_text bytes))) task fits.0 ∙ ap (Send task) (bytes_of-text bytes fits.1)
 event_of-words (Receive task name room large) behind fits =

@@ -2,7 +2,7 @@
 use Rattle.std.specs.Prelude.{◌≡◌, ℕ, ◌+◌, List, [], ◌∷◌, ◌++◌, codes, decimal, ◌<◌, ◌^◌, All, ⊤, length, flat_map}
 use Rattle.std.specs.Fmt.{signed_decimal}
 use Rattle.mach_types.specs.declared.calls.Event.{Event}
-use Rattle.mach_types.specs.declared.calls.Event.TheVariants.{TaskCreate, TaskTerminate, Allocate, AllocateName, Deallocate, Destroy, ModRefs, GetRefs, NameType, Names, Rename, ReceiveStatus, SetQlimit, SetMscount, SetSeqno, InsertRight, ExtractRight, RequestNotification, MoveMember, SetStatus, Send, Receive, ReceiveAgain}
+use Rattle.mach_types.specs.declared.calls.Event.TheVariants.{TaskCreate, TaskTerminate, Allocate, AllocateName, Deallocate, Destroy, ModRefs, GetRefs, NameType, Names, Rename, ReceiveStatus, SetQlimit, SetMscount, SetSeqno, InsertRight, ExtractRight, RequestNotification, MoveMember, InsertMember, ExtractMember, SetStatus, Send, Receive, ReceiveAgain}
 use Rattle.tracer_base.specs.Numbers.{FitsDelta}
 use Rattle.tracer_base.specs.Text.{bytes_text, flag_text, waited_words, FitsWaited}
 use Rattle.tracer_base.specs.Words.{line}
@@ -28,6 +28,8 @@ call_word (InsertRight task name from poly disposition) = codes "insert"
 call_word (ExtractRight task name disposition to) = codes "extract"
 call_word (RequestNotification task name variant sync notify disposition) = codes "notify"
 call_word (MoveMember task member set) = codes "move"
+call_word (InsertMember task member set) = codes "insmember"
+call_word (ExtractMember task member set) = codes "exmember"
 call_word (SetStatus task name) = codes "members"
 call_word (Send task bytes) = codes "send"
 call_word (Receive task name room large) = codes "recv"
@@ -55,6 +57,8 @@ call_arguments (ExtractRight task name disposition to) = decimal task ∷ decima
 call_arguments (RequestNotification task name variant sync notify disposition) =
     decimal task ∷ decimal name ∷ decimal variant ∷ decimal sync ∷ decimal notify ∷ decimal disposition ∷ []
 call_arguments (MoveMember task member set) = decimal task ∷ decimal member ∷ decimal set ∷ []
+call_arguments (InsertMember task member set) = decimal task ∷ decimal member ∷ decimal set ∷ []
+call_arguments (ExtractMember task member set) = decimal task ∷ decimal member ∷ decimal set ∷ []
 call_arguments (SetStatus task name) = decimal task ∷ decimal name ∷ []
 call_arguments (Send task bytes) = decimal task ∷ bytes_text bytes ∷ []
 call_arguments (Receive task name room large) = decimal task ∷ decimal name ∷ decimal room ∷ flag_text large ∷ []
@@ -88,6 +92,8 @@ Fits (ExtractRight task name disposition to) = (task < 2 ^ 32) × (name < 2 ^ 32
 Fits (RequestNotification task name variant sync notify disposition) =
     (task < 2 ^ 32) × (name < 2 ^ 32) × (variant < 2 ^ 32) × (sync < 2 ^ 32) × (notify < 2 ^ 32) × (disposition < 2 ^ 32)
 Fits (MoveMember task member set) = (task < 2 ^ 32) × (member < 2 ^ 32) × (set < 2 ^ 32)
+Fits (InsertMember task member set) = (task < 2 ^ 32) × (member < 2 ^ 32) × (set < 2 ^ 32)
+Fits (ExtractMember task member set) = (task < 2 ^ 32) × (member < 2 ^ 32) × (set < 2 ^ 32)
 Fits (SetStatus task name) = (task < 2 ^ 32) × (name < 2 ^ 32)
 Fits (Send task bytes) = (task < 2 ^ 32) × All (λ byte. byte < 256) bytes
 Fits (Receive task name room large) = (task < 2 ^ 32) × (name < 2 ^ 32) × (room < 2 ^ 32)

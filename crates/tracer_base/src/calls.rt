@@ -29,7 +29,7 @@ pub fn write_call<W: Write>(event: &Event, out: &mut W) -> io::Result<()>
         Event::GetRefs(task, name, right) => write_number("refs", *task, *name, *right, out),
         Event::NameType(task, name) => write_name("type", *task, *name, out),
         Event::Names(task) => write!(out, "names {}", task.number()),
-        Event::Rename(task, old, new) => write_number("rename", *task, *old, new.number(), out),
+        Event::Rename(task, old, new) => write_names("rename", *task, *old, *new, out),
         Event::ReceiveStatus(task, name) => write_name("status", *task, *name, out),
         Event::SetQlimit(task, name, limit) => write_number("qlimit", *task, *name, *limit, out),
         Event::SetMscount(task, name, count) => write_number("mscount", *task, *name, *count, out),
@@ -38,15 +38,14 @@ pub fn write_call<W: Write>(event: &Event, out: &mut W) -> io::Result<()>
             write_name("insert", *task, *name, out)?;
             write!(out, " {} {} {disposition}", from.number(), poly.number())
         }
-        Event::ExtractRight(task, name, disposition, to) => {
-            write_number("extract", *task, *name, *disposition, out)?;
-            write!(out, " {}", to.number())
-        }
+        Event::ExtractRight(task, name, how, to) => write_extract(*task, *name, *how, *to, out),
         Event::RequestNotification(task, name, variant, sync, notify, disposition) => {
             write_number("notify", *task, *name, *variant, out)?;
             write!(out, " {sync} {} {disposition}", notify.number())
         }
-        Event::MoveMember(task, name, set) => write_number("move", *task, *name, set.number(), out),
+        Event::MoveMember(task, name, set) => write_names("move", *task, *name, *set, out),
+        Event::InsertMember(task, name, set) => write_names("insmember", *task, *name, *set, out),
+        Event::ExtractMember(task, name, set) => write_names("exmember", *task, *name, *set, out),
         Event::SetStatus(task, name) => write_name("members", *task, *name, out),
         Event::Send(task, bytes) => write_send(*task, bytes.as_slice(), out),
         Event::Receive(task, name, room, large) => write_receive(*task, *name, *room, *large, out),
@@ -62,6 +61,20 @@ fn write_name<W: Write>(keyword: &str, task: TaskId, name: Name, out: &mut W) ->
     ensures { OnOk result (Appends (W.contents out.old) (W.contents out.new) (line (keyword.now ∷ decimal task ∷ decimal name ∷ []))) }
 {
     write!(out, "{keyword} {} {}", task.number(), name.number())
+}
+
+/// Writes the keyword, a task and two names. Errors are as for [`write_call`].
+fn write_names<W: Write>(
+    keyword: &str,
+    task: TaskId,
+    name: Name,
+    other: Name,
+    out: &mut W,
+) -> io::Result<()>
+    ensures { OnOk result (Appends (W.contents out.old) (W.contents out.new)
+        (line (keyword.now ∷ decimal task ∷ decimal name ∷ decimal other ∷ []))) }
+{
+    write_number(keyword, task, name, other.number(), out)
 }
 
 /// Writes the keyword, a task, a name and a number. Errors are as for [`write_call`].
@@ -106,6 +119,21 @@ fn write_delta<W: Write>(
 {
     write_number("modrefs", task, name, right, out)?;
     write!(out, " {delta}")
+}
+
+/// Writes `extract`, a task, a name, the number of a disposition, and a task. Errors are as for [`write_call`].
+fn write_extract<W: Write>(
+    task: TaskId,
+    name: Name,
+    disposition: u32,
+    to: TaskId,
+    out: &mut W,
+) -> io::Result<()>
+    ensures { OnOk result (Appends (W.contents out.old) (W.contents out.new)
+        (line (codes "extract" ∷ decimal task ∷ decimal name ∷ decimal disposition ∷ decimal to ∷ []))) }
+{
+    write_number("extract", task, name, disposition, out)?;
+    write!(out, " {}", to.number())
 }
 
 /// Writes `send`, a task and a message's bytes. Errors are as for [`write_call`].

@@ -7,17 +7,19 @@ use Rattle.mach_types.specs.declared.codes.KernReturn.{KernReturn}
 use Rattle.mach_types.specs.declared.codes.KernReturn.TheVariants.{InvalidName, InvalidRight, InvalidValue, InvalidCapability}
 use Rattle.mach_types.specs.Guards.{FirstIs, NoneHolds}
 use Rattle.mach_types.specs.Messages.{to_port, dead}
-use Rattle.mach_types.specs.Numbers.{disposition, disposition_number, kern_number}
+use Rattle.mach_types.specs.Numbers.{disposition}
+use Rattle.mach_types.specs.Rights.{disposition_number}
+use Rattle.mach_types.specs.Codes.{kern_number}
 use Rattle.mach_model.specs.State.{State, Target}
 use Rattle.mach_model.specs.SentMeans.{target_mark}
 use Rattle.mach_model.specs.CopyIn.{CopyRight}
-use Rattle.mach_model.specs.Send.{IsLegalName, IsDeadName}
-use Rattle.mach_model.specs.Refusals.{IsUnused, IsNoName, IsDisposition, used_guards, insert_guards, extract_guards}
+use Rattle.mach_model.specs.NameGuards.{IsDeadName, IsLegalName, IsNoName, IsUnused}
+use Rattle.mach_model.specs.Refusals.{IsDisposition, used_guards, insert_guards, extract_guards}
 use Rattle.mach_model.proofs.Moving.{moving}
 use Rattle.name_space.specs.declared.Entry.{Entry}
 use Rattle.name_space.specs.declared.Entry.TheVariants as entry
 use Rattle.name_space.specs.Names.{SpaceView, IsUsable}
-use Rattle.copyin_base.specs.Acts.{IsRefused}
+use Rattle.copyin_base.specs.Serving.{IsRefused}
 use Rattle.copyin_base.specs.Shows.{target_of, Shows}
 use Rattle.copyin_base.specs.Worlds.{WorldView, entry_in, entry_at, space_at}
 use Rattle.copyin_base.specs.declared.message.Mark.TheVariants as mark

@@ -8,15 +8,16 @@ use Rattle.std.proofs.lemmas.Bool.{eq-eqb}
 use Rattle.mach_types.specs.declared.rights.Disposition.{Disposition}
 use Rattle.mach_types.specs.declared.rights.Disposition.TheVariants.{MoveReceive, MoveSend, MoveSendOnce, CopySend, MakeSend, MakeSendOnce}
 use Rattle.mach_types.specs.declared.codes.KernReturn.TheVariants.{NoSpace}
-use Rattle.mach_types.specs.Numbers.{kern_number, kind_sent, most_names, most_references, most_rights}
+use Rattle.mach_types.specs.Numbers.{kind_sent, most_names, most_references, most_rights}
+use Rattle.mach_types.specs.Codes.{kern_number}
 use Rattle.mach_types.specs.Tokens.{Kind, receive, send, send_once, Place, in_task, in_message, Token, token, weigh, is_held, same_kind}
 use Rattle.mach_types.specs.Messages.{to_port}
 use Rattle.mach_types.specs.Guards.{FirstIs, NoneHolds}
 use Rattle.mach_model.specs.State.{State, Target, lookup, held}
 use Rattle.mach_model.specs.SentMeans.{target_mark}
 use Rattle.mach_model.specs.CopyIn.{put_by, CopyRight}
-use Rattle.mach_model.specs.CopyOut.{HasNoRoom, NeedsName}
-use Rattle.mach_model.specs.Transfer.{inserted_guards, extracted_guards}
+use Rattle.mach_model.specs.Room.{NeedsName, HasNoRoom}
+use Rattle.mach_model.specs.TransferRefusals.{extracted_guards, inserted_guards}
 use Rattle.mach_model.specs.Carried.{lying, mark_count}
 use Rattle.mach_model.proofs.Names.{length-weigh, lying_le_of}
 use Rattle.mach_model.proofs.Settling.{kind_refl}

@@ -6,7 +6,7 @@ use Rattle.mach_types.specs.declared.codes.KernReturn.TheVariants.{ResourceShort
 use Rattle.mach_types.specs.declared.rights.Disposition.{Disposition}
 use Rattle.mach_types.specs.declared.rights.Disposition.TheVariants.{MoveReceive, MoveSend, MoveSendOnce, CopySend, MakeSend, MakeSendOnce}
 use Rattle.mach_types.specs.Guards.{FirstIs}
-use Rattle.mach_types.specs.Numbers.{kern_number}
+use Rattle.mach_types.specs.Codes.{kern_number}
 use Rattle.mach_types.specs.Tokens.{Kind}
 use Rattle.name_space.specs.declared.Entry.{Entry}
 use Rattle.port.specs.Ports.{PortView, PortsView}

@@ -10,20 +10,24 @@ use Rattle.mach_types.specs.declared.codes.KernReturn.TheVariants.{ResourceShort
 use Rattle.mach_types.specs.declared.rights.Disposition.{Disposition}
 use Rattle.mach_types.specs.Guards.{FirstIs, NoneHolds}
 use Rattle.mach_types.specs.Messages.{to_port}
-use Rattle.mach_types.specs.Numbers.{disposition, kind_sent, kind_number, kern_number, dead_word, most_references, most_rights}
+use Rattle.mach_types.specs.Numbers.{disposition, kind_sent, kind_number, dead_word, most_references, most_rights}
+use Rattle.mach_types.specs.Codes.{kern_number}
 use Rattle.mach_types.specs.Tokens.{Kind, receive, send, send_once, in_task, in_message, Token, token, weigh}
 use Rattle.mach_model.specs.State.{State, Target, lookup, held, with_name}
 use Rattle.mach_model.specs.Carried.{lying}
 use Rattle.mach_model.specs.CopyIn.{CopyRight}
 use Rattle.mach_model.specs.CopyOut.{given_to, NamedOnce, NamedFor}
 use Rattle.mach_model.proofs.Moving.{IsOutside}
-use Rattle.mach_model.specs.Refusals.{IsNoName, insert_guards, extract_guards}
-use Rattle.mach_model.specs.Machine.{Does}
-use Rattle.mach_model.specs.Transfer.{target_for, inserted_guards, extracted_guards, pegged, Inserts, Extracts}
+use Rattle.mach_model.specs.Refusals.{insert_guards, extract_guards}
+use Rattle.mach_model.specs.NameGuards.{IsNoName}
+use Rattle.mach_model.specs.Acts.{Does}
+use Rattle.mach_model.specs.Machine.{Judged}
+use Rattle.mach_model.specs.Transfer.{target_for, pegged, Inserts, Extracts}
+use Rattle.mach_model.specs.TransferRefusals.{extracted_guards, inserted_guards}
 use Rattle.name_space.specs.declared.Entry.{Entry}
 use Rattle.name_space.specs.Names.{Names, SpaceView, IsUsable}
 use Rattle.rights.specs.Ledger.{LedgerView}
-use Rattle.copyin_base.specs.Acts.{Acts, Declines, HasTasks, IsAllowed}
+use Rattle.copyin_base.specs.Serving.{Completes, Declines, HasTasks, IsAllowed}
 use Rattle.port.specs.Ports.{PortsView}
 use Rattle.copyin_base.specs.Kept.{Kept}
 use Rattle.copyin_base.specs.Changes.{KeepsPlace, SameButRoom, NotesSenders, with_slots}
@@ -234,12 +238,13 @@ module _ (w : WorldView) (task number : ℕ) (g : Going) (goes : CanGo w number 
           (senders_kept ready ready new (senders_same ready shows_ready.idle.noted) (keeps_senders_trans ready mid new left.senders stay.senders)))
 
       -- the call does so, where what comes is sound, and its slots suffice
-      does_so : (event : Event) (reply : Reply) (new : WorldView) (now : ℕ) (t : State) → Does now s event reply t [] → LosesNone s event reply → Agrees new t → StaySound mid new → SlotsSuffice new →
-          Does-so w event reply new now s
-      does_so event reply new now t does loses agrees stay slots = record {
+      does_so : (event : Event) (reply : Reply) (new : WorldView) (now : ℕ) (t : State) → (does : Does now s event reply t []) → Judged now s event reply t [] does → LosesNone s event reply → Agrees new t →
+          StaySound mid new → SlotsSuffice new → Does-so w event reply new now s
+      does_so event reply new now t does judged loses agrees stay slots = record {
         mid = t;
         owed = [];
         does = does;
+        judged = judged;
         loses_none = loses;
         none_owed = refl;
         agrees = agrees;
@@ -300,19 +305,21 @@ module _ (w : WorldView) (task number : ℕ) (g : Going) (goes : CanGo w number 
           | inr h ↦ inr (h.0, ap (λ (x : State). record x { ledger = copied.ledger }) h.2 ∙ ap (λ (x : Target). with_name task name x copied) (same_target kind))
         ]
 
-        inserts : Inserts task name g.from g.name number s inserted
+        insert_same : g.given ≡ copy.given
+        insert_same = one_given (disposition number) g.given copy.given goes.given copy.is_given
+
+        abbrev inserts : Inserts task name g.from g.name number s inserted
         inserts =
-            let same = one_given (disposition number) g.given copy.given goes.given copy.is_given in
             record {
               p = g.port;
               copied = copied;
               copy = copy;
-              unrefused = subst (λ (d : Disposition). NoneHolds (inserted_guards copied task name g.port (kind_sent d))) same unrefused;
-              named = subst (λ (d : Disposition). (lookup copied task name ≢ None) × (inserted ≡ copied) ⊎ (lookup copied task name ≡ None) × (inserted ≡ with_name task name (target_for (kind_sent d) g.port) copied)) same named_then;
+              named = subst (λ (d : Disposition). (lookup copied task name ≢ None) × (inserted ≡ copied) ⊎ (lookup copied task name ≡ None) × (inserted ≡ with_name task name (target_for (kind_sent d) g.port) copied)) insert_same named_then;
             }
 
         pub inserts_so : (now : ℕ) → Does-so w (Event.InsertRight task name g.from g.name number) (Reply.Code 0) new now s
-        inserts_so now = does_so (Event.InsertRight task name g.from g.name number) (Reply.Code 0) new now inserted (refl, inserts, refl) tt insert_agrees insert_sound insert_slots
+        inserts_so now = does_so (Event.InsertRight task name g.from g.name number) (Reply.Code 0) new now inserted (refl, inserts, refl)
+            (subst (λ (d : Disposition). NoneHolds (inserted_guards copied task name g.port (kind_sent d))) insert_same unrefused) tt insert_agrees insert_sound insert_slots
 
       -- ---- under a name that the kernel chooses
 
@@ -377,17 +384,18 @@ module _ (w : WorldView) (task number : ℕ) (g : Going) (goes : CanGo w number 
                 let b = ltb-false (held left.t task send g.port) most_references e in
                 let c = ap (weigh h) (one_pegged (omega (arith, a, b))) in omega (arith, c)
 
-        extracts : Extracts g.from g.name number task new_name (kind_number kind) s given.t
+        extract_same : g.given ≡ copy_out.given
+        extract_same = one_given (disposition number) g.given copy_out.given goes.given copy_out.is_given
+
+        abbrev extracts : Extracts g.from g.name number task new_name (kind_number kind) s given.t
         extracts =
-            let same = one_given (disposition number) g.given copy_out.given goes.given copy_out.is_given in
             record {
               p = g.port;
               copied = out;
               copy = copy_out;
-              unrefused = subst (λ (d : Disposition). NoneHolds (extracted_guards out task g.port (kind_sent d))) same (none_extracted ready s task number g mid left others.others others.parts (extract_ready none));
-              kind_is = ap (λ (d : Disposition). kind_number (kind_sent d)) same;
+              kind_is = ap (λ (d : Disposition). kind_number (kind_sent d)) extract_same;
               named_state = record given.gives.named_state { ledger = out.ledger };
-              named = subst (λ (d : Disposition). NamedFor (kind_sent d) task new_name g.port out (record given.gives.named_state { ledger = out.ledger })) same (named_for kind given.gives.named_state given.gives.named);
+              named = subst (λ (d : Disposition). NamedFor (kind_sent d) task new_name g.port out (record given.gives.named_state { ledger = out.ledger })) extract_same (named_for kind given.gives.named_state given.gives.named);
               rest = given.gives.rest;
               tokens = λ h.
                   let a = given.gives.tokens h in
@@ -396,7 +404,9 @@ module _ (w : WorldView) (task number : ℕ) (g : Going) (goes : CanGo w number 
             }
 
         pub extracts_so : (now : ℕ) → Does-so w (Event.ExtractRight g.from g.name number task) (Reply.Right new_name (kind_number kind)) new now s
-        extracts_so now = does_so (Event.ExtractRight g.from g.name number task) (Reply.Right new_name (kind_number kind)) new now given.t (extracts, refl) tt given.agrees extract_sound extract_slots
+        extracts_so now = does_so (Event.ExtractRight g.from g.name number task) (Reply.Right new_name (kind_number kind)) new now given.t (extracts, refl)
+            (subst (λ (d : Disposition). NoneHolds (extracted_guards out task g.port (kind_sent d))) extract_same
+            (none_extracted ready s task number g mid left others.others others.parts (extract_ready none))) tt given.agrees extract_sound extract_slots
 
 -- ---- what was judged, by where it stands
 
@@ -510,7 +520,7 @@ module _ (w : WorldView) (to from : TaskName) (number : ℕ) (handed : Handed) (
           room.placed may.unrefused
 
       pub insert_done : (new : WorldView) → PutsPort mid to.task (kind_sent handed.given) handed.port to.name new → (HasTask w to.task) × (HasTask w from.task) →
-          Acts w to_insert (Reply.Code 0) new
+          Completes w to_insert (Reply.Code 0) new
       insert_done new puts tasks = done w to_insert (Reply.Code 0) new tasks
           record { allowed = λ s sh. (insert_allowed w to.task number inserting may.goes tasks.0 to.name may.to_named may.from_named).allowed s sh }
           (λ now s sh. inserts_so w to.task number inserting may.goes ready Placed room s sh mid copies to.name may.unrefused new puts now)
@@ -561,7 +571,7 @@ module _ (w : WorldView) (from : TaskName) (number to : ℕ) (handed : Handed) (
           roomed.placed may.unrefused
 
       pub extract_done : (new_name : ℕ) (new : WorldView) → GivesMark mid to (kind_sent handed.given) (mark.Port handed.port) new_name new → (HasTask w from.task) × (HasTask w to) →
-          Acts w to_extract (Reply.Right new_name (kind_number (kind_sent handed.given))) new
+          Completes w to_extract (Reply.Right new_name (kind_number (kind_sent handed.given))) new
       extract_done new_name new gives tasks = done w to_extract (Reply.Right new_name (kind_number (kind_sent handed.given))) new tasks
           record { allowed = λ s sh. (extract_allowed w to number extracting may.goes tasks.1).allowed s sh }
           (λ now s sh. extracts_so w to number extracting may.goes ready Roomy roomed s sh mid copies may.unrefused new_name new gives now)

@@ -4,12 +4,12 @@ use Rattle.std.specs.Option.{option_and_then}
 use Rattle.std.specs.FinMap as map
 use Rattle.mach_types.specs.declared.codes.KernReturn.{KernReturn}
 use Rattle.mach_types.specs.declared.codes.KernReturn.TheVariants.{NoSpace, NameExists, UrefsOverflow, RightExists, InvalidName, InvalidRight}
-use Rattle.mach_types.specs.Numbers.{disposition, kind_sent, kern_number, most_names, most_references, most_rights}
+use Rattle.mach_types.specs.Numbers.{disposition, kind_sent, most_names, most_references, most_rights}
+use Rattle.mach_types.specs.Codes.{kern_number}
 use Rattle.mach_types.specs.Tokens.{Kind, send, send_once}
 use Rattle.mach_types.specs.Guards.{Guards, NoneHolds}
 use Rattle.mach_model.specs.State.{State}
-use Rattle.mach_model.specs.Send.{IsLegalName, IsDeadName}
-use Rattle.mach_model.specs.Refusals.{IsUnused, IsNoName}
+use Rattle.mach_model.specs.NameGuards.{IsDeadName, IsLegalName, IsNoName, IsUnused}
 use Rattle.name_space.specs.declared.Entry.{Entry}
 use Rattle.name_space.specs.Entry.{port_named, send_references}
 use Rattle.name_space.specs.Names.{SpaceView}

@@ -2,9 +2,9 @@
 ghost use Rattle.std.specs.Prelude.{◌≡◌, ◌⊎◌, true, IfErr, OnOk, OnErr, MatchBool};
 ghost use Rattle.mach_types.specs.declared.calls.Event.{Event as AnyEvent};
 ghost use Rattle.mach_types.specs.declared.codes.KernReturn.TheVariants as kern;
-ghost use Rattle.mach_types.specs.Numbers.{kern_number};
+ghost use Rattle.mach_types.specs.Codes.{kern_number};
 ghost use Rattle.name_space.specs.Names.{IsUsable};
-ghost use Rattle.copyin_base.specs.Acts.{code_number, Serves};
+ghost use Rattle.copyin_base.specs.Serving.{code_number, Serves};
 ghost use Rattle.copyin_base.specs.Stands.{Stands};
 ghost use Rattle.copyin_base.specs.Changes.{KeepsPlace};
 ghost use Rattle.copyin_base.specs.Wanted.{LacksRoomFor, LacksPlace, LacksSlots};

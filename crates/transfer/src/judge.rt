@@ -3,10 +3,12 @@ ghost use Rattle.std.specs.Prelude.{◌≡◌, ◌≢◌, ℕ, ◌<◌, ◌≤�
 ghost use Rattle.mach_types.specs.declared.calls.Event.{Event as AnyEvent};
 ghost use Rattle.mach_types.specs.declared.codes.KernReturn.TheVariants as kern;
 ghost use Rattle.mach_types.specs.Guards.{FirstIs, NoneHolds};
-ghost use Rattle.mach_types.specs.Numbers.{disposition, kind_sent, kern_number, most_names, most_references, most_rights};
+ghost use Rattle.mach_types.specs.Numbers.{disposition, kind_sent, most_names, most_references, most_rights};
+ghost use Rattle.mach_types.specs.Codes.{kern_number};
 ghost use Rattle.mach_types.specs.Tokens.{send};
-ghost use Rattle.mach_model.specs.Refusals.{IsNoName, insert_guards, extract_guards};
-ghost use Rattle.copyin_base.specs.Acts.{Declines, IsRefused};
+ghost use Rattle.mach_model.specs.Refusals.{insert_guards, extract_guards};
+ghost use Rattle.mach_model.specs.NameGuards.{IsNoName};
+ghost use Rattle.copyin_base.specs.Serving.{Declines, IsRefused};
 ghost use Rattle.copyin_base.specs.Stands.{Stands};
 ghost use Rattle.copyin_base.specs.Worlds.{HasTask};
 ghost use Rattle.transfer.specs.Transfer.{CanGo, MayInsert, MayExtract, WantsName, names_needed, going_guards, left_at, names_left, rights_then, port_under, references_under, IsElsewhere, IsTaken, Overflows, LacksSpace, insert_later, extract_later};

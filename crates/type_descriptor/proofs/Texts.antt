@@ -4,7 +4,7 @@ use Rattle.std.proofs.lemmas.Bool.{cases_eq}
 use Rattle.mach_types.specs.declared.codes.MsgReturn.TheVariants.{SendMsgTooSmall, SendInvalidType}
 use Rattle.mach_types.specs.Grammar.{word, half, descriptor_text, NamesPorts}
 use Rattle.mach_types.specs.Messages.{short, long}
-use Rattle.mach_types.specs.Numbers.{msg_number}
+use Rattle.mach_types.specs.Codes.{msg_number}
 use Rattle.mach_types.specs.TextGuards.{BadType, DescriptorFields, is_bit, word_at}
 use Rattle.type_descriptor.specs.declared.descriptor.Descriptor.{Descriptor}
 use Rattle.type_descriptor.specs.Describes.{Describes, DescriptorRefuses, form_of, form_length}

@@ -4,7 +4,7 @@ use Rattle.mach_types.specs.declared.codes.MsgReturn.TheVariants.{SendMsgTooSmal
 use Rattle.mach_types.specs.Grammar.{descriptor_text, FitsForm, NamesPorts}
 use Rattle.mach_types.specs.Guards.{FirstIs}
 use Rattle.mach_types.specs.Messages.{Form, short, long}
-use Rattle.mach_types.specs.Numbers.{msg_number}
+use Rattle.mach_types.specs.Codes.{msg_number}
 use Rattle.mach_types.specs.TextGuards.{DescriptorFields, descriptor_guards}
 use Rattle.type_descriptor.specs.declared.descriptor.Descriptor.{Descriptor}
 

@@ -1,7 +1,7 @@
 //! Reading and writing descriptors.
 ghost use Rattle.std.specs.Prelude.{◌≡◌, ◌≢◌, ℕ, ◌+◌, ◌*◌, ◌/◌, ◌%◌, ◌^◌, ◌≤◌, ◌<◌, ◌⊎◌, ◌↔◌, ◌++◌, List, length, take, drop, IfOk, IfErr, IsTrue, true, false};
 ghost use Rattle.mach_types.specs.Grammar.{NamesPorts, descriptor_text};
-ghost use Rattle.mach_types.specs.Numbers.{msg_number};
+ghost use Rattle.mach_types.specs.Codes.{msg_number};
 ghost use Rattle.mach_types.specs.TextGuards.{BadType, data_length, is_bit, word_at};
 ghost use Rattle.mach_types.specs.declared.codes.MsgReturn.TheVariants.{SendMsgTooSmall};
 ghost use Rattle.type_descriptor.specs.declared.descriptor.Descriptor.{Descriptor as AnyDescriptor};

@@ -4,5 +4,5 @@ use Rattle.mach_laws.proofs.Counted.{senders_kept}
 use Rattle.mach_laws.proofs.no_sender_appears.Goals as goal
 
 pub returns : goal.returns
-returns c = λ events replies s run event reply new done p live. senders_kept (length events) s done.mid done.owed new
-    (Does-mid (length events) s event reply done.mid done.owed done.unrefused done.does (Run-lawful events replies s run)) done.settles p live
+returns c = λ profile events replies s run event reply new done p live. senders_kept (length events) s done.mid done.owed new
+    (Does-mid (length events) s event reply done.mid done.owed done.unrefused done.does done.judged (Run-lawful profile events replies s run)) done.settles p live

@@ -4,4 +4,4 @@ use Rattle.mach_laws.proofs.NoticeMeans.{notice_is_meant}
 use Rattle.mach_laws.proofs.notice_means.Goals as goal
 
 pub returns : goal.returns
-returns c = λ events replies s run event reply new done x posted. notice_is_meant (length events) s event reply new (Run-lawful events replies s run) done x posted
+returns c = λ profile events replies s run event reply new done x posted. notice_is_meant (length events) s event reply new (Run-lawful profile events replies s run) done x posted

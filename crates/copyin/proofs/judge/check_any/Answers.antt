@@ -1,6 +1,6 @@
 use Rattle.std.proofs.Common.{refl, ap, ◌∙◌, inl, inr}
 use Rattle.std.proofs.lemmas.Result.{err_from_is_err_and}
-use Rattle.mach_types.specs.Numbers.{msg_number}
+use Rattle.mach_types.specs.Codes.{msg_number}
 use Rattle.copyin_base.specs.Carrying.{spans_in, rights_in}
 use Rattle.copyin.specs.Plans.{Plans}
 use Rattle.copyin.proofs.Committing.{queues}

@@ -1,6 +1,6 @@
 use Rattle.std.proofs.Common.{[], ◌∷◌, refl, ap, ◌∙◌, inl, inr}
 use Rattle.std.proofs.lemmas.Result.{err_from_is_err_and}
-use Rattle.mach_types.specs.Numbers.{msg_number}
+use Rattle.mach_types.specs.Codes.{msg_number}
 use Rattle.message_codec.specs.Parses.{Parses}
 use Rattle.message_codec.specs.Plain.{parsed_lone}
 use Rattle.copyin_base.specs.Carrying.{spans_for}

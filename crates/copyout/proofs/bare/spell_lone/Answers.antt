@@ -1,6 +1,6 @@
 use Rattle.std.proofs.Common.{◌≡◌, ℕ, ◌+◌, ◌*◌, ◌^◌, List, [], ◌∷◌, ap, length, refl, rules, sym, subst, ◌∙◌}
 use Rattle.std.specs.Prelude.{if◌then◌else◌}
-use Rattle.mach_types.specs.Numbers.{disposition_number}
+use Rattle.mach_types.specs.Rights.{disposition_number}
 use Rattle.message_codec.specs.declared.header.Header.{Header}
 use Rattle.message_codec.specs.declared.spans.Span.{Span}
 use Rattle.message_codec.specs.Plain.{lone_span}

@@ -1,6 +1,6 @@
 use Rattle.std.proofs.Common.{refl, rules}
 use Rattle.mach_types.specs.declared.calls.Event.{Event}
-use Rattle.copyin_base.specs.Acts.{Serves}
+use Rattle.copyin_base.specs.Serving.{Serves}
 use Rattle.copyin_base.proofs.Spares.{keeps_refl}
 use Rattle.kernel_core_base.proofs.Refused.{takes_none}
 use Rattle.kernel_core.proofs.Keeping.{always_wants, sent_spares, carried, lost, handed_on, asked}

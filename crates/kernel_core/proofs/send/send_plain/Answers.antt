@@ -1,4 +1,4 @@
-use Rattle.mach_types.specs.Numbers.{msg_number}
+use Rattle.mach_types.specs.Codes.{msg_number}
 use Rattle.message_codec.specs.Plain.{parsed_plain}
 use Rattle.copyin_base.proofs.Tied.{stands_is_tied}
 use Rattle.kernel_core.specs.Send.{PlansText}

@@ -1,4 +1,4 @@
-use Rattle.mach_types.specs.Numbers.{kern_number}
+use Rattle.mach_types.specs.Codes.{kern_number}
 use Rattle.mach_types.specs.declared.calls.Event.{Event}
 use Rattle.copyin_base.proofs.Exiting.{exits}
 use Rattle.kernel_core_base.proofs.ReferencesTold.{refs_no_right, refs_no_name, refs_told}

@@ -1,7 +1,7 @@
 use Rattle.std.proofs.Common.{List, ℕ, ◌≡◌, ◌≤◌, ◌+◌, length, drop, arith, ap, refl}
 use Rattle.std.proofs.lemmas.List.{length-drop}
 use Rattle.std.proofs.lemmas.Result.{err_from_is_err_and}
-use Rattle.mach_types.specs.Numbers.{msg_number}
+use Rattle.mach_types.specs.Codes.{msg_number}
 use Rattle.mach_types.specs.TextGuards.{data_length}
 use Rattle.message_codec.proofs.ItemTexts.{descriptor_within, item-reads, item-past_end, item-refused}
 use Rattle.message_codec.proofs.items.read_item.Goals as goal

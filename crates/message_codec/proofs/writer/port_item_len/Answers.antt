@@ -1,5 +1,5 @@
 use Rattle.std.proofs.Common.{ap, ◌∙◌, arith}
-use Rattle.mach_types.specs.Numbers.{disposition_number}
+use Rattle.mach_types.specs.Rights.{disposition_number}
 use Rattle.type_descriptor.specs.Describes.{form_length}
 use Rattle.message_codec.proofs.FieldTexts.{length-port_wire}
 use Rattle.message_codec.proofs.writer.port_item_len.Goals as goal

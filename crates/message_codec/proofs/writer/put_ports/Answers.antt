@@ -1,6 +1,6 @@
 use Rattle.std.proofs.Common.{◌≡◌, ◌+◌, List, ℕ, length, sym, ap, ◌∙◌, arith, length-append}
 use Rattle.mach_types.specs.Grammar.{descriptor_text, words_text}
-use Rattle.mach_types.specs.Numbers.{disposition_number}
+use Rattle.mach_types.specs.Rights.{disposition_number}
 use Rattle.type_descriptor.specs.Describes.{text_of, form_length}
 use Rattle.message_codec.specs.Writing.{form_for}
 use Rattle.message_codec.proofs.Fronts.{length-descriptor_text}

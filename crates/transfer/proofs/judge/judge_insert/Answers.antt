@@ -1,9 +1,10 @@
 use Rattle.std.proofs.Common.{◌≡◌}
 use Rattle.mach_types.specs.declared.calls.Event.{Event}
 use Rattle.mach_types.specs.declared.codes.KernReturn.{KernReturn}
-use Rattle.mach_types.specs.Numbers.{kern_number}
-use Rattle.mach_model.specs.Refusals.{IsNoName, insert_guards}
-use Rattle.copyin_base.specs.Acts.{IsRefused}
+use Rattle.mach_types.specs.Codes.{kern_number}
+use Rattle.mach_model.specs.Refusals.{insert_guards}
+use Rattle.mach_model.specs.NameGuards.{IsNoName}
+use Rattle.copyin_base.specs.Serving.{IsRefused}
 use Rattle.copyin_base.proofs.Acting.{refused}
 use Rattle.transfer.specs.declared.judge.Going.{Going}
 use Rattle.transfer.specs.Transfer.{CanGo}

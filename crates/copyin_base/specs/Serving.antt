@@ -2,13 +2,14 @@
 use Rattle.std.specs.Prelude.{ℕ, List, [], ◌∷◌, Result, Ok, Err}
 use Rattle.mach_types.specs.declared.calls.Event.{Event}
 use Rattle.mach_types.specs.declared.calls.Reply.{Reply}
-use Rattle.mach_types.specs.Numbers.{kern_number, msg_number}
+use Rattle.mach_types.specs.Codes.{kern_number, msg_number}
 use Rattle.mach_types.specs.Guards.{Guards, FirstIs, NoneHolds}
 use Rattle.mach_model.specs.State.{State}
 use Rattle.mach_model.specs.Notices.{Owed}
 use Rattle.mach_model.specs.Midway.{MidLawful}
 use Rattle.mach_model.specs.Refusals.{Refuses, guards, tasks_of}
-use Rattle.mach_model.specs.Machine.{Does}
+use Rattle.mach_model.specs.Acts.{Does}
+use Rattle.mach_model.specs.Machine.{Judged}
 use Rattle.copyin_base.specs.declared.code.Code.{Code}
 use Rattle.copyin_base.specs.declared.code.Code.TheVariants.{Kern, Message}
 use Rattle.copyin_base.specs.Changes.{NotesSenders, MakesNoSends}
@@ -41,10 +42,11 @@ pub record IsDone (now : ℕ) (old : WorldView) (s : State) (event : Event) (rep
   pub mid : State
   pub owed : Owed
   pub does : Does now s event reply mid owed
+  pub judged : Judged now s event reply mid owed does
   pub shows : ShowsMid now old new mid owed
 
 -- The event is done in each state that the tables show before.
-pub record Acts (old : WorldView) (event : Event) (reply : Reply) (new : WorldView) : Type 0 where
+pub record Completes (old : WorldView) (event : Event) (reply : Reply) (new : WorldView) : Type 0 where
   pub acts : (now : ℕ) (s : State) → Shows old s → IsDone now old s event reply new
 
 -- The event is refused in each state that the tables show before, and they show it after; only room may have been made.
@@ -54,7 +56,7 @@ pub record Declines (old : WorldView) (event : Event) (code : ℕ) (new : WorldV
 
 -- What a call promises.
 abbrev pub Serves : (old : WorldView) → Event → Result Reply Code → (new : WorldView) → Type 0
-Serves old event (Ok reply) new = Acts old event reply new
+Serves old event (Ok reply) new = Completes old event reply new
 Serves old event (Err code) new = Declines old event (code_number code) new
 
 abbrev pub AreTasks : WorldView → List ℕ → Type 0
