@@ -1,5 +1,6 @@
 pub mod Entries
-pub mod Steps
+pub mod Trees
+pub mod Changes
 pub mod Rows
-pub mod Taken
+pub mod Planted
 pub mod View

@@ -1,11 +1,12 @@
--- Rows of nodes: finding a key, and what each step leaves.
-use Rattle.std.proofs.Common.{◌≡◌, ◌≢◌, inl, inr, ℕ, zero, suc, ◌+◌, ◌<◌, ◌≤◌, List, [], ◌∷◌, ◌++◌, length, Option, Some, None, slice_get, slice_set, get_or, refl, sym, ◌∙◌, ap, arith}
+-- Rows of nodes: what is found, and what each step leaves.
+use Rattle.std.proofs.Common.{◌≡◌, ◌≢◌, inl, inr, ℕ, zero, suc, ◌-◌, ◌%◌, ◌/◌, ◌^◌, ◌<◌, ◌≤◌, List, [], ◌∷◌, ◌++◌, length, Option, Some, None, slice_get, slice_set, slice_index_or, get_or, take, drop, refl, sym, ◌∙◌, ap, arith}
 use Rattle.std.specs.Option.{option_map, option_map_or}
-use Rattle.std.proofs.lemmas.List.{get_or-set_same, get_or-set_other, length-set}
+use Rattle.std.specs.Int.{bit_at}
+use Rattle.std.proofs.lemmas.List.{get_or-set_same, get_or-set_other}
 use Rattle.std.proofs.lemmas.Option.{slice_get_within, slice_get-map, slice_get_read}
 use Rattle.number_map.specs.declared.Node.{Node}
-use Rattle.number_map.specs.Kept.{slot, head_at, key_in, next_in, next_at, class_at, entry_of, entries_of, IsChained, IsAbove, IsLed, IsIndexed, HasKey, SameEntries}
-use Rattle.number_map.proofs.Steps.{equal_or_not, IsAhead, ahead_first, ahead_next, IsOn, on_next, chained_pushed}
+use Rattle.number_map.specs.Kept.{slot, head_at, key_in, link_in, key_at, link_at, out_at, entry_of, entries_of, follow, walk, IsPlanted, IsIndexed, IsWay, IsLed, IsLedBelow, HasKey, SameEntries}
+use Rattle.number_map.proofs.Trees.{equal_or_not, lower, shares, found, stops, next_bits, left, left_less, ended}
 
 pub same_some : {A : Type 0} (x y : A) → Some x ≡ Some y → x ≡ y
 same_some x y e = cc
@@ -50,40 +51,45 @@ same_list [] (y ∷ ys) is = absurd (none_some y (is 0))
 same_list (x ∷ xs) [] is = absurd (none_some x (sym (is 0)))
 same_list (x ∷ xs) (y ∷ ys) is = ap (λ a. a ∷ xs) (same_some x y (is 0)) ∙ ap (λ zs. y ∷ zs) (same_list xs ys (λ i. is (suc i)))
 
-pub above_inside : (places : ℕ) (next : ℕ → ℕ) (head place above y : ℕ) → above ≡ suc y → IsAbove places next head place above → y < places
-above_inside places next head place above y is a = (a.some y is).0
+pub popped_len : {X : Type 0} (xs ys : List X) (y : X) → xs ≡ ys ++ y ∷ [] → length xs ≡ suc (length ys)
+popped_len xs ys y e = ap (λ (zs : List _). length zs) e ∙ length_pushed ys y
+
+-- what a list is once a slice over the whole of it is written
+pub wrote : {X : Type 0} (xs ys : List X) (n : ℕ) → length xs ≡ length ys → n ≡ length ys → take n (xs ++ drop (length xs) ys) ≡ xs
+wrote [] [] n e f = rw f refl
+wrote [] (y ∷ ys) n e f = absurd (omega arith)
+wrote (x ∷ xs) [] n e f = absurd (omega arith)
+wrote (x ∷ xs) (y ∷ ys) n e f =
+    let s : suc (length xs) ≡ suc (length ys) = e in
+    let g : n ≡ suc (length ys) = f in
+    rw g (ap (λ zs. x ∷ zs) (wrote xs ys (length ys) (omega arith) refl))
 
 module _ {V : Type 0} where
   -- ---- one node
 
-  key_of_some : (nodes : List (Node V)) (x : ℕ) (n : Node V) → slice_get nodes x ≡ Some n → key_in (slice_get nodes x) ≡ n.key
+  pub key_of_some : (nodes : List (Node V)) (x : ℕ) (n : Node V) → slice_get nodes x ≡ Some n → key_at nodes (suc x) ≡ n.key
   key_of_some nodes x n e = ap (λ (o : Option (Node V)). key_in o) e
 
-  pub next_of_some : (nodes : List (Node V)) (x : ℕ) (n : Node V) → slice_get nodes x ≡ Some n → next_at nodes x ≡ n.next
-  next_of_some nodes x n e = ap (λ (o : Option (Node V)). next_in o) e
-
-  pub class_of_some : (nodes : List (Node V)) (slots x : ℕ) (n : Node V) → slice_get nodes x ≡ Some n → class_at nodes slots x ≡ slot n.key slots
-  class_of_some nodes slots x n e = ap (λ k. slot k slots) (key_of_some nodes x n e)
+  pub link_of_some : (nodes : List (Node V)) (x i : ℕ) (n : Node V) → slice_get nodes x ≡ Some n → link_at nodes x i ≡ slice_index_or n.links i 0
+  link_of_some nodes x i n e = ap (λ (o : Option (Node V)). link_in i o) e
 
   pub entry_here : (nodes : List (Node V)) (x : ℕ) (n : Node V) → slice_get nodes x ≡ Some n → slice_get (entries_of nodes) x ≡ Some (entry_of n)
   entry_here nodes x n e = slice_get-map entry_of nodes x ∙ ap (λ (o : Option (Node V)). option_map entry_of o) e
-
-  key_in_entry : Option (ℕ × V) → ℕ
-  key_in_entry o = option_map_or (λ (e : ℕ × V). e.0) o 0
 
   key_of_entry : (o : Option (Node V)) → key_in o ≡ option_map_or (λ (e : ℕ × V). e.0) (option_map entry_of o) 0
   key_of_entry None = refl
   key_of_entry (Some n) = refl
 
-  -- rows of the same entries have the same keys
-  pub same_keys : (old new : List (Node V)) (x y : ℕ) → slice_get (entries_of new) x ≡ slice_get (entries_of old) y → key_in (slice_get new x) ≡ key_in (slice_get old y)
-  same_keys old new x y e =
+  -- the same entry has the same key
+  pub same_key : (old new : List (Node V)) (x y : ℕ) → slice_get (entries_of new) x ≡ slice_get (entries_of old) y → key_at new (suc x) ≡ key_at old (suc y)
+  same_key old new x y e =
       key_of_entry (slice_get new x)
       ∙ ap (λ (o : Option (ℕ × V)). option_map_or (λ (e : ℕ × V). e.0) o 0) (sym (slice_get-map entry_of new x) ∙ e ∙ slice_get-map entry_of old y)
       ∙ sym (key_of_entry (slice_get old y))
 
-  pub same_classes : (old new : List (Node V)) (slots x : ℕ) → SameEntries old new → class_at new slots x ≡ class_at old slots x
-  same_classes old new slots x e = ap (λ k. slot k slots) (same_keys old new x x (ap (λ (es : List (ℕ × V)). slice_get es x) e))
+  pub keys_same : (old new : List (Node V)) (v : ℕ) → SameEntries old new → key_at new v ≡ key_at old v
+  keys_same old new zero e = refl
+  keys_same old new (suc x) e = same_key old new x x (ap (λ (es : List (ℕ × V)). slice_get es x) e)
 
   pub entries_len : (nodes : List (Node V)) → length (entries_of nodes) ≡ length nodes
   entries_len [] = refl
@@ -92,142 +98,239 @@ module _ {V : Type 0} where
   pub same_len : (old new : List (Node V)) → SameEntries old new → length new ≡ length old
   same_len old new e = sym (entries_len new) ∙ ap (λ (es : List (ℕ × V)). length es) e ∙ entries_len old
 
-  -- ---- finding
-
-  module _ (nodes : List (Node V)) (heads : List ℕ) (so : IsIndexed nodes heads) (key : ℕ) where
-    Sought : ℕ → Type 0
-    Sought link = IsAhead (class_at nodes (length heads)) (length nodes) (slot key (length heads)) (HasKey nodes key) link
-
-    homed : (x : ℕ) → x < length nodes → HasKey nodes key x → class_at nodes (length heads) x ≡ slot key (length heads)
-    homed x h m = class_of_some nodes (length heads) x m.0 m.1 ∙ ap (λ k. slot k (length heads)) m.2
-
-    module _ (few : slot key (length heads) < length heads) where
-      pub find_first : (link : ℕ) → link ≡ head_at heads (slot key (length heads)) → IsAhead (class_at nodes (length heads)) (length nodes) (slot key (length heads)) (HasKey nodes key) link
-      find_first link e = rw e (ahead_first (class_at nodes (length heads)) (next_at nodes) (head_at heads) (length heads) (length nodes) (slot key (length heads)) so.chained few (HasKey nodes key) homed)
-
-      pub find_next : (link y : ℕ) → link ≡ suc y → IsAhead (class_at nodes (length heads)) (length nodes) (slot key (length heads)) (HasKey nodes key) link →
-          (n : Node V) → slice_get nodes y ≡ Some n → n.key ≢ key → IsAhead (class_at nodes (length heads)) (length nodes) (slot key (length heads)) (HasKey nodes key) n.next
-      find_next link y is a n e other =
-          rw (← next_of_some nodes y n e) (ahead_next (class_at nodes (length heads)) (next_at nodes) (head_at heads) (length heads) (length nodes) (slot key (length heads)) so.chained few (HasKey nodes key) homed y (rw is at a)
-          (λ m. other (ap (λ (k : Node V). k.key) (same_some n m.0 (sym e ∙ m.1)) ∙ m.2)))
-
-    pub next_lower : (link y : ℕ) → link ≡ suc y → link ≤ length nodes → (n : Node V) → slice_get nodes y ≡ Some n → n.next < link
-    next_lower link y is w n e = let d = so.chained.down y (omega arith) in let s = next_of_some nodes y n e in omega arith
-
-    pub none_left : (link : ℕ) → IsAhead (class_at nodes (length heads)) (length nodes) (slot key (length heads)) (HasKey nodes key) link → link ≤ 0 → (x : ℕ) → HasKey nodes key x → ⊥
-    none_left link a low x m = let c = a.covers x (slice_get_within nodes x m.0 m.1) m in omega arith
-
-    pub none_kept : length heads ≡ 0 → (x : ℕ) → HasKey nodes key x → ⊥
-    none_kept none x m = let i = slice_get_within nodes x m.0 m.1 in let w = so.wide (omega arith) in omega arith
-
-  -- ---- a link is changed
-
-  module _ (nodes : List (Node V)) (y to : ℕ) (n : Node V) (at : slice_get nodes y ≡ Some n) where
-    abbrev pub linked : List (Node V)
-    linked = slice_set nodes y (record { key = n.key; value = n.value; next = to })
-
-    within_linked : y < length nodes
-    within_linked = slice_get_within nodes y n at
-
-    pub linked_next : next_at linked y ≡ to
-    linked_next = next_of_some linked y (record { key = n.key; value = n.value; next = to }) (got_set nodes y _ within_linked)
-
-    pub linked_other : (z : ℕ) → z ≢ y → next_at linked z ≡ next_at nodes z
-    linked_other z d = ap (λ (o : Option (Node V)). next_in o) (got_other nodes y z _ d)
-
-    pub linked_entries : SameEntries nodes linked
-    linked_entries = same_list (entries_of linked) (entries_of nodes) (λ i. elim (equal_or_not i y) [
-      | inl e ↦ ap (slice_get (entries_of linked)) e ∙ entry_here linked y _ (got_set nodes y _ within_linked) ∙ sym (entry_here nodes y n at) ∙ ap (slice_get (entries_of nodes)) (sym e)
-      | inr d ↦ slice_get-map entry_of linked i ∙ ap (λ (o : Option (Node V)). option_map entry_of o) (got_other nodes y i _ d) ∙ sym (slice_get-map entry_of nodes i)
-    ])
-
-    pub linked_len : length linked ≡ length nodes
-    linked_len = length-set nodes y _
-
   pub node_read : (nodes : List (Node V)) (x : ℕ) (n : Node V) → x < length nodes → n ≡ get_or nodes x n → slice_get nodes x ≡ Some n
   node_read nodes x n h e = slice_get_read nodes (length nodes) x n refl h e
 
-  pub led_above : (nodes : List (Node V)) (heads : List ℕ) (head chain place to above y : ℕ) → head ≡ head_at heads chain → IsAbove (length nodes) (next_at nodes) head place above → above ≡ suc y
-      → (n : Node V) → slice_get nodes y ≡ Some n → (m : Node V) → slice_get nodes y ≡ Some m →
-      IsLed (length nodes) (next_at nodes) (next_at (slice_set nodes y (record { key = m.key; value = m.value; next = to }))) (head_at heads) (head_at heads) chain place to n.next
-  led_above nodes heads head chain place to above y is a up n at m has = inr record {
-    y = y;
-    inside = (a.some y up).0;
-    high = (a.some y up).1;
-    low = (a.some y up).2;
-    along = λ class c stays. a.along class c (rw is stays) y up;
-    was_is = sym (next_of_some nodes y n at);
-    here = linked_next nodes y to m has;
-    other_nexts = λ z d. linked_other nodes y to m has z d;
-    heads = λ c. refl;
+  pub node_got : (nodes : List (Node V)) (x : ℕ) (n : Node V) → x < length nodes → n ≡ get_or nodes x n → slice_get nodes x ≡ Some (get_or nodes x n)
+  node_got nodes x n h e = node_read nodes x n h e ∙ ap (λ (k : Node V). Some k) e
+
+  -- ---- on the way to a key
+
+  module _ (nodes : List (Node V)) (heads : List ℕ) (places hole : ℕ) (r : IsPlanted nodes heads places hole) where
+    pub way_inside : (key d x : ℕ) → walk (link_at nodes) (head_at heads key) key d ≡ suc x → x < places
+    way_inside key d x e = let s = (shares (length heads) (key_at nodes) (out_at nodes heads) r.deep places hole r.tree key d (suc x) e (omega arith)).inside in omega arith
+
+    pub way_ends : (key : ℕ) → walk (link_at nodes) (head_at heads key) key 65 ≡ 0
+    way_ends key = stops (length heads) (key_at nodes) (out_at nodes heads) r.deep places hole r.tree key
+
+    pub way_leads : (x key : ℕ) → x < places → suc x ≢ hole → key_at nodes (suc x) ≡ key → (e : ℕ) × (walk (link_at nodes) (head_at heads key) key e ≡ suc x)
+    way_leads x key h present own =
+        let f = found (length heads) (key_at nodes) (out_at nodes heads) r.deep places hole r.tree (suc x) (omega arith) (omega arith) present in
+        (r.deep (suc x) - 1, rw own at f)
+
+    pub way_to : (x key from : ℕ) → x < places → suc x ≢ hole → key_at nodes (suc x) ≡ key → from ≡ suc x → places ≤ length nodes → IsWay nodes (head_at heads key) key from
+    way_to x key from h present own is low =
+        let f = way_leads x key h present own in
+        record { depth = f.0; is = f.1 ∙ sym is; inside = λ d y e. (let w = way_inside key d y e in omega arith); ends = way_ends key }
+
+    pub way_out : (key : ℕ) → places ≤ length nodes → IsWay nodes (head_at heads key) key 0
+    way_out key low = record { depth = 65; is = way_ends key; inside = λ d y e. (let w = way_inside key d y e in omega arith); ends = way_ends key }
+
+  module _ (nodes : List (Node V)) (first key d bits x : ℕ) (bits_is : bits ≡ key / 2 ^ d) (on : suc x ≡ walk (link_at nodes) first key d) (n : Node V) (at : slice_get nodes x ≡ Some n) where
+    pub next_link : slice_index_or n.links (bits % 2) 0 ≡ walk (link_at nodes) first key (suc d)
+    next_link =
+        let turn : bits % 2 ≡ bit_at key d = ap (λ m. m % 2) bits_is in
+        sym (link_of_some nodes x (bits % 2) n at) ∙ ap (λ i. link_at nodes x i) turn ∙ ap (λ u. follow (link_at nodes) u (bit_at key d)) on
+
+    pub next_less : walk (link_at nodes) first key 65 ≡ 0 → (next : ℕ) → next ≡ slice_index_or n.links (bits % 2) 0 → left (link_at nodes) 66 next (bits / 2) < left (link_at nodes) 66 (suc x) bits
+    next_less ends next is = left_less (link_at nodes) first key d x bits next bits_is on ends (is ∙ sym (link_of_some nodes x (bits % 2) n at))
+
+  -- ---- finding
+
+  module _ (nodes : List (Node V)) (heads : List ℕ) (key : ℕ) where
+    -- where the key is, it is found at this depth or below
+    abbrev pub IsLater : ℕ → Type 0
+    IsLater d = (x : ℕ) → HasKey nodes key x → (e : ℕ) × (d ≤ e) × (walk (link_at nodes) (head_at heads key) key e ≡ suc x)
+
+    pub later_first : IsIndexed nodes heads → IsLater 0
+    later_first r x has =
+        let f = way_leads nodes heads (length nodes) 0 r x key (slice_get_within nodes x has.0 has.1) (omega arith) (key_of_some nodes x has.0 has.1 ∙ has.2) in
+        (f.0, omega arith, f.1)
+
+    pub later_next : (d x : ℕ) → IsLater d → suc x ≡ walk (link_at nodes) (head_at heads key) key d → (n : Node V) → slice_get nodes x ≡ Some n → n.key ≢ key → IsLater (suc d)
+    later_next d x later on n at other y has =
+        let l = later y has in (
+          l.0,
+          elim (equal_or_not l.0 d) [
+            | inl e ↦
+                let same : suc x ≡ suc y = on ∙ ap (walk (link_at nodes) (head_at heads key) key) (sym e) ∙ l.2 in
+                let here : x ≡ y = omega arith in
+                absurd (other (ap (λ (k : Node V). k.key) (same_some n has.0 (sym at ∙ ap (slice_get nodes) here ∙ has.1)) ∙ has.2))
+            | inr o ↦ (let a = l.1 in omega arith)
+          ],
+          l.2,
+        )
+
+    pub none_later : (d : ℕ) → IsLater d → 0 ≡ walk (link_at nodes) (head_at heads key) key d → (x : ℕ) → HasKey nodes key x → ⊥
+    none_later d later on x has =
+        let l = later x has in
+        let z : walk (link_at nodes) (head_at heads key) key l.0 ≡ 0 = ended (link_at nodes) (head_at heads key) key d l.0 (sym on) l.1 in
+        let f = l.2 in omega arith
+
+    pub none_kept : IsIndexed nodes heads → length heads ≡ 0 → (x : ℕ) → HasKey nodes key x → ⊥
+    none_kept r none x m = let i = slice_get_within nodes x m.0 m.1 in let w = r.wide (omega arith) in omega arith
+
+  -- ---- on the way to a link
+
+  -- The node at this place leads on to the key's, and no link before led where the sought one does.
+  pub record IsLeading (nodes : List (Node V)) (first key from above bits link : ℕ) : Type 0 where
+    pub inside : above < length nodes
+    pub some : link ≢ from → 0 < link
+    pub low : link ≤ length nodes
+    pub depth : ℕ
+    pub bits_is : bits ≡ key / 2 ^ depth
+    pub on : suc above ≡ walk (link_at nodes) first key depth
+    pub next : link ≡ walk (link_at nodes) first key (suc depth)
+    pub before : (e : ℕ) → e ≤ depth → walk (link_at nodes) first key e ≢ from
+
+  module _ (nodes : List (Node V)) (first key from : ℕ) (way : IsWay nodes first key from) where
+    leading_at : (d above bits : ℕ) → bits ≡ key / 2 ^ d → suc above ≡ walk (link_at nodes) first key d → ((e : ℕ) → e ≤ d → walk (link_at nodes) first key e ≢ from)
+        → (n : Node V) → slice_get nodes above ≡ Some n → IsLeading nodes first key from above bits (slice_index_or n.links (bits % 2) 0)
+    leading_at d above bits b on before n at =
+        let next = next_link nodes first key d bits above b on n at in
+        let link : ℕ = slice_index_or n.links (bits % 2) 0 in
+        record {
+          inside = way.inside d above (sym on);
+          some = λ other. elim (equal_or_not link 0) [
+            | inl z ↦
+                let none : walk (link_at nodes) first key (suc d) ≡ 0 = sym next ∙ z in
+                elim (lower d way.depth) [
+                  | inl h ↦ absurd (other (z ∙ sym (ended (link_at nodes) first key (suc d) way.depth none h) ∙ way.is))
+                  | inr h ↦ absurd (before way.depth h way.is)
+                ]
+            | inr o ↦ omega arith
+          ];
+          low = elim (equal_or_not link 0) [
+            | inl z ↦ omega arith
+            | inr o ↦
+                let up : link ≡ suc (link - 1) = omega arith in
+                let i = way.inside (suc d) (link - 1) (sym next ∙ up) in omega arith
+          ];
+          depth = d;
+          bits_is = b;
+          on = on;
+          next = next;
+          before = before;
+        }
+
+    pub leading_first : 0 < first → first ≢ from → (n : Node V) → slice_get nodes (first - 1) ≡ Some n → IsLeading nodes first key from (first - 1) key (slice_index_or n.links (key % 2) 0)
+    leading_first some other n at =
+        let one : key ≡ key / 2 ^ 0 = grind arith in
+        let up : suc (first - 1) ≡ first = omega arith in
+        leading_at 0 (first - 1) key one up (λ e h. let z : e ≡ 0 = omega arith in rw z other) n at
+
+    module _ (above bits link : ℕ) (so : IsLeading nodes first key from above bits link) (other : link ≢ from) where
+      pub leading_next : (n : Node V) → slice_get nodes (link - 1) ≡ Some n → IsLeading nodes first key from (link - 1) (bits / 2) (slice_index_or n.links (bits / 2 % 2) 0)
+      leading_next n at =
+          let up : suc (link - 1) ≡ link = (let s = so.some other in omega arith) in
+          leading_at (suc so.depth) (link - 1) (bits / 2) (next_bits key so.depth bits so.bits_is) (up ∙ so.next)
+          (λ e h. elim (equal_or_not e (suc so.depth)) [
+            | inl z ↦ rw z (λ f. other (so.next ∙ f))
+            | inr o ↦ so.before e (omega arith)
+          ]) n at
+
+      pub leading_less : left (link_at nodes) 66 (suc (link - 1)) (bits / 2) < left (link_at nodes) 66 (suc above) bits
+      leading_less =
+          let up : suc (link - 1) ≡ link = (let s = so.some other in omega arith) in
+          let turn : bits % 2 ≡ bit_at key so.depth = ap (λ m. m % 2) so.bits_is in
+          left_less (link_at nodes) first key so.depth above bits (suc (link - 1)) so.bits_is so.on way.ends
+          (up ∙ so.next ∙ ap (λ u. follow (link_at nodes) u (bit_at key so.depth)) (sym so.on) ∙ ap (λ i. link_at nodes above i) (sym turn))
+
+  -- ---- a link is turned
+
+  module _ (nodes : List (Node V)) (x : ℕ) (n m : Node V) (at : slice_get nodes x ≡ Some n) where
+    inside_turned : x < length nodes
+    inside_turned = slice_get_within nodes x n at
+
+    pub turned_here : (j : ℕ) → link_at (slice_set nodes x m) x j ≡ slice_index_or m.links j 0
+    turned_here j = link_of_some (slice_set nodes x m) x j m (got_set nodes x m inside_turned)
+
+    pub turned_other : (w j : ℕ) → w ≢ x → link_at (slice_set nodes x m) w j ≡ link_at nodes w j
+    turned_other w j d = ap (λ (o : Option (Node V)). link_in j o) (got_other nodes x w m d)
+
+    pub turned_entries : m.key ≡ n.key → m.value ≡ n.value → SameEntries nodes (slice_set nodes x m)
+    turned_entries k v = same_list (entries_of (slice_set nodes x m)) (entries_of nodes) (λ i. elim (equal_or_not i x) [
+      | inl e ↦
+          ap (slice_get (entries_of (slice_set nodes x m))) e ∙ entry_here (slice_set nodes x m) x m (got_set nodes x m inside_turned)
+          ∙ ap (λ (a : ℕ). Some (a, m.value)) k ∙ ap (λ (b : V). Some (n.key, b)) v ∙ sym (entry_here nodes x n at) ∙ ap (slice_get (entries_of nodes)) (sym e)
+      | inr d ↦ slice_get-map entry_of (slice_set nodes x m) i ∙ ap (λ (o : Option (Node V)). option_map entry_of o) (got_other nodes x i m d) ∙ sym (slice_get-map entry_of nodes i)
+    ])
+
+    pub turned_link : (side to : ℕ) → slice_index_or m.links side 0 ≡ to → ((i : ℕ) → i ≢ side → slice_index_or m.links i 0 ≡ slice_index_or n.links i 0)
+        → (link_at (slice_set nodes x m) x side ≡ to) × ((w j : ℕ) → (w ≡ x → j ≡ side → ⊥) → link_at (slice_set nodes x m) w j ≡ link_at nodes w j)
+    turned_link side to here others = (
+      turned_here side ∙ here,
+      λ w j d. elim (equal_or_not w x) [
+        | inl e ↦
+            ap (λ y. link_at (slice_set nodes x m) y j) e ∙ turned_here j ∙ others j (λ f. d e f)
+            ∙ sym (link_of_some nodes x j n at) ∙ ap (λ y. link_at nodes y j) (sym e)
+        | inr o ↦ turned_other w j o
+      ],
+    )
+
+    pub led_below : (first key from to bits link : ℕ) → IsLeading nodes first key from x bits link → link ≡ from → slice_index_or m.links (bits % 2) 0 ≡ to
+        → ((i : ℕ) → i ≢ bits % 2 → slice_index_or m.links i 0 ≡ slice_index_or n.links i 0) → IsLedBelow nodes (slice_set nodes x m) first key from to
+    led_below first key from to bits link so is here others =
+        let turn : bits % 2 ≡ bit_at key so.depth = ap (λ m. m % 2) so.bits_is in
+        record {
+          depth = so.depth;
+          x = x;
+          on = sym so.on;
+          was = ap (λ u. follow (link_at nodes) u (bit_at key so.depth)) so.on ∙ sym so.next ∙ is;
+          is = turned_here (bit_at key so.depth) ∙ ap (λ i. slice_index_or m.links i 0) (sym turn) ∙ here;
+          others = λ w j d. elim (equal_or_not w x) [
+            | inl e ↦
+                ap (λ y. link_at (slice_set nodes x m) y j) e ∙ turned_here j ∙ others j (λ f. d e (f ∙ turn))
+                ∙ sym (link_of_some nodes x j n at) ∙ ap (λ y. link_at nodes y j) (sym e)
+            | inr o ↦ turned_other w j o
+          ];
+        }
+
+  -- ---- a link is led elsewhere, from the head on
+
+  module _ (nodes : List (Node V)) (heads : List ℕ) (key from : ℕ) (way : IsWay nodes (head_at heads key) key from) where
+    pub head_some : head_at heads key ≢ from → 0 < head_at heads key
+    head_some other = elim (equal_or_not (head_at heads key) 0) [
+      | inl z ↦ absurd (other (z ∙ sym (ended (link_at nodes) (head_at heads key) key 0 way.depth z (omega arith)) ∙ way.is))
+      | inr n ↦ omega arith
+    ]
+
+    pub head_low : head_at heads key ≤ length nodes
+    head_low = elim (equal_or_not (head_at heads key) 0) [
+      | inl z ↦ omega arith
+      | inr n ↦
+          let up : head_at heads key ≡ suc (head_at heads key - 1) = omega arith in
+          let i = way.inside 0 (head_at heads key - 1) up in omega arith
+    ]
+
+  others_head : (nodes : List (Node V)) (heads : List ℕ) (s to w j : ℕ) → (w ≡ 0 → j ≡ s → ⊥) → out_at nodes (slice_set heads s to) w j ≡ out_at nodes heads w j
+  others_head nodes heads s to zero j d = get_or-set_other heads s j to 0 (λ e. d refl e)
+  others_head nodes heads s to (suc x) j d = refl
+
+  pub led_head : (nodes : List (Node V)) (heads : List ℕ) (key from to s : ℕ) → s ≡ slot key (length heads) → s < length heads → slice_index_or heads s 0 ≡ from
+      → IsLed (length heads) (out_at nodes heads) (out_at nodes (slice_set heads s to)) key from to
+  led_head nodes heads key from to s is few was = record {
+    depth = 0;
+    u = 0;
+    on = refl;
+    turned = record {
+      was = ap (λ i. slice_index_or heads i 0) (sym is) ∙ was;
+      is = ap (λ i. slice_index_or (slice_set heads s to) i 0) (sym is) ∙ get_or-set_same heads s to 0 few;
+      others = λ w j d. others_head nodes heads s to w j (λ e f. d e (f ∙ is));
+    };
   }
 
-  pub led_at_head : (nodes : List (Node V)) (heads : List ℕ) (head slot place to above : ℕ) → slot < length heads → head ≡ head_at heads slot → IsAbove (length nodes) (next_at nodes) head place above → above ≡ 0 →
-      IsLed (length nodes) (next_at nodes) (next_at nodes) (head_at heads) (head_at (slice_set heads slot to)) slot place to head
-  led_at_head nodes heads head slot place to above few is a none = inl record {
-    low = let l = a.none none in omega arith;
-    was_is = is;
-    here = get_or-set_same heads slot to 0 few;
-    other_heads = λ c d. get_or-set_other heads slot c to 0 d;
-    nexts = λ z. refl;
-  }
+  others_on : (old new : List (Node V)) (heads : List ℕ) (first key from to : ℕ) (b : IsLedBelow old new first key from to) (w j : ℕ) → (w ≡ suc b.x → j ≡ bit_at key b.depth → ⊥) → out_at new heads w j ≡ out_at old heads w j
+  others_on old new heads first key from to b zero j d = refl
+  others_on old new heads first key from to b (suc y) j d = b.others y j (λ e f. d (ap (λ n. suc n) e) f)
 
-  -- ---- a node joins
-
-  pub indexed : (nodes : List (Node V)) (heads : List ℕ) (slots : ℕ) → length heads ≡ slots → (0 < length nodes → 0 < slots) → IsChained (class_at nodes slots) slots (length nodes) (next_at nodes) (head_at heads) → IsIndexed nodes heads
-  indexed nodes heads slots e wide so = (record { chained = rw e so; wide = λ h. let w = wide h in omega arith })
-
-  module _ (nodes : List (Node V)) (heads : List ℕ) (so : IsIndexed nodes heads) (n : Node V) (few : slot n.key (length heads) < length heads)
-      (next_is : n.next ≡ head_at heads (slot n.key (length heads))) (link : ℕ) (link_is : link ≡ suc (length nodes)) where
-    abbrev c : ℕ
-    c = slot n.key (length heads)
-
-    abbrev pub more : List (Node V)
-    more = nodes ++ n ∷ []
-
-    more_len : length more ≡ suc (length nodes)
-    more_len = length_pushed nodes n
-
-    pub indexed_pushed : IsIndexed more (slice_set heads c link)
-    indexed_pushed = indexed more (slice_set heads c link) (length heads) (length-set heads c link) (λ h. omega arith)
-        (rw more_len (chained_pushed (class_at nodes (length heads)) (class_at more (length heads)) (next_at nodes) (next_at more) (head_at heads) (head_at (slice_set heads c link)) (length heads) (length nodes) c so.chained few
-        (λ x h. ap (λ (o : Option (Node V)). slot (key_in o) (length heads)) (got_before nodes (n ∷ []) x h))
-        (λ x h. ap (λ (o : Option (Node V)). next_in o) (got_before nodes (n ∷ []) x h))
-        (class_of_some more (length heads) (length nodes) n (got_last nodes n))
-        (next_of_some more (length nodes) n (got_last nodes n) ∙ next_is)
-        (get_or-set_same heads c link 0 few ∙ link_is)
-        (λ d o. get_or-set_other heads c d link 0 o)))
-
-  -- ---- each node in its chain, one after the other
-
-  module _ (nodes : List (Node V)) (heads : List ℕ) (place : ℕ) (n m : Node V) (at : slice_get nodes place ≡ Some n) (has : slice_get nodes place ≡ Some m) (to : ℕ)
-      (chain : ℕ) (chain_is : chain ≡ slot n.key (length heads)) (few : chain < length heads) (to_is : to ≡ head_at heads chain)
-      (so : IsChained (class_at nodes (length heads)) (length heads) place (next_at nodes) (head_at heads)) where
-    abbrev then : List (Node V)
-    then = linked nodes place to m has
-
-    pub chained_one_more : IsChained (class_at then (length (slice_set heads chain (place + 1)))) (length (slice_set heads chain (place + 1))) (place + 1) (next_at then) (head_at (slice_set heads chain (place + 1)))
-    chained_one_more =
-        let e : place + 1 ≡ suc place = omega arith in
-        rw (length-set heads chain (place + 1), e) (chained_pushed (class_at nodes (length heads)) (class_at then (length heads)) (next_at nodes) (next_at then) (head_at heads) (head_at (slice_set heads chain (suc place))) (length heads) place chain so few
-        (λ x h. same_classes nodes then (length heads) x (linked_entries nodes place to m has))
-        (λ x h. linked_other nodes place to m has x (λ e. omega arith))
-        (same_classes nodes then (length heads) place (linked_entries nodes place to m has) ∙ class_of_some nodes (length heads) place n at ∙ sym chain_is)
-        (linked_next nodes place to m has ∙ to_is)
-        (get_or-set_same heads chain (suc place) 0 few)
-        (λ c o. get_or-set_other heads chain c (suc place) 0 o))
-
-  -- ---- going along above a place
-
-  module _ (nodes : List (Node V)) (head place : ℕ) (down : (y : ℕ) → y < length nodes → next_at nodes y ≤ y) where
-    pub on_after : (above link y : ℕ) → link ≡ suc y → IsOn (length nodes) (next_at nodes) head place above link → suc place < link → (n : Node V) → n ≡ get_or nodes y n → IsOn (length nodes) (next_at nodes) head place link (get_or nodes y n).next
-    on_after above link y is on high n e =
-        let on' : IsOn (length nodes) (next_at nodes) head place above (suc y) = rw is at on in
-        let at = node_read nodes y n (let w : suc y ≤ length nodes = on'.within in omega arith) e in
-        rw (← e, is, ← next_of_some nodes y n at) (on_next (length nodes) (next_at nodes) head place down above y on' (omega arith))
-
-  pub down_link : (nodes : List (Node V)) → ((y : ℕ) → y < length nodes → next_at nodes y ≤ y) → (link y : ℕ) → link ≡ suc y → link ≤ length nodes → (n : Node V) → n ≡ get_or nodes y n → (get_or nodes y n).next < link
-  down_link nodes down link y is w n e =
-      let at = node_read nodes y n (omega arith) e in
-      let same : (get_or nodes y n).next ≡ n.next = sym (ap (λ (k : Node V). k.next) e) in
-      let d = down y (omega arith) in let s = next_of_some nodes y n at in omega arith
+  pub led_on : (old new : List (Node V)) (heads : List ℕ) (key from to s : ℕ) → s ≡ slot key (length heads) → IsLedBelow old new (slice_index_or heads s 0) key from to
+      → IsLed (length heads) (out_at old heads) (out_at new heads) key from to
+  led_on old new heads key from to s is b' =
+      let b : IsLedBelow old new (head_at heads key) key from to = rw is at b' in
+      record {
+        depth = suc b.depth;
+        u = suc b.x;
+        on = (b.on, omega arith);
+        turned = record { was = b.was; is = b.is; others = λ w j d. others_on old new heads (head_at heads key) key from to b w j d };
+      }

@@ -8,10 +8,11 @@ use Rattle.std.proofs.lemmas.Bool.Decides.{eqb_tells}
 use Rattle.std.proofs.lemmas.List.{length-set}
 use Rattle.std.proofs.lemmas.Option.{slice_get_within, slice_get-map}
 use Rattle.number_map.specs.declared.Node.{Node}
-use Rattle.number_map.specs.Kept.{slot, head_at, key_in, next_in, next_at, class_at, entry_of, entries_of, HasKey, IsUnique, IsIndexed, SameEntries, IsTakenOut, IsKept}
-use Rattle.number_map.proofs.Steps.{equal_or_not, chained-frame}
+use Rattle.number_map.specs.Kept.{entry_of, entries_of, HasKey, IsUnique, IsIndexed, SameEntries, IsTakenOut, IsKept}
+use Rattle.number_map.proofs.Trees.{equal_or_not}
 use Rattle.number_map.proofs.Entries.{lookup_none, lookup_at, looked_put, looked_out, put-table, out-table}
-use Rattle.number_map.proofs.Rows.{same_some, none_some, got_set, got_other, got_before, got_last, length_pushed, entries_len, entry_here, class_of_some, next_of_some, indexed, indexed_pushed}
+use Rattle.number_map.proofs.Rows.{same_some, none_some, got_set, got_other, got_before, got_last, length_pushed, entries_len, entry_here, same_len}
+use Rattle.number_map.proofs.Planted.{indexed_valued}
 
 module _ {V : Type 0} where
   -- ---- nodes and entries
@@ -66,28 +67,33 @@ module _ {V : Type 0} where
         (λ q d y v at. (y, got_before es (e ∷ []) y (slice_get_within es y (q, v) at) ∙ at))
         (length es) e.1 (got_last es e)
 
-  module _ (nodes : List (Node V)) (heads : List ℕ) (capacity room : ℕ) (k : IsKept nodes heads capacity room) (some : 0 < room)
-      (n : Node V) (alone : lookup (nat_eq n.key) (entries_of nodes) ≡ None) (chain : ℕ) (chain_is : chain ≡ slot n.key (length heads)) (few : chain < length heads)
-      (next_is : n.next ≡ head_at heads chain) (link : ℕ) (link_is : link ≡ suc (length nodes)) (more : List (Node V)) (more_is : more ≡ nodes ++ n ∷ []) where
-    pub kept_pushed : IsKept more (slice_set heads chain link) capacity (room - 1)
-    kept_pushed = rw more_is (record {
-      unique = rw (entries_pushed nodes n) (unique_pushed (entries_of nodes) k.unique (entry_of n) alone);
-      indexed = rw chain_is (indexed_pushed nodes heads k.indexed n (rw chain_is at few) (rw chain_is at next_is) link link_is);
-      fits = let f = k.fits in let l = length_pushed nodes n in omega arith;
-      few = let f = k.few in let l = length_pushed nodes n in omega arith;
-      ready = λ h. let r = k.ready some in let l = length-set heads chain link in omega arith;
-    })
+  module _ (nodes more : List (Node V)) (heads heads' : List ℕ) (capacity room : ℕ) (k : IsKept nodes heads capacity room) (some : 0 < room)
+      (n : Node V) (alone : lookup (nat_eq n.key) (entries_of nodes) ≡ None) (indexed : IsIndexed more heads') (same : SameEntries (nodes ++ n ∷ []) more) (len : length heads' ≡ length heads) where
+    pub kept_pushed : IsKept more heads' capacity (room - 1)
+    kept_pushed =
+        let l : length more ≡ suc (length nodes) = same_len (nodes ++ n ∷ []) more same ∙ length_pushed nodes n in
+        record {
+          unique = rw (same, entries_pushed nodes n) (unique_pushed (entries_of nodes) k.unique (entry_of n) alone);
+          indexed = indexed;
+          fits = let f = k.fits in omega arith;
+          few = let f = k.few in omega arith;
+          ready = λ h. let r = k.ready some in omega arith;
+        }
 
-    pub table_pushed : map.from_entries {R = nat_cmp} (entries_of more) ≡ map.insert (map.from_entries (entries_of nodes)) n.key n.value
-    table_pushed = put-table (entries_of nodes) (entries_of more) n.key n.value
-        (rw (more_is, entries_pushed nodes n) (looked_pushed (entries_of nodes) k.unique (entry_of n) alone))
+  pub table_pushed : (nodes more : List (Node V)) → IsUnique (entries_of nodes) → (n : Node V) → lookup (nat_eq n.key) (entries_of nodes) ≡ None → SameEntries (nodes ++ n ∷ []) more
+      → map.from_entries {R = nat_cmp} (entries_of more) ≡ map.insert (map.from_entries (entries_of nodes)) n.key n.value
+  table_pushed nodes more u n alone same = put-table (entries_of nodes) (entries_of more) n.key n.value
+      (rw (same, entries_pushed nodes n) (looked_pushed (entries_of nodes) u (entry_of n) alone))
+
+  pub unique_joined : (nodes : List (Node V)) (n : Node V) → IsUnique (entries_of nodes) → lookup (nat_eq n.key) (entries_of nodes) ≡ None → IsUnique (entries_of (nodes ++ n ∷ []))
+  unique_joined nodes n u alone = rw (entries_pushed nodes n) (unique_pushed (entries_of nodes) u (entry_of n) alone)
 
   -- ---- a key has another value
 
   module _ (nodes : List (Node V)) (heads : List ℕ) (capacity room : ℕ) (k : IsKept nodes heads capacity room) (key x : ℕ) (has : HasKey nodes key x)
       (n : Node V) (at : slice_get nodes x ≡ Some n) (value : V) where
     abbrev changed : List (Node V)
-    changed = slice_set nodes x (record { key = n.key; value = value; next = n.next })
+    changed = slice_set nodes x (record { key = n.key; value = value; links = n.links })
 
     inside : x < length nodes
     inside = slice_get_within nodes x n at
@@ -121,25 +127,12 @@ module _ {V : Type 0} where
         (λ q d y v h. (y, aside y (λ e. d (ap (λ (p : ℕ × V). p.0) (same_some (q, v) (entry_of n) (sym h ∙ ap (slice_get (entries_of nodes)) e ∙ entry_here nodes x n at)) ∙ own)) ∙ h))
         x value (here ∙ ap (λ p. Some (p, value)) own)
 
-    same_node : (y : ℕ) → (class_at changed (length heads) y ≡ class_at nodes (length heads) y) × (next_at changed y ≡ next_at nodes y)
-    same_node y = elim (equal_or_not y x) [
-      | inl e ↦
-          rw e (
-            class_of_some changed (length heads) x _ (got_set nodes x _ inside) ∙ sym (class_of_some nodes (length heads) x n at),
-            next_of_some changed x _ (got_set nodes x _ inside) ∙ sym (next_of_some nodes x n at),
-          )
-      | inr d ↦ (ap (λ (o : Option (Node V)). slot (key_in o) (length heads)) (got_other nodes x y _ d), ap (λ (o : Option (Node V)). next_in o) (got_other nodes x y _ d))
-    ]
-
     pub kept_changed : IsKept changed heads capacity room
     kept_changed = record {
       unique = unique_changed;
-      indexed = indexed changed heads (length heads) refl (λ h. k.indexed.wide (let l = length-set nodes x (let m : Node V = record { key = n.key; value = value; next = n.next } in m) in omega arith))
-          (rw (length-set nodes x (let m : Node V = record { key = n.key; value = value; next = n.next } in m))
-          (chained-frame (class_at nodes (length heads)) (class_at changed (length heads)) (next_at nodes) (next_at changed) (head_at heads) (head_at heads) (length heads) (length nodes)
-          (λ y h. (same_node y).0) (λ y h. (same_node y).1) (λ c. refl) k.indexed.chained));
-      fits = let f = k.fits in let l = length-set nodes x (let m : Node V = record { key = n.key; value = value; next = n.next } in m) in omega arith;
-      few = let f = k.few in let l = length-set nodes x (let m : Node V = record { key = n.key; value = value; next = n.next } in m) in omega arith;
+      indexed = indexed_valued nodes heads x n _ at refl refl k.indexed;
+      fits = let f = k.fits in let l = length-set nodes x (let m : Node V = record { key = n.key; value = value; links = n.links } in m) in omega arith;
+      few = let f = k.few in let l = length-set nodes x (let m : Node V = record { key = n.key; value = value; links = n.links } in m) in omega arith;
       ready = k.ready;
     }
 
@@ -153,42 +146,25 @@ module _ {V : Type 0} where
     gone : slice_get (entries_of nodes) x ≡ Some (key, has.0.value)
     gone = entry_here nodes x has.0 has.1 ∙ ap (λ p. Some (p, has.0.value)) has.2
 
-    -- where it was before
-    from : (y : ℕ) (a : ℕ × V) → slice_get (entries_of rest) y ≡ Some a → (z : ℕ) × (slice_get (entries_of nodes) z ≡ Some a) × (z ≢ x) × (((y ≡ x) × (z ≡ length rest)) ⊎ ((y ≢ x) × (z ≡ y)))
-    from y a h =
-        let less : y < length rest = (let w = slice_get_within (entries_of rest) y a h in let l = entries_len rest in omega arith) in
-        elim (equal_or_not y x) [
-          | inl e ↦ (length rest, sym (ap (slice_get (entries_of rest)) e ∙ t.moved (omega arith)) ∙ h, (λ s. omega arith), inl (e, refl))
-          | inr d ↦ (y, sym (t.others y less d) ∙ h, d, inr (d, refl))
-        ]
+    less : (y : ℕ) (a : ℕ × V) → slice_get (entries_of rest) y ≡ Some a → y < length rest
+    less y a h = let w = slice_get_within (entries_of rest) y a h in let l = entries_len rest in omega arith
+
+    from : (y : ℕ) (a : ℕ × V) → slice_get (entries_of rest) y ≡ Some a → slice_get (entries_of nodes) (t.was y) ≡ Some a
+    from y a h = sym (t.came y (less y a h)) ∙ h
 
     onto : (z : ℕ) (a : ℕ × V) → slice_get (entries_of nodes) z ≡ Some a → z ≢ x → (y : ℕ) × (slice_get (entries_of rest) y ≡ Some a)
     onto z a h d =
-        let less : z < length nodes = (let w = slice_get_within (entries_of nodes) z a h in let l = entries_len nodes in omega arith) in
-        let len = t.len in
-        elim (equal_or_not z (length rest)) [
-          | inl e ↦ (x, t.moved (let i = key_inside nodes key x has in omega arith) ∙ ap (slice_get (entries_of nodes)) (sym e) ∙ h)
-          | inr o ↦ (z, t.others z (omega arith) d ∙ h)
-        ]
+        let p = t.all z (let w = slice_get_within (entries_of nodes) z a h in let l = entries_len nodes in omega arith) d in
+        (p.0, t.came p.0 p.1 ∙ ap (slice_get (entries_of nodes)) p.2 ∙ h)
 
     unique_left : IsUnique (entries_of rest)
-    unique_left y z a b p q s =
-        let f = from y a p in
-        let g = from z b q in
-        let same : f.0 ≡ g.0 = k.unique f.0 g.0 a b f.1 g.1 s in
-        let fy = slice_get_within (entries_of rest) y a p in
-        let gz = slice_get_within (entries_of rest) z b q in
-        let l = entries_len rest in
-        elim f.3 [
-          | inl i ↦ elim g.3 [ inl j ↦ i.0 ∙ sym j.0 | inr j ↦ absurd (let i1 = i.1 in let j1 = j.1 in omega arith) ]
-          | inr i ↦ elim g.3 [ inl j ↦ absurd (let i1 = i.1 in let j1 = j.1 in omega arith) | inr j ↦ sym i.1 ∙ same ∙ j.1 ]
-        ]
+    unique_left y z a b p q s = t.once y z (less y a p) (less z b q) (k.unique (t.was y) (t.was z) a b (from y a p) (from z b q) s)
 
     looked_left : (q : ℕ) → lookup (nat_eq q) (entries_of rest) ≡ cond (nat_eq key q) None (lookup (nat_eq q) (entries_of nodes))
     looked_left = looked_out (entries_of nodes) (entries_of rest) k.unique unique_left key
-        (λ q d y v h. let f = from y (q, v) h in (f.0, f.1))
+        (λ q d y v h. (t.was y, from y (q, v) h))
         (λ q d z v h. onto z (q, v) h (λ e. d (ap (λ (p : ℕ × V). p.0) (same_some (q, v) (key, has.0.value) (sym h ∙ ap (slice_get (entries_of nodes)) e ∙ gone)))))
-        (λ y v h. let f = from y (key, v) h in f.2 (k.unique f.0 x (key, v) (key, has.0.value) f.1 gone refl))
+        (λ y v h. t.others y (less y (key, v) h) (k.unique (t.was y) x (key, v) (key, has.0.value) (from y (key, v) h) gone refl))
 
     pub kept_left : (heads' : List ℕ) → IsIndexed rest heads' → length heads' ≡ length heads → IsKept rest heads' capacity room
     kept_left heads' so len = record {

@@ -1,77 +1,94 @@
--- How a map from numbers is kept: its keys in a row, each in the chain of its hash. No public clause cites this module.
-use Rattle.std.specs.Prelude.{◌≡◌, ◌≢◌, ◌⊎◌, ℕ, suc, ◌+◌, ◌-◌, ◌*◌, ◌%◌, ◌^◌, ◌<◌, ◌≤◌, List, map, length, Option, Some, slice_get, slice_index_or, bit_and}
+-- How a map from numbers is kept: its keys in a row, each in the tree of its hash. No public clause cites this module.
+use Rattle.std.specs.Prelude.{◌≡◌, ◌≢◌, ℕ, zero, suc, ◌+◌, ◌-◌, ◌*◌, ◌%◌, ◌^◌, ◌<◌, ◌≤◌, List, map, length, Option, Some, slice_get, slice_index_or, bit_and}
 use Rattle.std.specs.Option.{option_map_or}
-use Rattle.std.specs.Int.{w64, rotate_right}
+use Rattle.std.specs.Int.{w64, rotate_right, bit_at}
 use Rattle.number_map.specs.declared.Node.{Node}
 
--- the chain of a key, where there are so many
+-- the tree of a key, where there are so many
 unfoldable pub slot : ℕ → ℕ → ℕ
 slot key slots = bit_and (rotate_right w64 (key * 2049577361 % 2 ^ 64) 31) (slots - 1)
 
--- ---- chains, by functions: the class of each place, the link that lies there, and the link at the head of each class
+-- ---- trees, by functions: node 0 is the root above all of them, and place x is node x + 1; 0 is also a link that leads nowhere
 
--- A link to the highest place of a class below this one: that place and 1, or 0 where there is none.
-pub record IsLink (class : ℕ → ℕ) (below c link : ℕ) : Type 0 where
-  pub covers : (x : ℕ) → x < below → class x ≡ c → x < link
-  pub within : link ≤ below
-  pub leads : (x : ℕ) → link ≡ suc x → class x ≡ c
+-- the link that leads towards a key from a node at this depth: from the root by the hash, and then by one bit of the key after the other
+abbrev pub turn : (slots depth key : ℕ) → ℕ
+turn slots zero key = slot key slots
+turn slots (suc d) key = bit_at key d
 
--- A place whose class is none of those below `slots` is in no chain.
-pub record IsChained (class : ℕ → ℕ) (slots places : ℕ) (next head : ℕ → ℕ) : Type 0 where
-  pub heads : (c : ℕ) → c < slots → IsLink class places c (head c)
-  pub nexts : (y : ℕ) → y < places → class y < slots → IsLink class y (class y) (next y)
-  pub down : (y : ℕ) → y < places → next y ≤ y
+-- keys that turn the same way at each depth below this one
+abbrev pub AreAlike : (slots depth key key' : ℕ) → Type 0
+AreAlike slots depth key key' = (e : ℕ) → e < depth → turn slots e key ≡ turn slots e key'
 
--- All places along the chain from this head are of the class c, if the head is, and so is what each of them leads to.
-abbrev pub StaysIn : (class : ℕ → ℕ) (places : ℕ) (next : ℕ → ℕ) (c head : ℕ) → Type 0
-StaysIn class places next c head = ((x : ℕ) → head ≡ suc x → class x ≡ c) × ((y x : ℕ) → y < places → class y ≡ c → next y ≡ suc x → class x ≡ c)
+-- A link leads to a node of the row, one deeper, whose key turns as the node does that has the link, and then into the link.
+pub record IsBelow (slots : ℕ) (key deep : ℕ → ℕ) (places hole u i v : ℕ) : Type 0 where
+  pub inside : v ≤ places
+  pub present : v ≢ hole
+  pub deeper : deep v ≡ suc (deep u)
+  pub turned : turn slots (deep u) (key v) ≡ i
+  pub alike : AreAlike slots (deep u) (key u) (key v)
 
--- The link to the lowest place above this one along a chain, or 0 where there is none.
-pub record IsAbove (places : ℕ) (next : ℕ → ℕ) (head place above : ℕ) : Type 0 where
-  pub none : above ≡ 0 → head ≤ suc place
-  pub some : (y : ℕ) → above ≡ suc y → (y < places) × (place < y) × (next y ≤ suc place)
-  pub along : (class : ℕ → ℕ) (c : ℕ) → StaysIn class places next c head → (y : ℕ) → above ≡ suc y → class y ≡ c
+-- Nodes up to `places` lie in trees, but for the hole, if that is not 0. `out u i` is link i of node u.
+pub record IsTree (slots : ℕ) (key : ℕ → ℕ) (out : ℕ → ℕ → ℕ) (deep : ℕ → ℕ) (places hole : ℕ) : Type 0 where
+  pub root : (u : ℕ) → deep u ≡ 0 → u ≡ 0
+  pub top : deep 0 ≡ 0
+  pub shallow : (u : ℕ) → u ≤ places → deep u ≤ 65
+  pub down : (u i v : ℕ) → u ≤ places → out u i ≡ v → v ≢ 0 → IsBelow slots key deep places hole u i v
+  pub up : (v : ℕ) → v ≢ 0 → v ≤ places → v ≢ hole → (u : ℕ) × (u ≤ places) × (out u (turn slots (deep u) (key v)) ≡ v)
+  pub empty : (i : ℕ) → hole ≢ 0 → out hole i ≡ 0
 
--- The link of a chain that led to a place, or passed it, leads elsewhere: it is the head, or lies above the place.
-pub record IsLedAtHead (next next' head head' : ℕ → ℕ) (slot place to was : ℕ) : Type 0 where
-  pub low : head slot ≤ suc place
-  pub was_is : was ≡ head slot
-  pub here : head' slot ≡ to
-  pub other_heads : (c : ℕ) → c ≢ slot → head' c ≡ head c
-  pub nexts : (z : ℕ) → next' z ≡ next z
+-- link i of a node, and none where there is no node
+abbrev pub follow : (link : ℕ → ℕ → ℕ) (u i : ℕ) → ℕ
+follow link zero i = 0
+follow link (suc x) i = link x i
 
-pub record IsLedAbove (places : ℕ) (next next' head head' : ℕ → ℕ) (slot place to was : ℕ) : Type 0 where
-  pub y : ℕ
-  pub inside : y < places
-  pub high : place < y
-  pub low : next y ≤ suc place
-  pub along : (class : ℕ → ℕ) (c : ℕ) → StaysIn class places next c (head slot) → class y ≡ c
-  pub was_is : was ≡ next y
-  pub here : next' y ≡ to
-  pub other_nexts : (z : ℕ) → z ≢ y → next' z ≡ next z
-  pub heads : (c : ℕ) → head' c ≡ head c
+-- the node at this depth below the first on the way to a key, or 0
+abbrev pub walk : (link : ℕ → ℕ → ℕ) (first key depth : ℕ) → ℕ
+walk link first key zero = first
+walk link first key (suc d) = follow link (walk link first key d) (bit_at key d)
 
-abbrev pub IsLed : (places : ℕ) (next next' head head' : ℕ → ℕ) (slot place to was : ℕ) → Type 0
-IsLed places next next' head head' slot place to was = IsLedAtHead next next' head head' slot place to was ⊎ IsLedAbove places next next' head head' slot place to was
+-- the node at this depth on the way to a key, from the root
+abbrev pub IsOn : (link : ℕ → ℕ → ℕ) (first key depth u : ℕ) → Type 0
+IsOn link first key zero u = u ≡ 0
+IsOn link first key (suc d) u = (walk link first key d ≡ u) × (u ≢ 0)
 
-abbrev pub head_at : List ℕ → ℕ → ℕ
-head_at heads c = slice_index_or heads c 0
+-- One link leads elsewhere.
+pub record IsTurned (out out' : ℕ → ℕ → ℕ) (u i from to : ℕ) : Type 0 where
+  pub was : out u i ≡ from
+  pub is : out' u i ≡ to
+  pub others : (w j : ℕ) → (w ≡ u → j ≡ i → ⊥) → out' w j ≡ out w j
+
+-- One link on the way to a key leads elsewhere.
+pub record IsLed (slots : ℕ) (out out' : ℕ → ℕ → ℕ) (key from to : ℕ) : Type 0 where
+  pub depth : ℕ
+  pub u : ℕ
+  pub on : IsOn (λ x i. out (suc x) i) (out 0 (turn slots 0 key)) key depth u
+  pub turned : IsTurned out out' u (turn slots depth key) from to
 
 -- ---- in a row of nodes
+
+-- the head of a key's tree
+abbrev pub head_at : List ℕ → ℕ → ℕ
+head_at heads key = slice_index_or heads (slot key (length heads)) 0
 
 module _ {V : Type 0} where
   abbrev pub key_in : Option (Node V) → ℕ
   key_in o = option_map_or (λ (n : Node V). n.key) o 0
 
-  abbrev pub next_in : Option (Node V) → ℕ
-  next_in o = option_map_or (λ (n : Node V). n.next) o 0
+  abbrev pub link_in : ℕ → Option (Node V) → ℕ
+  link_in i o = option_map_or (λ (n : Node V). slice_index_or n.links i 0) o 0
 
-  abbrev pub next_at : List (Node V) → ℕ → ℕ
-  next_at nodes x = next_in (slice_get nodes x)
+  abbrev pub link_at : List (Node V) → ℕ → ℕ → ℕ
+  link_at nodes x i = link_in i (slice_get nodes x)
 
-  -- the class of a place among so many
-  abbrev pub class_at : List (Node V) → ℕ → ℕ → ℕ
-  class_at nodes slots x = slot (key_in (slice_get nodes x)) slots
+  -- the key of a node
+  abbrev pub key_at : List (Node V) → ℕ → ℕ
+  key_at nodes zero = 0
+  key_at nodes (suc x) = key_in (slice_get nodes x)
+
+  -- a node's link; the root's are the heads
+  abbrev pub out_at : List (Node V) → List ℕ → ℕ → ℕ → ℕ
+  out_at nodes heads zero i = slice_index_or heads i 0
+  out_at nodes heads (suc x) i = link_at nodes x i
 
   abbrev pub entry_of : Node V → ℕ × V
   entry_of n = (n.key, n.value)
@@ -79,10 +96,16 @@ module _ {V : Type 0} where
   abbrev pub entries_of : List (Node V) → List (ℕ × V)
   entries_of nodes = map entry_of nodes
 
-  -- each key is in the chain of its hash
-  pub record IsIndexed (nodes : List (Node V)) (heads : List ℕ) : Type 0 where
-    pub chained : IsChained (class_at nodes (length heads)) (length heads) (length nodes) (next_at nodes) (head_at heads)
+  -- so many nodes of the row are in the trees of their hashes, but for the hole
+  pub record IsPlanted (nodes : List (Node V)) (heads : List ℕ) (places hole : ℕ) : Type 0 where
+    pub deep : ℕ → ℕ
+    pub tree : IsTree (length heads) (key_at nodes) (out_at nodes heads) deep places hole
     pub wide : 0 < length nodes → 0 < length heads
+    -- keys have 64 bits
+    pub short : (v : ℕ) → key_at nodes v < 2 ^ 64
+
+  abbrev pub IsIndexed : List (Node V) → List ℕ → Type 0
+  IsIndexed nodes heads = IsPlanted nodes heads (length nodes) 0
 
   -- this place has the key
   abbrev pub HasKey : List (Node V) → ℕ → ℕ → Type 0
@@ -96,11 +119,53 @@ module _ {V : Type 0} where
   abbrev pub SameEntries : List (Node V) → List (Node V) → Type 0
   SameEntries old new = entries_of new ≡ entries_of old
 
-  -- A place is left, and the last node came there.
+  -- The way to a key from the first node of its tree comes to a link that leads here, and ends.
+  pub record IsWay (nodes : List (Node V)) (first key from : ℕ) : Type 0 where
+    pub depth : ℕ
+    pub is : walk (link_at nodes) first key depth ≡ from
+    pub inside : (d x : ℕ) → walk (link_at nodes) first key d ≡ suc x → x < length nodes
+    pub ends : walk (link_at nodes) first key 65 ≡ 0
+
+  -- A link on the way, below the first node, leads elsewhere.
+  pub record IsLedBelow (old new : List (Node V)) (first key from to : ℕ) : Type 0 where
+    pub depth : ℕ
+    pub x : ℕ
+    pub on : walk (link_at old) first key depth ≡ suc x
+    pub was : link_at old x (bit_at key depth) ≡ from
+    pub is : link_at new x (bit_at key depth) ≡ to
+    pub others : (w j : ℕ) → (w ≡ x → j ≡ bit_at key depth → ⊥) → link_at new w j ≡ link_at old w j
+
+  -- A link leads to a leaf from this place down, whose key turns as the key there down to the place.
+  pub record IsAboveLeaf (nodes : List (Node V)) (place above side leaf : ℕ) : Type 0 where
+    pub inside : above < length nodes
+    pub few : side < 2
+    pub leads : link_at nodes above side ≡ suc leaf
+    pub low : leaf < length nodes
+    pub bare : (i : ℕ) → link_at nodes leaf i ≡ 0
+    pub alike : (heads : List ℕ) (r : IsIndexed nodes heads) → AreAlike (length heads) (r.deep (suc place)) (key_at nodes (suc place)) (key_at nodes (suc leaf))
+
+  -- The entry of a leaf came to a place.
+  pub record IsRaised (old new : List (Node V)) (place leaf : ℕ) : Type 0 where
+    pub len : length new ≡ length old
+    pub inside : leaf < length old
+    pub came : slice_get (entries_of new) place ≡ slice_get (entries_of old) leaf
+    pub others : (x : ℕ) → x ≢ place → slice_get (entries_of new) x ≡ slice_get (entries_of old) x
+
+  -- The last node came to a place.
+  pub record IsMoved (old new : List (Node V)) (place : ℕ) : Type 0 where
+    pub len : length new + 1 ≡ length old
+    pub came : place < length new → slice_get (entries_of new) place ≡ slice_get (entries_of old) (length new)
+    pub others : (x : ℕ) → x < length new → x ≢ place → slice_get (entries_of new) x ≡ slice_get (entries_of old) x
+
+  -- An entry is taken out; others may stand at other places.
   pub record IsTakenOut (old new : List (Node V)) (place : ℕ) : Type 0 where
     pub len : length new + 1 ≡ length old
-    pub moved : place < length new → slice_get (entries_of new) place ≡ slice_get (entries_of old) (length new)
-    pub others : (x : ℕ) → x < length new → x ≢ place → slice_get (entries_of new) x ≡ slice_get (entries_of old) x
+    -- where each entry was
+    pub was : ℕ → ℕ
+    pub came : (x : ℕ) → x < length new → slice_get (entries_of new) x ≡ slice_get (entries_of old) (was x)
+    pub others : (x : ℕ) → x < length new → was x ≢ place
+    pub once : (x y : ℕ) → x < length new → y < length new → was x ≡ was y → x ≡ y
+    pub all : (z : ℕ) → z < length old → z ≢ place → (x : ℕ) × (x < length new) × (was x ≡ z)
 
   pub record IsKept (nodes : List (Node V)) (heads : List ℕ) (capacity room : ℕ) : Type 0 where
     pub unique : IsUnique (entries_of nodes)

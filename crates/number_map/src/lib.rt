@@ -1,17 +1,20 @@
 //! A map from numbers to small values. A key is found, put in, changed and taken out in constant
-//! time, and only [`NumberMap::reserve`] takes memory.
+//! time, whatever the keys are, and only [`NumberMap::reserve`] takes memory.
 //!
-//! The keys lie in a row, each in the chain of its hash, and a chain goes down the row. The hash is
-//! known, so that the keys must not be chosen by one who means harm: here they are identities, which
-//! the kernel gives one by one. Beside a value of four-byte words a key takes 16 to 20 bytes, or 14 to
-//! 16 where 1,024 keys or more fit, and so does room for one.
+//! The keys lie in a row, each in the tree of its hash. Where there are as many trees as keys, most
+//! trees have one node or two. The hash is known, so that many keys may be chosen that lie in one tree.
+//! But below a node all keys whose next bit is 0 hang on one link, and the others on the other, from the
+//! lowest bit on. So no tree is deeper than a key has bits: a look-up reads 65 nodes at most.
+//!
+//! Beside a value of four-byte words a key takes 20 to 24 bytes, or 18 to 20 where 1,024 keys or more
+//! fit, and so does room for one.
 #![tactic(auto)]
 
-ghost use Rattle.std.specs.Prelude.{◌≡◌, ◌≢◌, ℕ, suc, ◌+◌, ◌-◌, ◌*◌, ◌^◌, ◌<◌, ◌≤◌, List, max, true, length, Some, None, IsOk, OnOk, OnErr};
+ghost use Rattle.std.specs.Prelude.{◌≡◌, ◌≢◌, ℕ, suc, ◌+◌, ◌-◌, ◌*◌, ◌^◌, ◌<◌, ◌≤◌, List, max, true, length, slice_index_or, false, Some, None, IsOk, OnOk, OnErr};
 ghost use Rattle.std.specs.Borrow.{sem};
 ghost use Rattle.std.specs.FinMap as map;
 ghost use Rattle.std.specs.Vec.{vec_capacity};
-ghost use Rattle.number_map.specs.Kept.{slot as slot_for, head_at, next_at, IsAbove, IsLed, IsIndexed, HasKey, SameEntries, IsTakenOut};
+ghost use Rattle.number_map.specs.Kept.{slot as slot_for, walk, key_at, link_at, out_at, head_at, IsWay, IsLed, IsLedBelow, IsAboveLeaf, IsPlanted, IsIndexed, HasKey, IsUnique, entries_of, SameEntries, IsRaised, IsMoved, IsTakenOut};
 
 use std::alloc::{AllocError, Global};
 use std::marker::Model;
@@ -20,7 +23,7 @@ use std::mem;
 // A link is a place and 1, or 0 where it leads nowhere, so that as many nodes have links.
 const MOST_NODES: usize = 0xFFFF_FFFF;
 
-// Where so many nodes fit, half as many chains do: what the heads take is halved, for half a step more.
+// Where so many nodes fit, half as many trees do: what the heads take is halved, for half a step more.
 const MANY_NODES: usize = 1024;
 
 // How many numbers half a key can be.
@@ -65,29 +68,30 @@ impl Key {
     }
 }
 
-// A key with its value. The next of its chain lies at `next - 1`, below it, if `next` is not 0.
+// A key with its value. Of the nodes below it in its tree those whose next bit is 0 hang on its first
+// link, the others on its second.
 #[derive(Clone, Copy)]
 struct Node<V: Copy> {
     key: Key,
     value: V,
-    next: u32,
+    links: [u32; 2],
 }
 
-// A key, a value of four words and a link, with nothing between.
-const _: () = prove!(mem::size_of::<Node<[u32; 4]>>() == 28);
+// A key, a value of four words and two links, with nothing between.
+const _: () = prove!(mem::size_of::<Node<[u32; 4]>>() == 32);
 
 /// Values under numbers, and room for so many keys to come. Without room nothing is allocated.
 #[derive(Drop)]
 pub struct NumberMap<V: Copy> {
     nodes: Vec<Node<V>>,
-    // The first of each chain lies at its head less 1, if its head is not 0.
+    // The first node of each tree lies at its head less 1, if its head is not 0.
     heads: Vec<u32>,
     room: usize,
 }
 
-// The chain of a key. The factor spreads keys that are given one by one, each second of them or each
+// The tree of a key. The factor spreads keys that are given one by one, each second of them or each
 // sixteenth, and as well keys that differ in their upper halves alone: where there are as many keys as
-// chains, mostly half a key or less stands before another. A factor below 2^31, and a turn in place of
+// trees, mostly half a key or less stands before another. A factor below 2^31, and a turn in place of
 // a shift, take the fewest instructions.
 fn slot_of(key: u64, slots: usize) -> usize
     requires { 0 < slots }
@@ -107,64 +111,177 @@ fn find<V: Copy>(nodes: &[Node<V>], heads: &[u32], key: u64) -> Option<usize>
         return None;
     }
     let mut link = heads[slot_of(key, heads.len())] as usize;
+    let mut bits = key;
     while link > 0 {
         let node = &nodes[link - 1];
         if node.key.number() == key {
             return Some(link - 1);
         }
-        link = node.next as usize;
+        link = node.links[(bits % 2) as usize] as usize;
+        bits /= 2;
     }
     None
 }
 
-// The link to the lowest node above the place, along a chain from this head, and 0 where there is none.
-fn last_above<V: Copy>(nodes: &[Node<V>], head: u32, place: usize) -> usize
-    requires head { head ≤ length nodes.now }
-    requires place { place < length nodes.now }
-    requires down { (y : ℕ) → y < length nodes.now → next_at nodes.now y ≤ y }
-    ensures { IsAbove (length nodes.now) (next_at nodes.now) head place result }
+// One link of a node leads there from now on.
+fn turn_link<V: Copy>(node: &mut Node<V>, side: usize, to: u32)
+    requires { side < 2 }
+    ensures here { slice_index_or node.new.links side 0 ≡ to }
+    ensures others { (i : ℕ) → i ≢ side → slice_index_or node.new.links i 0 ≡ slice_index_or node.old.links i 0 }
+    ensures key { node.new.key ≡ node.old.key }
+    ensures value { node.new.value ≡ node.old.value }
 {
-    let mut above = 0;
-    let mut link = head as usize;
-    while link > place + 1 {
-        above = link;
-        link = nodes[link - 1].next as usize;
-    }
-    above
+    node.links[side] = to;
 }
 
-// The link of a chain that leads to the place, or passes it, leads here from now on. Answers where it led.
-fn lead<V: Copy>(
-    nodes: &mut Vec<Node<V>>,
-    heads: &mut Vec<u32>,
-    slot: usize,
-    place: usize,
-    to: u32,
-) -> u32
-    requires slot { slot < length heads.old.items }
-    requires head { head_at heads.old.items slot ≤ length nodes.old.items }
-    requires down { (y : ℕ) → y < length nodes.old.items → next_at nodes.old.items y ≤ y }
-    requires place { place < length nodes.old.items }
-    ensures led { IsLed (length nodes.old.items) (next_at nodes.old.items) (next_at nodes.new.items) (head_at heads.old.items) (head_at heads.new.items) slot place to result }
-    ensures entries { SameEntries nodes.old.items nodes.new.items }
+// The link of a node that leads here, on the way to the key from the first node of its tree, leads there
+// from now on.
+fn lead_below<V: Copy>(nodes: &mut [Node<V>], first: u32, key: u64, from: u32, to: u32)
+    requires some { 0 < first }
+    requires inside { first ≤ length nodes.old }
+    requires first { first ≢ from }
+    requires way { IsWay nodes.old first key from }
+    ensures led { IsLedBelow nodes.old nodes.new first key from to }
+    ensures entries { SameEntries nodes.old nodes.new }
+{
+    let mut above = first as usize - 1;
+    let mut bits = key;
+    let mut link = nodes[above].links[(bits % 2) as usize];
+    while link != from {
+        above = link as usize - 1;
+        bits /= 2;
+        link = nodes[above].links[(bits % 2) as usize];
+    }
+    turn_link(&mut nodes[above], (bits % 2) as usize, to);
+}
+
+// The link that leads here, on the way to the key from its head, leads there from now on.
+#[inline(always)]
+fn lead<V: Copy>(nodes: &mut [Node<V>], heads: &mut [u32], key: u64, from: u32, to: u32)
+    requires some { 0 < length heads.old }
+    requires way { IsWay nodes.old (head_at heads.old key) key from }
+    ensures led { IsLed (length heads.old) (out_at nodes.old heads.old) (out_at nodes.new heads.new) key from to }
+    ensures entries { SameEntries nodes.old nodes.new }
+    ensures heads { length heads.new ≡ length heads.old }
+{
+    let slot = slot_of(key, heads.len());
+    let head = heads[slot];
+    if head == from {
+        heads[slot] = to;
+    } else {
+        lead_below(nodes, head, key, from, to);
+    }
+}
+
+// Whether there is no node below this one.
+fn is_leaf<V: Copy>(node: &Node<V>) -> bool
+    ensures yes { result ≡ true → (i : ℕ) → slice_index_or node.now.links i 0 ≡ 0 }
+    ensures no { result ≡ false → (i : ℕ) × (slice_index_or node.now.links i 0 ≢ 0) }
+{
+    node.links[0] == 0 && node.links[1] == 0
+}
+
+// The link of a node that leads somewhere, if one does.
+fn side_of<V: Copy>(node: &Node<V>) -> usize
+    ensures few { result < 2 }
+    ensures leads { (i : ℕ) → slice_index_or node.now.links i 0 ≢ 0 → slice_index_or node.now.links result 0 ≢ 0 }
+{
+    if node.links[1] > 0 {
+        return 1;
+    }
+    0
+}
+
+// A node from this one down with a link that leads to a leaf, which link that is, and the leaf.
+fn above_leaf<V: Copy>(nodes: &[Node<V>], place: usize) -> (usize, usize, usize)
+    requires place { place < length nodes.now }
+    requires indexed { (heads : List ℕ) × IsIndexed nodes.now heads }
+    requires has { (i : ℕ) × (link_at nodes.now place i ≢ 0) }
+    ensures { IsAboveLeaf nodes.now place result.0 result.1 result.2 }
+{
+    let mut above = place;
+    let mut side = side_of(&nodes[place]);
+    for _depth in 0..64usize {
+        let below = nodes[above].links[side] as usize - 1;
+        if is_leaf(&nodes[below]) {
+            return (above, side, below);
+        }
+        above = below;
+        side = side_of(&nodes[below]);
+    }
+    (above, side, place)
+}
+
+// Takes a leaf below the node out of its tree, and puts its entry in the node's place. Returns where the
+// leaf was.
+#[inline(never)]
+fn raise_leaf<V: Copy>(nodes: &mut [Node<V>], place: usize) -> usize
+    requires place { place < length nodes.old }
+    requires indexed { (heads : List ℕ) × IsIndexed nodes.old heads }
+    requires has { (i : ℕ) × (link_at nodes.old place i ≢ 0) }
+    ensures planted { (heads : List ℕ) → IsIndexed nodes.old heads → IsPlanted nodes.new heads (length nodes.new) (suc result) }
+    ensures raised { IsRaised nodes.old nodes.new place result }
+{
+    let (above, side, leaf) = above_leaf(nodes, place);
+    turn_link(&mut nodes[above], side, 0);
+    let Node { key, value, .. } = nodes[leaf];
+    let links = nodes[place].links;
+    nodes[place] = Node { key, value, links };
+    leaf
+}
+
+// Takes an entry out of its tree: its node, if that is a leaf, or else a leaf below it, whose entry then
+// stands in its place. Returns the place that no link leads to.
+#[inline(always)]
+fn cut_out<V: Copy>(nodes: &mut [Node<V>], heads: &mut [u32], key: u64, place: usize) -> usize
+    requires place { place < length nodes.old }
+    requires key { key_at nodes.old (suc place) ≡ key }
+    requires indexed { IsIndexed nodes.old heads.old }
+    requires few { length nodes.old < 2 ^ 32 }
+    ensures planted { IsPlanted nodes.new heads.new (length nodes.new) (suc result) }
+    ensures raised { IsRaised nodes.old nodes.new place result }
+    ensures heads { length heads.new ≡ length heads.old }
+{
+    if is_leaf(&nodes[place]) {
+        lead(nodes, heads, key, (place + 1) as u32, 0);
+        return place;
+    }
+    raise_leaf(nodes, place)
+}
+
+// Moves the last node to a place that no link leads to.
+#[inline(always)]
+fn close<V: Copy>(nodes: &mut Vec<Node<V>>, heads: &mut Vec<u32>, hole: usize)
+    requires hole { hole < length nodes.old.items }
+    requires planted { IsPlanted nodes.old.items heads.old.items (length nodes.old.items) (suc hole) }
+    requires few { length nodes.old.items < 2 ^ 32 }
+    ensures indexed { IsIndexed nodes.new.items heads.new.items }
+    ensures moved { IsMoved nodes.old.items nodes.new.items hole }
     ensures heads { length heads.new.items ≡ length heads.old.items }
     ensures capacity { vec_capacity nodes.new ≡ vec_capacity nodes.old }
 {
-    let head = heads[slot];
-    let above = last_above(nodes, head, place);
-    if above == 0 {
-        heads[slot] = to;
-        return head;
+    let end = nodes.len();
+    if hole + 1 >= end {
+        nodes.pop();
+        return;
     }
-    let next = nodes[above - 1].next;
-    nodes[above - 1].next = to;
-    next
+    let key = nodes[end - 1].key.number();
+    lead(
+        nodes.as_mut_slice(),
+        heads.as_mut_slice(),
+        key,
+        end as u32,
+        (hole + 1) as u32,
+    );
+    nodes[hole] = nodes[end - 1];
+    nodes.pop();
 }
 
-// Takes a node out of the row; the last one comes in its place.
+// Takes an entry out of the row.
 #[inline(always)]
-fn take_out<V: Copy>(nodes: &mut Vec<Node<V>>, heads: &mut Vec<u32>, place: usize)
+fn take_out<V: Copy>(nodes: &mut Vec<Node<V>>, heads: &mut Vec<u32>, key: u64, place: usize)
     requires place { place < length nodes.old.items }
+    requires key { key_at nodes.old.items (suc place) ≡ key }
     requires indexed { IsIndexed nodes.old.items heads.old.items }
     requires few { length nodes.old.items < 2 ^ 32 }
     ensures indexed { IsIndexed nodes.new.items heads.new.items }
@@ -172,49 +289,32 @@ fn take_out<V: Copy>(nodes: &mut Vec<Node<V>>, heads: &mut Vec<u32>, place: usiz
     ensures heads { length heads.new.items ≡ length heads.old.items }
     ensures capacity { vec_capacity nodes.new ≡ vec_capacity nodes.old }
 {
-    let Some(last) = nodes.pop() else {
-        return;
-    };
-    let slot = slot_of(last.key.number(), heads.len());
-    heads[slot] = last.next;
-    if place < nodes.len() {
-        let Node { key, next, .. } = nodes[place];
-        lead(
-            nodes,
-            heads,
-            slot_of(key.number(), heads.len()),
-            place,
-            next,
-        );
-        let next = lead(nodes, heads, slot, place, (place + 1) as u32);
-        nodes[place] = Node {
-            key: last.key,
-            value: last.value,
-            next,
-        };
-    }
+    let hole = cut_out(nodes.as_mut_slice(), heads.as_mut_slice(), key, place);
+    close(nodes, heads, hole);
 }
 
-// Puts each node in its chain, where all chains are empty.
+// Puts each node in its tree, where all heads are empty.
 fn link_all<V: Copy>(nodes: &mut [Node<V>], heads: &mut [u32])
     requires some { 0 < length heads.old }
-    requires empty { (c : ℕ) → head_at heads.old c ≡ 0 }
+    requires empty { (c : ℕ) → slice_index_or heads.old c 0 ≡ 0 }
     requires few { length nodes.old < 2 ^ 32 }
+    requires unique { IsUnique (entries_of nodes.old) }
+    requires short { (v : ℕ) → key_at nodes.old v < 2 ^ 64 }
     ensures indexed { IsIndexed nodes.new heads.new }
     ensures entries { SameEntries nodes.old nodes.new }
     ensures heads { length heads.new ≡ length heads.old }
 {
     for place in 0..nodes.len() {
-        let slot = slot_of(nodes[place].key.number(), heads.len());
-        nodes[place].next = heads[slot];
-        heads[slot] = (place + 1) as u32;
+        nodes[place].links = [0, 0];
+        let key = nodes[place].key.number();
+        lead(nodes, heads, key, 0, (place + 1) as u32);
     }
 }
 
-// Makes so many chains, all empty.
+// Makes so many heads, all empty.
 fn make_slots(heads: &mut Vec<u32>, slots: usize) -> Result<(), AllocError>
     ensures len { OnOk result (length heads.new.items ≡ slots) }
-    ensures empty { OnOk result ((c : ℕ) → head_at heads.new.items c ≡ 0) }
+    ensures empty { OnOk result ((c : ℕ) → slice_index_or heads.new.items c 0 ≡ 0) }
     ensures err { OnErr result (heads.new.items ≡ heads.old.items) }
 {
     let mut made = Vec::new(*heads.allocator());
@@ -223,8 +323,8 @@ fn make_slots(heads: &mut Vec<u32>, slots: usize) -> Result<(), AllocError>
     Ok(())
 }
 
-// How many chains are enough for so many nodes.
-fn chains_for(capacity: usize) -> usize
+// How many trees are enough for so many nodes.
+fn trees_for(capacity: usize) -> usize
     ensures some { 0 < capacity → 0 < result }
     ensures enough { capacity ≤ 2 * result + 1 }
 {
@@ -234,11 +334,12 @@ fn chains_for(capacity: usize) -> usize
     capacity / 2
 }
 
-// Makes as many chains as are enough for the nodes that fit, or more, where there are fewer, and puts
+// Makes as many trees as are enough for the nodes that fit, or more, where there are fewer, and puts
 // each node in its own.
 fn widen<V: Copy>(nodes: &mut Vec<Node<V>>, heads: &mut Vec<u32>) -> Result<(), AllocError>
     requires indexed { IsIndexed nodes.old.items heads.old.items }
     requires few { length nodes.old.items < 2 ^ 32 }
+    requires unique { IsUnique (entries_of nodes.old.items) }
     ensures indexed { IsIndexed nodes.new.items heads.new.items }
     ensures some { OnOk result (0 < vec_capacity nodes.old → 0 < length heads.new.items) }
     ensures none { length heads.old.items ≤ length heads.new.items }
@@ -249,11 +350,11 @@ fn widen<V: Copy>(nodes: &mut Vec<Node<V>>, heads: &mut Vec<u32>) -> Result<(), 
     if heads.len() >= nodes.capacity() {
         return Ok(());
     }
-    let chains = chains_for(nodes.capacity());
-    if heads.len() >= chains {
+    let trees = trees_for(nodes.capacity());
+    if heads.len() >= trees {
         return Ok(());
     }
-    let slots = chains.checked_next_power_of_two().ok_or(AllocError)?;
+    let slots = trees.checked_next_power_of_two().ok_or(AllocError)?;
     make_slots(heads, slots)?;
     link_all(nodes.as_mut_slice(), heads.as_mut_slice());
     Ok(())
@@ -303,7 +404,7 @@ impl<V: Copy> NumberMap<V> {
         self.room
     }
 
-    /// The value under the key, if it is there. Constant time.
+    /// The value under the key, if it is there. Constant time: reads 65 nodes at most.
     pub fn get(&self, key: u64) -> Option<V>
         ensures { result ≡ map.get self.now.map key }
     {
@@ -312,7 +413,8 @@ impl<V: Copy> NumberMap<V> {
     }
 
     /// Makes room for at least so many more keys. Constant time where there is room for them, and
-    /// else linear in the number of keys at most, as all may move to a larger place.
+    /// else linear in the number of keys at most, as all may move to a larger place: for each key 64 nodes
+    /// are read at most.
     ///
     /// An error means that memory was refused, or that there would be more than 4,294,967,295 keys; all
     /// is then as before. It never comes where there is room already. Nothing else here takes memory.
@@ -332,23 +434,29 @@ impl<V: Copy> NumberMap<V> {
         Ok(())
     }
 
-    /// Puts a new key in, for which there is room. Constant time.
+    /// Puts a new key in, for which there is room. Constant time: reads 64 nodes at most.
     pub fn insert(&mut self, key: u64, value: V)
         requires absent { map.get self.old.map key ≡ None }
         requires room { 0 < self.old.room }
         ensures { self.new ≡ record { map = map.insert self.old.map key value; room = self.old.room - 1 } }
     {
-        let slot = slot_of(key, self.heads.len());
         self.nodes.push_reserved(Node {
             key: Key::of(key),
             value,
-            next: self.heads[slot],
+            links: [0, 0],
         });
-        self.heads[slot] = self.nodes.len() as u32;
+        let link = self.nodes.len() as u32;
+        lead(
+            self.nodes.as_mut_slice(),
+            self.heads.as_mut_slice(),
+            key,
+            0,
+            link,
+        );
         self.room -= 1;
     }
 
-    /// Puts another value under a key that is there. Constant time.
+    /// Puts another value under a key that is there. Constant time: reads 65 nodes at most.
     pub fn set(&mut self, key: u64, value: V)
         requires { map.contains_key self.old.map key ≡ true }
         ensures { self.new ≡ record self.old { map = map.insert self.old.map key value } }
@@ -358,7 +466,8 @@ impl<V: Copy> NumberMap<V> {
         }
     }
 
-    /// The value under a key that is there, for writing. Takes no memory; constant time.
+    /// The value under a key that is there, for writing. Takes no memory; constant time:
+    /// reads 65 nodes at most.
     pub fn value_mut(&mut self, key: u64) -> &mut V
         requires { map.contains_key self.old.map key ≡ true }
         ensures* writes_back { sem 𝓛 (lends_value V.row self.entry key result) }
@@ -369,7 +478,7 @@ impl<V: Copy> NumberMap<V> {
     }
 
     /// Takes a key out, if it is there, and answers its value. The room for new keys stays as it was.
-    /// Constant time.
+    /// Constant time: reads 200 nodes at most.
     #[inline(always)]
     pub fn remove(&mut self, key: u64) -> Option<V>
         ensures value { result ≡ map.get self.old.map key }
@@ -377,17 +486,18 @@ impl<V: Copy> NumberMap<V> {
     {
         let place = find(&self.nodes, &self.heads, key)?;
         let value = self.nodes[place].value;
-        take_out(&mut self.nodes, &mut self.heads, place);
+        take_out(&mut self.nodes, &mut self.heads, key, place);
         Some(value)
     }
 
-    /// Takes a key out that is there, and keeps its place as room for another. Constant time.
+    /// Takes a key out that is there, and keeps its place as room for another. Constant time: reads 200
+    /// nodes at most.
     pub fn release(&mut self, key: u64)
         requires { map.contains_key self.old.map key ≡ true }
         ensures { self.new ≡ record { map = map.remove self.old.map key; room = self.old.room + 1 } }
     {
         if let Some(held) = find(&self.nodes, &self.heads, key) {
-            take_out(&mut self.nodes, &mut self.heads, held);
+            take_out(&mut self.nodes, &mut self.heads, key, held);
             self.room += 1;
         }
     }

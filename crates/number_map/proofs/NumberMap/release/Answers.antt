@@ -3,6 +3,7 @@ use Rattle.std.specs.FinMap as map
 use Rattle.std.specs.Ordering.{nat_cmp}
 use Rattle.number_map.specs.Kept.{entries_of, HasKey}
 use Rattle.number_map.proofs.Entries.{lookup_is, map_is, room_is, same_view}
+use Rattle.number_map.proofs.Rows.{key_of_some}
 use Rattle.number_map.proofs.View.{none_looked, key_inside, kept_released, table_left}
 use Rattle.number_map.proofs.NumberMap.release.Goals as goal
 
@@ -13,6 +14,11 @@ pub take_out-requires-clause-place : goal.take_out-requires-clause-place
 take_out-requires-clause-place g c =
     let has : HasKey c.self.inside.nodes.items c.args.key c.in-Some.held = rw c.deref.ensures.value at c.in-Some.ensures.found c.in-Some.held refl in
     key_inside c.self.inside.nodes.items c.args.key c.in-Some.held has
+
+pub take_out-requires-clause-key : goal.take_out-requires-clause-key
+take_out-requires-clause-key g c =
+    let has : HasKey c.self.inside.nodes.items c.args.key c.in-Some.held = rw c.deref.ensures.value at c.in-Some.ensures.found c.in-Some.held refl in
+    key_of_some c.self.inside.nodes.items c.in-Some.held has.0 has.1 ∙ has.2
 
 pub invariant_of-self : goal.invariant_of-self
 invariant_of-self g c =

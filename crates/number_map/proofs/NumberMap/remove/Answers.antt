@@ -3,7 +3,7 @@ use Rattle.std.specs.FinMap as map
 use Rattle.std.specs.Ordering.{nat_cmp}
 use Rattle.number_map.specs.Kept.{entries_of, HasKey}
 use Rattle.number_map.proofs.Entries.{lookup_is, map_is, room_is, same_view}
-use Rattle.number_map.proofs.Rows.{node_read}
+use Rattle.number_map.proofs.Rows.{node_read, key_of_some}
 use Rattle.number_map.proofs.View.{none_looked, key_looked, key_inside, kept_left, table_left, out_none}
 use Rattle.number_map.proofs.NumberMap.remove.Goals as goal
 
@@ -30,6 +30,11 @@ pub take_out-requires-clause-place : goal.take_out-requires-clause-place
 take_out-requires-clause-place g c =
     let has : HasKey c.self.inside.nodes.items c.args.key c.in_ok-place.place = rw c.deref.ensures.value at c.in_ok-place.ensures.found c.in_ok-place.place refl in
     key_inside c.self.inside.nodes.items c.args.key c.in_ok-place.place has
+
+pub take_out-requires-clause-key : goal.take_out-requires-clause-key
+take_out-requires-clause-key g c =
+    let has : HasKey c.self.inside.nodes.items c.args.key c.in_ok-place.place = rw c.deref.ensures.value at c.in_ok-place.ensures.found c.in_ok-place.place refl in
+    key_of_some c.self.inside.nodes.items c.in_ok-place.place has.0 has.1 ∙ has.2
 
 pub invariant_of-self : goal.invariant_of-self
 invariant_of-self g c =
