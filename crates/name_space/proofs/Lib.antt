@@ -1,9 +1,7 @@
 pub mod Keys
-pub mod Slots
 pub mod Gathered
 pub mod Tables
 pub mod Placed
 pub mod Linked
 pub mod Spaces
 pub mod Turns
-pub mod Ranges

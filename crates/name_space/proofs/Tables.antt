@@ -9,7 +9,7 @@ use Rattle.name_space_base.specs.Pages.{PagesView, HasPage}
 use Rattle.name_space_base.specs.Pages as pages
 use Rattle.name_space.specs.declared.Entry.{Entry}
 use Rattle.name_space.specs.Names.{Names, SpaceView, IsFreshName, HasPlace, HasNoNeighbour}
-use Rattle.name_space.specs.High.{HighView}
+use Rattle.name_space_base.specs.High.{HighView}
 use Rattle.name_space.specs.Table.{joined, IsLaid}
 use Rattle.name_space.proofs.Keys.{same_some, some_or_none, eqb-same, put_other}
 use Rattle.name_space.proofs.Gathered.{low_side, out_none, put_low, put_high, out_low, out_high, at_low, at_high, fresh-small, first-joined}
@@ -27,18 +27,21 @@ none_in m is q = ap (λ (a : Names). map.get a q) is ∙ map.get-empty nat_cmp q
 pub joined_empty : (low high : Names) → low ≡ map.empty → high ≡ map.empty → joined low high ≡ map.empty
 joined_empty low high e f = map.same_map nat_cmp_total map.nat_cmp-IsAntisymmetric _ _ (λ q. low_side low high q (none_in high f q) ∙ ap (λ (a : Names). map.get a q) e)
 
-pub laid_empty : (low : PagesView Entry) (high : HighView) → low.values ≡ map.empty → high.names ≡ map.empty → IsLaid low high 0 None
+pub none_high : (high : HighView Entry) → ◌≡◌ {A = HighView Entry} high record { names = map.empty; kept = None } → high.names ≡ map.empty
+none_high high is = ap (λ (h : HighView Entry). h.names) is
+
+pub laid_empty : (low : PagesView Entry) (high : HighView Entry) → low.values ≡ map.empty → high.names ≡ map.empty → IsLaid low high 0 None
 laid_empty low high e f = grind (arith, none_in, some_or_none)
 
 page_put : (made : set.FinSet nat_cmp) (k : ℕ) → set.contains (set.insert made k) k ≡ true
 page_put made k = set.contains-insert nat_cmp_total made k k ∙ ap (λ b. b || set.contains made k) (unsigned_tied k k ∙ eqb-same k)
 
-module _ (low : PagesView Entry) (high : HighView) (room : ℕ) (kept : Option ℕ) (x : IsLaid low high room kept) where
+module _ (low : PagesView Entry) (high : HighView Entry) (room : ℕ) (kept : Option ℕ) (x : IsLaid low high room kept) where
   -- one name changes
   pub low-changed : (new : PagesView Entry) (left : ℕ) → ((q : ℕ) → 65536 ≤ q → map.get new.values q ≡ None) → new.made ≡ low.made → left ≤ new.room → IsLaid new high left kept
   low-changed new left low_names made fits = grind arith
 
-  pub high-changed : (new : HighView) (left : ℕ) → ((q : ℕ) → q < 65536 → map.get new.names q ≡ None) → new.kept ≡ high.kept → left ≤ room → IsLaid low new left kept
+  pub high-changed : (new : HighView Entry) (left : ℕ) → ((q : ℕ) → q < 65536 → map.get new.names q ≡ None) → new.kept ≡ high.kept → left ≤ room → IsLaid low new left kept
   high-changed new left high_names same fits = grind arith
 
   put_none : (m : Names) (k q : ℕ) (e : Entry) → (q ≡ k → ⊥) → map.get m q ≡ None → map.get (map.insert m k e) q ≡ None
@@ -53,17 +56,17 @@ module _ (low : PagesView Entry) (high : HighView) (room : ℕ) (kept : Option �
   pub laid-out_low : (new : PagesView Entry) (k : ℕ) → new ≡ record { values = map.remove low.values k; room = low.room; made = low.made } → IsLaid new high room kept
   laid-out_low new k is = grind (arith, low-changed, out_none)
 
-  pub laid-put_high : (new : HighView) (left k : ℕ) (e : Entry) → new ≡ record { names = map.insert high.names k e; kept = high.kept } → 65536 ≤ k → left ≤ room → IsLaid low new left kept
+  pub laid-put_high : (new : HighView Entry) (left k : ℕ) (e : Entry) → new ≡ record { names = map.insert high.names k e; kept = high.kept } → 65536 ≤ k → left ≤ room → IsLaid low new left kept
   laid-put_high new left k e is great less = grind (arith, high-changed, put_none)
 
-  pub laid-out_high : (new : HighView) (k : ℕ) → new ≡ record { names = map.remove high.names k; kept = high.kept } → IsLaid low new room kept
+  pub laid-out_high : (new : HighView Entry) (k : ℕ) → new ≡ record { names = map.remove high.names k; kept = high.kept } → IsLaid low new room kept
   laid-out_high new k is = grind (arith, high-changed, out_none)
 
   -- a place is made
   pub laid-page : (new : PagesView Entry) (k : ℕ) → new ≡ record { values = low.values; room = low.room; made = set.insert low.made (k / 256) } → k < 65536 → IsLaid new high room (Some k)
   laid-page new k is small = grind (arith, same_some, page_put)
 
-  pub laid-kept : (new : HighView) (k : ℕ) → new ≡ record { names = high.names; kept = Some k } → 65536 ≤ k → IsLaid low new room (Some k)
+  pub laid-kept : (new : HighView Entry) (k : ℕ) → new ≡ record { names = high.names; kept = Some k } → 65536 ≤ k → IsLaid low new room (Some k)
   laid-kept new k is great = grind (arith, same_some)
 
   -- ---- as a whole sees them

@@ -17,7 +17,6 @@ ghost use Rattle.name_space.specs.Entry.{port_named, with_send};
 ghost use Rattle.name_space.specs.Names.{HoldsPort};
 ghost use Rattle.name_space.specs.Sound.{lost, CanMove};
 
-mod high;
 mod ports;
 mod table;
 

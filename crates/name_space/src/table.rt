@@ -6,10 +6,9 @@ ghost use Rattle.name_space_base.specs.Pages.{IsNextUsed};
 ghost use Rattle.name_space.specs.Entry.{with_send};
 ghost use Rattle.name_space.specs.Names.{IsFreshName, IsUsable, HasPlace, HasNoNeighbour, port_at};
 
-use crate::high::High;
 use crate::{Entry, port_of};
 use mach_types::{Name, PortId};
-use name_space_base::Pages;
+use name_space_base::{High, Pages};
 use std::alloc::{AllocError, Global};
 use std::marker::Model;
 
@@ -20,7 +19,7 @@ const FIRST_HIGH: u32 = 65_536;
 #[derive(Drop)]
 pub(crate) struct Table {
     low: Pages<Entry>,
-    high: High,
+    high: High<Entry>,
     room: usize,
     kept: Option<Name>,
 }
@@ -48,6 +47,17 @@ fn join_send(held: &mut Entry) -> Entry
     let before = *held;
     *held = before.with_send();
     before
+}
+
+// Adds a send reference to the entry under a name above 65,535, and returns what it was before.
+fn add_send_high(high: &mut High<Entry>, name: u32) -> Entry
+    requires { map.contains_key high.old.names name ≡ true }
+    ensures value { map.get high.old.names name ≡ Some result }
+    ensures after { high.new ≡ record high.old { names = map.insert high.old.names name (with_send result) } }
+{
+    let entry = high.get(name).unwrap();
+    high.put(name, entry.with_send());
+    entry
 }
 
 impl Table {
@@ -193,7 +203,7 @@ impl Table {
         if number < FIRST_HIGH {
             join_send(self.low.value_mut(number))
         } else {
-            self.high.add_send(number)
+            add_send_high(&mut self.high, number)
         }
     }
 

@@ -5,3 +5,6 @@ pub mod Laid
 pub mod Held
 pub mod Changed
 pub mod Growth
+pub mod Options
+pub mod Tree
+pub mod Apart

@@ -1,7 +1,8 @@
-//! Values by small numbers, in pages that are made at first use.
+//! Values by numbers: small ones in pages that are made at first use, any others in a tree.
 //!
-//! Numbers are from 1 to 65,535, in up to 256 pages of 256. A bit for each used number and for each full
-//! page finds the least free number in a few words.
+//! The numbers in pages ([`Pages`]) are from 1 to 65,535, in up to 256 pages of 256. A bit for each used
+//! number and for each full page finds the least free number in a few words. A tree ([`High`]) takes any
+//! numbers, and keeps a place for one of them, so that a value can be put there without memory.
 #![tactic(auto)]
 
 ghost use Rattle.std.specs.Prelude.{◌≡◌, ℕ, ◌-◌, ◌/◌, ◌<◌, ◌≤◌, ◌↔◌, ◌==◌, if◌then◌else◌, IsTrue, true, max, length, Some, None, IfOk, IfSome, IfNone, IsOk, OnOk, OnErr};
@@ -13,9 +14,11 @@ ghost use Rattle.name_space_base.specs.Bits.{has};
 ghost use Rattle.name_space_base.specs.Sound.{page_at, MakesOnly};
 
 mod bits;
+mod high;
 mod page;
 
 use bits::Bits;
+pub use high::High;
 use page::{PAGE, Page};
 use std::alloc::{AllocError, Global};
 use std::marker::Model;

@@ -1,6 +1,6 @@
 use Rattle.std.proofs.Common.{ap, ◌∙◌}
 use Rattle.std.specs.FinMap as map
-use Rattle.name_space.proofs.Slots.{unless}
+use Rattle.name_space_base.proofs.Options.{unless}
 use Rattle.name_space.proofs.Placed.{seen_here, seen_other}
 use Rattle.name_space.proofs.ports.Ports.name_of.Goals as goal
 

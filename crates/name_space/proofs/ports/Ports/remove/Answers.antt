@@ -1,7 +1,7 @@
 use Rattle.std.proofs.Common.{ℕ, ap, ◌∙◌}
 use Rattle.std.specs.FinMap as map
 use Rattle.number_map.specs.Maps.{MapView}
-use Rattle.name_space.proofs.Slots.{unless}
+use Rattle.name_space_base.proofs.Options.{unless}
 use Rattle.name_space.proofs.Placed.{view_out_of_place, place_without, view_without}
 use Rattle.name_space.proofs.ports.Ports.remove.Goals as goal
 

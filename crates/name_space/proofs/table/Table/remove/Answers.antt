@@ -1,7 +1,7 @@
 use Rattle.std.proofs.Common.{◌∙◌, ap}
 use Rattle.name_space_base.specs.Pages.{PagesView}
 use Rattle.name_space.specs.declared.Entry.{Entry}
-use Rattle.name_space.specs.High.{HighView}
+use Rattle.name_space_base.specs.High.{HighView}
 use Rattle.name_space.proofs.Tables.{laid-out_low, laid-out_high, seen_low, seen_high, view-out_low, view-out_high}
 use Rattle.name_space.proofs.table.Table.remove.Goals as goal
 
@@ -21,4 +21,4 @@ pub returns-else-number-lt-FIRST_HIGH-clause-value : goal.returns-else-number-lt
 returns-else-number-lt-FIRST_HIGH-clause-value c = c.remove-else-number-lt-FIRST_HIGH.ensures.value ∙ seen_high c.self.inside.low c.self.inside.high c.self.inside.room c.self.inside.kept c.self.invariant c.args.self.now c.self.view_is c.number-number.result c.args.name c.number-number.ensures c.if-number-lt-FIRST_HIGH.false
 
 pub returns-else-number-lt-FIRST_HIGH-clause-after : goal.returns-else-number-lt-FIRST_HIGH-clause-after
-returns-else-number-lt-FIRST_HIGH-clause-after c = view-out_high c.self.inside.low c.self.inside.high c.self.inside.room c.self.inside.kept c.self.invariant c.args.self.now c.self.view_is c.number-number.result c.args.name c.number-number.ensures c.remove-else-number-lt-FIRST_HIGH.new.self.names (ap (λ (a : HighView). a.names) c.remove-else-number-lt-FIRST_HIGH.ensures.after) c.if-number-lt-FIRST_HIGH.false
+returns-else-number-lt-FIRST_HIGH-clause-after c = view-out_high c.self.inside.low c.self.inside.high c.self.inside.room c.self.inside.kept c.self.invariant c.args.self.now c.self.view_is c.number-number.result c.args.name c.number-number.ensures c.remove-else-number-lt-FIRST_HIGH.new.self.names (ap (λ (a : HighView Entry). a.names) c.remove-else-number-lt-FIRST_HIGH.ensures.after) c.if-number-lt-FIRST_HIGH.false

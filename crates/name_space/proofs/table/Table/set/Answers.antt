@@ -1,7 +1,7 @@
 use Rattle.std.proofs.Common.{◌∙◌, inl, ap, is_some, arith}
 use Rattle.name_space_base.specs.Pages.{PagesView}
 use Rattle.name_space.specs.declared.Entry.{Entry}
-use Rattle.name_space.specs.High.{HighView}
+use Rattle.name_space_base.specs.High.{HighView}
 use Rattle.name_space.proofs.Tables.{laid-set_low, laid-put_high, seen_low, seen_high, room_is, view-put_low, view-put_high}
 use Rattle.name_space.proofs.table.Table.set.Goals as goal
 
@@ -25,4 +25,4 @@ returns-then-number-lt-FIRST_HIGH c =
 pub returns-else-number-lt-FIRST_HIGH : goal.returns-else-number-lt-FIRST_HIGH
 returns-else-number-lt-FIRST_HIGH c =
     view-put_high c.self.inside.low c.self.inside.high c.self.inside.room c.self.inside.kept c.self.invariant c.args.self.now c.self.view_is c.number-number.result c.args.name c.number-number.ensures c.put.new.self.names c.self.inside.room c.args.self.now.room c.args.entry
-    (ap (λ (a : HighView). a.names) c.put.ensures) (room_is c.self.inside.low c.self.inside.high c.self.inside.room c.self.inside.kept c.self.invariant c.args.self.now c.self.view_is c.number-number.result c.args.name c.number-number.ensures)
+    (ap (λ (a : HighView Entry). a.names) c.put.ensures) (room_is c.self.inside.low c.self.inside.high c.self.inside.room c.self.inside.kept c.self.invariant c.args.self.now c.self.view_is c.number-number.result c.args.name c.number-number.ensures)

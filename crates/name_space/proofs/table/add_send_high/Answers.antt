@@ -1,8 +1,8 @@
 use Rattle.std.proofs.Common.{◌∙◌, inl, ap, sym}
 use Rattle.std.specs.FinMap as map
+use Rattle.name_space_base.specs.High.{HighView}
 use Rattle.name_space.specs.declared.Entry.{Entry}
-use Rattle.name_space.specs.High.{HighView}
-use Rattle.name_space.proofs.high.High.add_send.Goals as goal
+use Rattle.name_space.proofs.table.add_send_high.Goals as goal
 
 pub put-requires : goal.put-requires
 put-requires c = record { place = inl c.requires }
@@ -11,4 +11,5 @@ pub returns-clause-value : goal.returns-clause-value
 returns-clause-value c = sym c.get.ensures ∙ c.unwrap-entry.ensures
 
 pub returns-clause-after : goal.returns-clause-after
-returns-clause-after c = c.put.ensures ∙ ap (λ (e : Entry). let v : HighView = record { names = map.insert c.args.self.now.names c.args.name e; kept = c.args.self.now.kept } in v) c.with_send.ensures
+returns-clause-after c =
+    c.put.ensures ∙ ap (λ (e : Entry). let v : HighView Entry = record { names = map.insert c.args.high.now.names c.args.name e; kept = c.args.high.now.kept } in v) c.with_send.ensures
