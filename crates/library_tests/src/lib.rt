@@ -26,3 +26,5 @@ mod references;
 mod requests;
 #[cfg(test)]
 mod sets;
+#[cfg(test)]
+mod tagged;
