@@ -1,7 +1,8 @@
 //! The words of the command line.
 use crate::perform::{Job, Run};
 use crate::soak::Soak;
-use mach_bench_base::{Workload, World, all_workloads, all_worlds};
+use mach_bench_base::{World, all_worlds};
+use mach_bench_workloads::{Workload, all_workloads};
 use std::io::Write;
 use std::time::Duration;
 

@@ -3,9 +3,8 @@ ghost use Rattle.std.specs.Prelude.{◌≤◌, ◌≡◌};
 
 use crate::command_line::USAGE;
 use crate::soak::{Soak, Soaked, make_soak};
-use mach_bench_base::{
-    Bench, OPENING, SEND_RECEIVE, SMALL, Stop, Workload, World, all_workloads, all_worlds,
-};
+use mach_bench_base::{Bench, OPENING, SMALL, Stop, World, all_worlds};
+use mach_bench_workloads::{SEND_RECEIVE, Workload, all_workloads};
 use mach_msg_threads::RunFault;
 use std::alloc::{AllocError, AllocFailed};
 use std::io::Write;

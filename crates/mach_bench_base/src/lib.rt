@@ -1,4 +1,4 @@
-//! Named workloads of Mach 3 port IPC, and the worlds in which they are made.
+//! What workloads of Mach 3 port IPC are made of, and the worlds in which they are made.
 //!
 //! Instructions are counted in `bench`'s `measured` alone; `docs/PERFORMANCE.md` has the command.
 #![tactic(auto)]
@@ -6,11 +6,12 @@
 mod bench;
 mod calls;
 mod messages;
-mod workloads;
 mod worlds;
 
 pub use bench::{Bench, Group, Step, Stop, is_refused};
-pub use calls::{Call, Label, Round};
+pub use calls::{
+    COMPLEX, COPY_SEND, Call, DEAD_NAME, FULL, HOME, Label, MAKE_SEND, MAKE_SEND_ONCE,
+    MOVE_SEND_ONCE, OTHER, PEER, PORT_SET, RECEIVE, Round, SET,
+};
 pub use messages::{Body, Message};
-pub use workloads::{SEND_RECEIVE, Workload, all_workloads};
 pub use worlds::{OPENING, SMALL, World, all_worlds};

@@ -1,12 +1,13 @@
 //! What is measured: each workload by its name, with its calls.
-use crate::bench::Step::{Add, CopyCalls, Make};
-use crate::bench::{Group, Step};
-use crate::calls::Label::{Any, Rising, Same};
-use crate::calls::{
-    COMPLEX, COPY_SEND, Call, DEAD_NAME, FULL, HOME, MAKE_SEND, MAKE_SEND_ONCE, MOVE_SEND_ONCE,
-    OTHER, PEER, PORT_SET, RECEIVE, SET,
+use crate::messages::{
+    ANSWER, CARRYING, FIRST_LINK, FIRST_MEMBER, ITEMS, LINKING, LONG, REQUEST, RIGHT, SERVICE,
+    SHORT, SHORT_RISING, SHORT_TO_2, TO_CHAIN, TO_SERVICE, TOGETHER,
 };
-use crate::messages::{Body, Message};
+use mach_bench_base::Label::{Any, Rising, Same};
+use mach_bench_base::Step::{Add, CopyCalls, Make};
+use mach_bench_base::{
+    Call, DEAD_NAME, FULL, Group, HOME, OTHER, PEER, PORT_SET, RECEIVE, SET, Step,
+};
 
 /// A workload.
 #[derive(Clone, Copy)]
@@ -19,13 +20,7 @@ pub struct Workload {
     pub groups: &'static [Group],
 }
 
-/// `HOME`'s name of the port at which it receives.
-const SERVICE: u32 = 1;
-/// `PEER`'s name of a send right to that port.
-const TO_SERVICE: u32 = 100;
-/// `HOME`'s name of the first port of the set of 1,000.
-const FIRST_MEMBER: u32 = 1_001;
-/// How many there are.
+/// How many members the set of 1,000 has.
 const MEMBERS: u32 = 1_000;
 /// The name in the middle of those of a full task.
 const MIDDLE: u32 = 32_768;
@@ -43,8 +38,6 @@ const HALF: u32 = 30_000;
 const CHAIN: u32 = 10_000;
 /// Twice as many: the cost of one is to be the same.
 const LONG_CHAIN: u32 = 20_000;
-/// `HOME`'s name of the first port of a chain.
-const FIRST_LINK: u32 = 1_001;
 /// How many tasks name a port that dies, or are told of it, where they are few.
 const FEW: u32 = 1_000;
 /// The first task that a workload makes in the small world, where there are three before.
@@ -59,98 +52,6 @@ const PEER_KNOWN: Step = Make(Call::Give(Same(HOME), Same(2), PEER, Same(1)));
 const RECEIVED: Step = Add(Call::Receive(HOME, SERVICE));
 /// `HOME`'s port is in the set.
 const SERVICE_PUT: Step = Make(Call::Put(Same(SERVICE), SET));
-
-/// 24 bytes to `HOME`'s port, from itself.
-const SHORT: Message = Message {
-    bits: MAKE_SEND,
-    to: Same(SERVICE),
-    reply: 0,
-    body: Body::Zeros(0),
-};
-
-/// The same to a port in rising order.
-const SHORT_RISING: Message = Message {
-    to: Rising(FIRST_MEMBER),
-    ..SHORT
-};
-
-/// The same to the port under 2.
-const SHORT_TO_2: Message = Message {
-    to: Same(2),
-    ..SHORT
-};
-
-/// The same with 4,096 bytes more.
-const LONG: Message = Message {
-    bits: MAKE_SEND,
-    to: Same(SERVICE),
-    reply: 0,
-    body: Body::Zeros(1_024),
-};
-
-/// A message from `PEER` with one send right.
-const RIGHT: Message = Message {
-    bits: COMPLEX | COPY_SEND,
-    to: Same(TO_SERVICE),
-    reply: 0,
-    body: Body::Items(1),
-};
-
-/// A message from `PEER` with 64 rights, in an item each.
-const ITEMS: Message = Message {
-    bits: COMPLEX | COPY_SEND,
-    to: Same(TO_SERVICE),
-    reply: 0,
-    body: Body::Items(64),
-};
-
-/// The same in one item.
-const TOGETHER: Message = Message {
-    bits: COMPLEX | COPY_SEND,
-    to: Same(TO_SERVICE),
-    reply: 0,
-    body: Body::Together,
-};
-
-/// A request of `PEER`'s, with a send-once right to its port.
-const REQUEST: Message = Message {
-    bits: COPY_SEND | MAKE_SEND_ONCE << 8,
-    to: Same(TO_SERVICE),
-    reply: 1,
-    body: Body::Zeros(0),
-};
-
-/// The answer, by the right that came under the fresh name 2.
-const ANSWER: Message = Message {
-    bits: MOVE_SEND_ONCE,
-    to: Same(2),
-    reply: 0,
-    body: Body::Zeros(0),
-};
-
-/// The receive right of the port under 2, which comes under the fresh name 2 again.
-const CARRYING: Message = Message {
-    bits: COMPLEX | MAKE_SEND,
-    to: Same(SERVICE),
-    reply: 0,
-    body: Body::Moved(Same(2)),
-};
-
-/// The receive right of a port of a chain, to the next one.
-const LINKING: Message = Message {
-    bits: COMPLEX | MAKE_SEND,
-    to: Rising(FIRST_LINK + 1),
-    reply: 0,
-    body: Body::Moved(Rising(FIRST_LINK)),
-};
-
-/// The receive right of `HOME`'s port, to the first port of a chain, by `HOME`'s send right to it.
-const TO_CHAIN: Message = Message {
-    bits: COMPLEX | COPY_SEND,
-    to: Same(FIRST_LINK),
-    reply: 0,
-    body: Body::Moved(Same(SERVICE)),
-};
 
 /// `HOME`'s port, to which `PEER` has a send right, and a port of `PEER`'s.
 const TWO_TASKS: Group = Group {
