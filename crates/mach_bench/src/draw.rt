@@ -151,13 +151,7 @@ impl Draw {
             reply,
             body,
         };
-        message.bytes(
-            alloc,
-            Round {
-                index: 0,
-                random: 0,
-            },
-        )
+        message.bytes(alloc, Round::first())
     }
 
     /// What stands behind the header.

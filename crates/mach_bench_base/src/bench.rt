@@ -51,6 +51,7 @@ pub struct Bench {
     alloc: Global,
     kernel: Kernel,
     made: usize,
+    round: Round,
     cycle: Vec<Event>,
     copied: bool,
 }
@@ -62,6 +63,7 @@ impl Bench {
             alloc,
             kernel: Kernel::new(alloc),
             made: 0,
+            round: Round::first(),
             cycle: Vec::new(alloc),
             copied: false,
         }
@@ -77,26 +79,27 @@ impl Bench {
 
     /// Takes the steps in so many rounds.
     fn take_rounds(&mut self, rounds: u32, steps: &[Step]) -> Result<(), Stop> {
-        let mut random = 1u32;
+        self.round.random = 1;
         for index in 0..rounds {
-            random = random.wrapping_mul(1_664_525).wrapping_add(1_013_904_223);
-            self.take_steps(steps, Round { index, random })?;
+            self.round.index = index;
+            self.round.random = next_random(self.round.random);
+            self.take_steps(steps)?;
         }
         Ok(())
     }
 
     /// Takes the steps of one round.
-    fn take_steps(&mut self, steps: &[Step], round: Round) -> Result<(), Stop> {
+    fn take_steps(&mut self, steps: &[Step]) -> Result<(), Stop> {
         for step in steps {
-            self.take_step(*step, round)?;
+            self.take_step(*step)?;
         }
         Ok(())
     }
 
-    fn take_step(&mut self, step: Step, round: Round) -> Result<(), Stop> {
+    fn take_step(&mut self, step: Step) -> Result<(), Stop> {
         match step {
-            Step::Make(call) => self.make(&call.event(self.alloc, round)?),
-            Step::Add(call) => self.add(call.event(self.alloc, round)?),
+            Step::Make(call) => self.make(&call.event(self.alloc, self.round)?),
+            Step::Add(call) => self.add(call.event(self.alloc, self.round)?),
             Step::CopyCalls => {
                 self.copied = true;
                 Ok(())
@@ -107,9 +110,11 @@ impl Bench {
     /// Makes a call at once.
     fn make(&mut self, event: &Event) -> Result<(), Stop> {
         self.made = self.made.saturating_add(1);
-        if is_refused(&self.kernel.step(event)) {
+        let reply = self.kernel.step(event);
+        if is_refused(&reply) {
             return Err(Stop::Setup(self.made));
         }
+        self.round.returned = name_in(&reply).unwrap_or(self.round.returned);
         Ok(())
     }
 
@@ -134,6 +139,19 @@ impl Bench {
         } else {
             measured(&mut self.kernel, events, times)
         }
+    }
+}
+
+/// The number after this one in a row whose high bits are as good as random.
+fn next_random(random: u32) -> u32 {
+    random.wrapping_mul(1_664_525).wrapping_add(1_013_904_223)
+}
+
+/// The name in a reply, if it has one.
+fn name_in(reply: &Reply) -> Option<u32> {
+    match reply {
+        Reply::Name(name) | Reply::Right(name, _) | Reply::Previous(name) => Some(name.number()),
+        _ => None,
     }
 }
 

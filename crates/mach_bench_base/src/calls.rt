@@ -27,6 +27,9 @@ pub const PORT_SET: u32 = 3;
 /// The number of a dead name.
 pub const DEAD_NAME: u32 = 4;
 
+/// The variant of a no-senders request.
+const NO_SENDERS_REQUEST: u32 = 70;
+
 /// The variant of a dead-name request.
 const DEAD_NAME_REQUEST: u32 = 72;
 
@@ -48,13 +51,26 @@ pub const MAKE_SEND_ONCE: u32 = 21;
 /// The bit of a message's header that says that rights stand in its body.
 pub const COMPLEX: u32 = 0x8000_0000;
 
-/// Which of the rounds that calls are made in.
+/// Which of the rounds calls are made in, and what labels are found by.
 #[derive(Clone, Copy)]
 pub struct Round {
     /// Its number, from 0.
     pub index: u32,
     /// A number whose high bits are as good as random.
     pub random: u32,
+    /// The name in the last reply that had one, at first 0.
+    pub returned: u32,
+}
+
+impl Round {
+    /// The first, before any name was returned.
+    pub fn first() -> Round {
+        Round {
+            index: 0,
+            random: 0,
+            returned: 0,
+        }
+    }
 }
 
 /// A name in a call, or a task.
@@ -66,6 +82,8 @@ pub enum Label {
     Rising(u32),
     /// One of those of a full task, at random.
     Any,
+    /// The name in the last reply that had one.
+    Returned,
 }
 
 impl Label {
@@ -75,6 +93,7 @@ impl Label {
             Label::Same(name) => name,
             Label::Rising(name) => name.wrapping_add(round.index),
             Label::Any => round.random / 65_536 % FULL + 1,
+            Label::Returned => round.returned,
         }
     }
 
@@ -86,6 +105,28 @@ impl Label {
     /// The same, as a task.
     fn task(self, round: Round) -> TaskId {
         TaskId::new(self.number(round))
+    }
+}
+
+/// The send-once right by which a notice is sent.
+#[derive(Clone, Copy)]
+pub enum Notify {
+    /// Made from the receive right under the name.
+    Made(u32),
+    /// Moved from under the name.
+    Moved(Label),
+    /// None: the request is taken away, and its right returned under a fresh name.
+    Nothing,
+}
+
+impl Notify {
+    /// The name of the right and its disposition in this round.
+    fn parts(self, round: Round) -> (Name, u32) {
+        match self {
+            Notify::Made(name) => (Name::new(name), MAKE_SEND_ONCE),
+            Notify::Moved(label) => (label.name(round), MOVE_SEND_ONCE),
+            Notify::Nothing => (Name::null(), MAKE_SEND_ONCE),
+        }
     }
 }
 
@@ -108,8 +149,12 @@ pub enum Call {
     Change(u32, i32),
     /// The task gets, under the name, a send right made from what another has under a name.
     Give(Label, Label, u32, Label),
-    /// The task asks, by its port under 1, to be told when the port under 2 dies.
-    Ask(Label),
+    /// The task asks to be told when the port under the name dies, or takes that request away.
+    Ask(Label, Label, Notify),
+    /// Asks, by the port under 1, to be told when the port under the name has no senders.
+    AskSenders(u32),
+    /// Sets the queue limit of the port under the name.
+    Limit(u32, u32),
     /// Takes a send right, made from what `PEER` has under the name.
     Extract(u32),
     /// Asks for the type of the name.
@@ -158,7 +203,19 @@ impl Call {
                 (task.task(round), label.name(round)),
                 (TaskId::new(from), poly.name(round)),
             ),
-            Call::Ask(task) => ask(task.task(round)),
+            Call::Ask(task, name, notify) => ask(
+                task.task(round),
+                name.name(round),
+                DEAD_NAME_REQUEST,
+                notify.parts(round),
+            ),
+            Call::AskSenders(name) => ask(
+                home,
+                Name::new(name),
+                NO_SENDERS_REQUEST,
+                Notify::Made(1).parts(round),
+            ),
+            Call::Limit(name, limit) => Event::SetQlimit(home, Name::new(name), limit),
             Call::Extract(name) => {
                 Event::ExtractRight(TaskId::new(PEER), Name::new(name), MAKE_SEND, home)
             }
@@ -178,14 +235,7 @@ fn give(to: (TaskId, Name), from: (TaskId, Name)) -> Event {
     Event::InsertRight(to.0, to.1, from.0, from.1, MAKE_SEND)
 }
 
-/// The call by which a task asks, by its port under 1, to be told when the port under 2 dies.
-fn ask(task: TaskId) -> Event {
-    Event::RequestNotification(
-        task,
-        Name::new(2),
-        DEAD_NAME_REQUEST,
-        0,
-        Name::new(1),
-        MAKE_SEND_ONCE,
-    )
+/// The call by which a task makes a request on a name, with the name and disposition of the right to notify by.
+fn ask(task: TaskId, name: Name, variant: u32, notify: (Name, u32)) -> Event {
+    Event::RequestNotification(task, name, variant, 0, notify.0, notify.1)
 }

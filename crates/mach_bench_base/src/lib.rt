@@ -11,7 +11,7 @@ mod worlds;
 pub use bench::{Bench, Group, Step, Stop, is_refused};
 pub use calls::{
     COMPLEX, COPY_SEND, Call, DEAD_NAME, FULL, HOME, Label, MAKE_SEND, MAKE_SEND_ONCE,
-    MOVE_SEND_ONCE, OTHER, PEER, PORT_SET, RECEIVE, Round, SET,
+    MOVE_SEND_ONCE, Notify, OTHER, PEER, PORT_SET, RECEIVE, Round, SET,
 };
 pub use messages::{Body, Message};
 pub use worlds::{OPENING, SMALL, World, all_worlds};

@@ -3,10 +3,10 @@ use crate::messages::{
     ANSWER, CARRYING, FIRST_LINK, FIRST_MEMBER, ITEMS, LINKING, LONG, REQUEST, RIGHT, SERVICE,
     SHORT, SHORT_RISING, SHORT_TO_2, TO_CHAIN, TO_SERVICE, TOGETHER,
 };
-use mach_bench_base::Label::{Any, Rising, Same};
+use mach_bench_base::Label::{Any, Returned, Rising, Same};
 use mach_bench_base::Step::{Add, CopyCalls, Make};
 use mach_bench_base::{
-    Call, DEAD_NAME, FULL, Group, HOME, OTHER, PEER, PORT_SET, RECEIVE, SET, Step,
+    Call, DEAD_NAME, FULL, Group, HOME, Notify, OTHER, PEER, PORT_SET, RECEIVE, SET, Step,
 };
 
 /// A workload.
@@ -107,7 +107,7 @@ const NAMING_AND_ASKING: &[Step] = &[
     Make(Call::Task),
     Make(Call::Make(Rising(FIRST_TASK), RECEIVE)),
     Make(Call::Give(Rising(FIRST_TASK), Same(2), HOME, Same(SERVICE))),
-    Make(Call::Ask(Rising(FIRST_TASK))),
+    Make(Call::Ask(Rising(FIRST_TASK), Same(2), Notify::Made(1))),
 ];
 
 /// The first port of a chain.
@@ -144,7 +144,7 @@ pub const SEND_RECEIVE: Workload = Workload {
     }],
 };
 
-const WORKLOADS: [Workload; 39] = [
+const WORKLOADS: [Workload; 42] = [
     SEND_RECEIVE,
     // The same by a caller that has bytes: its events are made of them, and what it receives is copied out.
     Workload {
@@ -409,6 +409,49 @@ const WORKLOADS: [Workload; 39] = [
         groups: &[Group {
             rounds: 1,
             steps: &[SERVICE_MADE, Add(Call::Status(SERVICE))],
+        }],
+    },
+    // A port's queue limit changed.
+    Workload {
+        name: "limit",
+        operations: 1,
+        groups: &[Group {
+            rounds: 1,
+            steps: &[SERVICE_MADE, Add(Call::Limit(SERVICE, 7))],
+        }],
+    },
+    // A no-senders request of a port that has a sender: the sender goes, and the notice is received.
+    Workload {
+        name: "no-senders",
+        operations: 1,
+        groups: &[Group {
+            rounds: 1,
+            steps: &[
+                SERVICE_MADE,
+                Make(Call::MakeNamed(HOME, RECEIVE, Same(2))),
+                Add(Call::Give(Same(HOME), Same(2), HOME, Same(2))),
+                Add(Call::AskSenders(2)),
+                Add(Call::Change(2, -1)),
+                RECEIVED,
+            ],
+        }],
+    },
+    // A dead-name request on the name of a send right, by a send-once right, and the request taken away, which returns
+    // that right under the fresh name that it had.
+    Workload {
+        name: "dead-name-request",
+        operations: 1,
+        groups: &[Group {
+            rounds: 1,
+            steps: &[
+                SERVICE_MADE,
+                PEER_MADE,
+                Make(Call::Give(Same(HOME), Same(2), PEER, Same(1))),
+                Make(Call::Ask(Same(HOME), Same(2), Notify::Made(SERVICE))),
+                Make(Call::Ask(Same(HOME), Same(2), Notify::Nothing)),
+                Add(Call::Ask(Same(HOME), Same(2), Notify::Moved(Returned))),
+                Add(Call::Ask(Same(HOME), Same(2), Notify::Nothing)),
+            ],
         }],
     },
     // A receive right, from under 1 to 2 and back.
