@@ -1,7 +1,8 @@
 //! A kernel that is made ready for a workload, and the calls to measure.
-use crate::calls::{Call, Round};
+use crate::calls::{Call, HOME, KEPT, Round};
+use crate::chosen::{Identities, is_chosen, next_name};
 use kernel_core::Kernel;
-use mach_types::{Bytes, Event, Reply};
+use mach_types::{Bytes, Event, Name, Reply, TaskId};
 use std::alloc::{AllocError, Global};
 
 /// What stops a measurement.
@@ -31,6 +32,11 @@ pub enum Step {
     Make(Call),
     /// It is put at the end of the cycle.
     Add(Call),
+    /// `HOME` makes a port or a set, as the right's number says, and destroys it at once unless its identity is
+    /// chosen. Those that stay have rising names, from `KEPT` on.
+    Sift(u32),
+    /// The next name is chosen: `Label::Chosen` is that name from then on.
+    Choose,
     /// The cycle is made as by a caller that has bytes: a message is sent from a copy, and copied out where it
     /// is received.
     CopyCalls,
@@ -51,6 +57,9 @@ pub struct Bench {
     alloc: Global,
     kernel: Kernel,
     made: usize,
+    identities: Identities,
+    /// How many of the sifted ports or sets stayed.
+    kept: u32,
     round: Round,
     cycle: Vec<Event>,
     copied: bool,
@@ -63,6 +72,8 @@ impl Bench {
             alloc,
             kernel: Kernel::new(alloc),
             made: 0,
+            identities: Identities::first(),
+            kept: 0,
             round: Round::first(),
             cycle: Vec::new(alloc),
             copied: false,
@@ -100,11 +111,29 @@ impl Bench {
         match step {
             Step::Make(call) => self.make(&call.event(self.alloc, self.round)?),
             Step::Add(call) => self.add(call.event(self.alloc, self.round)?),
+            Step::Sift(right) => self.sift(right),
+            Step::Choose => {
+                self.round.chosen = next_name(self.round.chosen);
+                Ok(())
+            }
             Step::CopyCalls => {
                 self.copied = true;
                 Ok(())
             }
         }
+    }
+
+    /// Makes a right of `HOME`'s, and destroys it unless its identity is chosen.
+    fn sift(&mut self, right: u32) -> Result<(), Stop> {
+        let home = TaskId::new(HOME);
+        let name = Name::new(KEPT.wrapping_add(self.kept));
+        let identity = self.identities.next(right);
+        self.make(&Event::AllocateName(home, right, name))?;
+        if is_chosen(identity) {
+            self.kept = self.kept.wrapping_add(1);
+            return Ok(());
+        }
+        self.make(&Event::Destroy(home, name))
     }
 
     /// Makes a call at once.
@@ -115,6 +144,7 @@ impl Bench {
             return Err(Stop::Setup(self.made));
         }
         self.round.returned = name_in(&reply).unwrap_or(self.round.returned);
+        self.identities.count(event);
         Ok(())
     }
 

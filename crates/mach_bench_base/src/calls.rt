@@ -15,6 +15,9 @@ pub const OTHER: u32 = 2;
 /// The name of a port set that `HOME` has in every world.
 pub const SET: u32 = 200;
 
+/// `HOME`'s name of the first port or set that stays because its identity is chosen.
+pub const KEPT: u32 = 64_536;
+
 /// How many names a full task has.
 pub const FULL: u32 = 65_535;
 
@@ -26,6 +29,9 @@ pub const PORT_SET: u32 = 3;
 
 /// The number of a dead name.
 pub const DEAD_NAME: u32 = 4;
+
+/// `HOME`'s name on which the workload of dead-name requests asks.
+pub const ASKED: u32 = 2;
 
 /// The variant of a no-senders request.
 const NO_SENDERS_REQUEST: u32 = 70;
@@ -60,15 +66,18 @@ pub struct Round {
     pub random: u32,
     /// The name in the last reply that had one, at first 0.
     pub returned: u32,
+    /// The name that was chosen last, at first `ASKED`.
+    pub chosen: u32,
 }
 
 impl Round {
-    /// The first, before any name was returned.
+    /// The first, before any name was returned or chosen.
     pub fn first() -> Round {
         Round {
             index: 0,
             random: 0,
             returned: 0,
+            chosen: ASKED,
         }
     }
 }
@@ -84,6 +93,8 @@ pub enum Label {
     Any,
     /// The name in the last reply that had one.
     Returned,
+    /// The name that was chosen last.
+    Chosen,
 }
 
 impl Label {
@@ -94,6 +105,7 @@ impl Label {
             Label::Rising(name) => name.wrapping_add(round.index),
             Label::Any => round.random / 65_536 % FULL + 1,
             Label::Returned => round.returned,
+            Label::Chosen => round.chosen,
         }
     }
 
@@ -166,7 +178,7 @@ pub enum Call {
     /// Asks for the status of the port under the name.
     Status(u32),
     /// Puts the port into a set, or into none where that is 0.
-    Put(Label, u32),
+    Put(Label, Label),
     /// The task sends the message.
     Send(u32, Message),
     /// The task receives by the name, with room for every message.
@@ -223,7 +235,7 @@ impl Call {
             Call::Names => Event::Names(home),
             Call::Rename(from, to) => Event::Rename(home, Name::new(from), Name::new(to)),
             Call::Status(name) => Event::ReceiveStatus(home, Name::new(name)),
-            Call::Put(label, set) => Event::MoveMember(home, label.name(round), Name::new(set)),
+            Call::Put(label, set) => Event::MoveMember(home, label.name(round), set.name(round)),
             // the only one left that comes here is `Call::Task`
             _ => Event::TaskCreate,
         }

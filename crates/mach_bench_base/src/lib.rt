@@ -5,12 +5,13 @@
 
 mod bench;
 mod calls;
+mod chosen;
 mod messages;
 mod worlds;
 
 pub use bench::{Bench, Group, Step, Stop, is_refused};
 pub use calls::{
-    COMPLEX, COPY_SEND, Call, DEAD_NAME, FULL, HOME, Label, MAKE_SEND, MAKE_SEND_ONCE,
+    ASKED, COMPLEX, COPY_SEND, Call, DEAD_NAME, FULL, HOME, Label, MAKE_SEND, MAKE_SEND_ONCE,
     MOVE_SEND_ONCE, Notify, OTHER, PEER, PORT_SET, RECEIVE, Round, SET,
 };
 pub use messages::{Body, Message};

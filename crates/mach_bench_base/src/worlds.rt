@@ -1,8 +1,10 @@
 //! What stands in a kernel beside that which is measured.
 use crate::bench::Group;
-use crate::bench::Step::Make;
-use crate::calls::Label::{Rising, Same};
-use crate::calls::{Call, DEAD_NAME, HOME, MAKE_SEND_ONCE, OTHER, PORT_SET, RECEIVE, SET};
+use crate::bench::Step::{Choose, Make, Sift};
+use crate::calls::Label::{Chosen, Rising, Same};
+use crate::calls::{
+    Call, DEAD_NAME, HOME, KEPT, MAKE_SEND_ONCE, Notify, OTHER, PORT_SET, RECEIVE, SET,
+};
 use crate::messages::{Body, Message};
 
 /// A world: what a kernel has that an operation doesn't touch.
@@ -37,6 +39,17 @@ const NAMES: u32 = 65_000;
 /// How many messages lie in the queue of another port.
 const QUEUED: u32 = 1_000;
 
+/// How many ports, or sets with that of the opening, are made in a row. The identity after them is a chosen one.
+const SIFTED: u32 = 400_198;
+/// How many of the ports are made before one that lies deepest in the tree of those that stay.
+const OLDER: u32 = 341_724;
+/// How many of the sets stay, beside that of the opening.
+const STAYING: u32 = 781;
+/// `HOME`'s name of the first member of these.
+const FIRST_MEMBER: u32 = KEPT - 1_000;
+/// How many dead-name requests there are.
+const REQUESTS: u32 = 6_000;
+
 /// A message by a send-once right, which no queue limit stops, to the port under the last name.
 const TO_LAST: Message = Message {
     bits: MAKE_SEND_ONCE,
@@ -49,6 +62,12 @@ const TO_LAST: Message = Message {
 const PORTS_MADE: Group = Group {
     rounds: MANY,
     steps: &[Make(Call::MakeNamed(HOME, RECEIVE, Rising(END - MANY)))],
+};
+
+/// A port of the task, under the last name.
+const LAST_MADE: Group = Group {
+    rounds: 1,
+    steps: &[Make(Call::MakeNamed(HOME, RECEIVE, Same(END - 1)))],
 };
 
 /// 60,000 ports of another task.
@@ -64,7 +83,7 @@ pub const SMALL: World = World {
     after: &[],
 };
 
-const WORLDS: [World; 9] = [
+const WORLDS: [World; 13] = [
     SMALL,
     // 60,000 tasks more.
     World {
@@ -118,7 +137,7 @@ const WORLDS: [World; 9] = [
             PORTS_MADE,
             Group {
                 rounds: MANY,
-                steps: &[Make(Call::Put(Rising(END - MANY), SET))],
+                steps: &[Make(Call::Put(Rising(END - MANY), Same(SET)))],
             },
         ],
         after: &[],
@@ -127,13 +146,65 @@ const WORLDS: [World; 9] = [
     World {
         name: "queued",
         before: &[
-            Group {
-                rounds: 1,
-                steps: &[Make(Call::MakeNamed(HOME, RECEIVE, Same(END - 1)))],
-            },
+            LAST_MADE,
             Group {
                 rounds: QUEUED,
                 steps: &[Make(Call::Send(HOME, TO_LAST))],
+            },
+        ],
+        after: &[],
+    },
+    // Ports of the task with chosen identities, made after the workload's, of which the first has identity 0.
+    World {
+        name: "chosen",
+        before: &[],
+        after: &[Group {
+            rounds: SIFTED,
+            steps: &[Sift(RECEIVE)],
+        }],
+    },
+    // The same, made before and after the workload's ports, of which the first lies deepest in the tree.
+    World {
+        name: "chosen-deep",
+        before: &[Group {
+            rounds: OLDER,
+            steps: &[Sift(RECEIVE)],
+        }],
+        after: &[Group {
+            rounds: SIFTED - OLDER,
+            steps: &[Sift(RECEIVE)],
+        }],
+    },
+    // Port sets of the task with chosen identities, each with a member. The set of the opening has identity 0.
+    World {
+        name: "chosen-sets",
+        before: &[
+            Group {
+                rounds: SIFTED - 1,
+                steps: &[Sift(PORT_SET)],
+            },
+            Group {
+                rounds: STAYING,
+                steps: &[
+                    Make(Call::MakeNamed(HOME, RECEIVE, Rising(FIRST_MEMBER))),
+                    Make(Call::Put(Rising(FIRST_MEMBER), Rising(KEPT))),
+                ],
+            },
+        ],
+        after: &[],
+    },
+    // 6,000 dead-name requests of the task on chosen names.
+    World {
+        name: "chosen-names",
+        before: &[
+            LAST_MADE,
+            Group {
+                rounds: REQUESTS,
+                steps: &[
+                    Choose,
+                    Make(Call::MakeNamed(HOME, RECEIVE, Chosen)),
+                    Make(Call::Ask(Same(HOME), Chosen, Notify::Made(END - 1))),
+                ],
             },
         ],
         after: &[],

@@ -6,7 +6,7 @@ use crate::messages::{
 use mach_bench_base::Label::{Any, Returned, Rising, Same};
 use mach_bench_base::Step::{Add, CopyCalls, Make};
 use mach_bench_base::{
-    Call, DEAD_NAME, FULL, Group, HOME, Notify, OTHER, PEER, PORT_SET, RECEIVE, SET, Step,
+    ASKED, Call, DEAD_NAME, FULL, Group, HOME, Notify, OTHER, PEER, PORT_SET, RECEIVE, SET, Step,
 };
 
 /// A workload.
@@ -51,7 +51,7 @@ const PEER_KNOWN: Step = Make(Call::Give(Same(HOME), Same(2), PEER, Same(1)));
 /// `HOME` receives at its port.
 const RECEIVED: Step = Add(Call::Receive(HOME, SERVICE));
 /// `HOME`'s port is in the set.
-const SERVICE_PUT: Step = Make(Call::Put(Same(SERVICE), SET));
+const SERVICE_PUT: Step = Make(Call::Put(Same(SERVICE), Same(SET)));
 
 /// `HOME`'s port, to which `PEER` has a send right, and a port of `PEER`'s.
 const TWO_TASKS: Group = Group {
@@ -144,7 +144,7 @@ pub const SEND_RECEIVE: Workload = Workload {
     }],
 };
 
-const WORKLOADS: [Workload; 42] = [
+const WORKLOADS: [Workload; 43] = [
     SEND_RECEIVE,
     // The same by a caller that has bytes: its events are made of them, and what it receives is copied out.
     Workload {
@@ -256,7 +256,7 @@ const WORKLOADS: [Workload; 42] = [
             rounds: MEMBERS,
             steps: &[
                 Make(Call::MakeNamed(HOME, RECEIVE, Rising(FIRST_MEMBER))),
-                Make(Call::Put(Rising(FIRST_MEMBER), SET)),
+                Make(Call::Put(Rising(FIRST_MEMBER), Same(SET))),
                 Add(Call::Send(HOME, SHORT_RISING)),
                 Add(Call::Receive(HOME, SET)),
             ],
@@ -287,7 +287,7 @@ const WORKLOADS: [Workload; 42] = [
                 SERVICE_PUT,
                 Make(Call::Send(HOME, SHORT)),
                 Make(Call::MakeNamed(HOME, RECEIVE, Same(2))),
-                Make(Call::Put(Same(2), SET)),
+                Make(Call::Put(Same(2), Same(SET))),
                 Make(Call::Send(HOME, SHORT_TO_2)),
                 Add(Call::Send(HOME, SHORT)),
                 Add(Call::Receive(HOME, SET)),
@@ -446,11 +446,11 @@ const WORKLOADS: [Workload; 42] = [
             steps: &[
                 SERVICE_MADE,
                 PEER_MADE,
-                Make(Call::Give(Same(HOME), Same(2), PEER, Same(1))),
-                Make(Call::Ask(Same(HOME), Same(2), Notify::Made(SERVICE))),
-                Make(Call::Ask(Same(HOME), Same(2), Notify::Nothing)),
-                Add(Call::Ask(Same(HOME), Same(2), Notify::Moved(Returned))),
-                Add(Call::Ask(Same(HOME), Same(2), Notify::Nothing)),
+                Make(Call::Give(Same(HOME), Same(ASKED), PEER, Same(1))),
+                Make(Call::Ask(Same(HOME), Same(ASKED), Notify::Made(SERVICE))),
+                Make(Call::Ask(Same(HOME), Same(ASKED), Notify::Nothing)),
+                Add(Call::Ask(Same(HOME), Same(ASKED), Notify::Moved(Returned))),
+                Add(Call::Ask(Same(HOME), Same(ASKED), Notify::Nothing)),
             ],
         }],
     },
@@ -475,8 +475,8 @@ const WORKLOADS: [Workload; 42] = [
             rounds: 1,
             steps: &[
                 SERVICE_MADE,
-                Add(Call::Put(Same(SERVICE), SET)),
-                Add(Call::Put(Same(SERVICE), 0)),
+                Add(Call::Put(Same(SERVICE), Same(SET))),
+                Add(Call::Put(Same(SERVICE), Same(0))),
             ],
         }],
     },
@@ -555,6 +555,18 @@ const WORKLOADS: [Workload; 42] = [
         groups: &[
             Group {
                 rounds: HALF,
+                steps: RECEIVE_RIGHT,
+            },
+            OTHER_ENDS,
+        ],
+    },
+    // A task ends that has one receive right.
+    Workload {
+        name: "end-receive-1",
+        operations: 1,
+        groups: &[
+            Group {
+                rounds: 1,
                 steps: RECEIVE_RIGHT,
             },
             OTHER_ENDS,
