@@ -1,11 +1,12 @@
 /* Gelvonds for C: Mach 3 port IPC in one process, by calls of a kernel of one's own.
  *
- * Each function but gelvonds_make and gelvonds_free makes one call of a task, by the kernel's own step, and
- * answers its code: Mach's number, or one of the library's own (GELVONDS_..). The Mach calls are those of
- * Keith Loepere, Mach 3 Kernel Interfaces (1992), in the chapter that each comment names; docs/CALLS.md says
- * what each does and which refusal comes first. docs/EMBEDDING.md says how to build and link.
+ * Each function but gelvonds_make, gelvonds_make_with_profile and gelvonds_free makes one call of a task, by
+ * the kernel's own step, and answers its code: Mach's number, or one of the library's own (GELVONDS_..). The
+ * Mach calls are those of Keith Loepere, Mach 3 Kernel Interfaces (1992), in the chapter that each comment
+ * names; docs/CALLS.md says what each does and which refusal comes first. docs/EMBEDDING.md says how to build
+ * and link.
  *
- * Every function but gelvonds_make, gelvonds_free and gelvonds_receive_again may also answer
+ * Each of these functions but gelvonds_receive_again may also answer
  *   GELVONDS_NO_KERNEL  the handle holds no kernel
  *   KERN_INVALID_TASK   (not gelvonds_task_create) a task that it names doesn't live
  * and gelvonds_receive_again GELVONDS_NO_KERNEL, GELVONDS_NO_WAITED and KERN_INVALID_TASK. Where another
@@ -32,7 +33,7 @@ typedef struct gelvonds {
     void *kernel;
 } gelvonds;
 
-/* What a handle is before gelvonds_make. */
+/* What a handle is before it holds a kernel. */
 #define GELVONDS_NONE { 0 }
 
 /* A task's number, from 0 in the order of their creation; never used again. */
@@ -155,9 +156,20 @@ typedef struct gelvonds_waited {
 
 /* ---- the kernel ---- */
 
-/* Makes a kernel in which nothing was made yet. KERN_RESOURCE_SHORTAGE: memory, and the handle holds none;
- * GELVONDS_IN_USE: it holds a kernel already, which stays. */
+/* Makes a kernel of profile 1 in which nothing was made yet.
+ * GELVONDS_IN_USE: the handle holds a kernel already, which stays; KERN_RESOURCE_SHORTAGE: memory, and the handle
+ * holds none. */
 gelvonds_code gelvonds_make(gelvonds *kernel);
+
+/* The same, of this profile, which says how the kernel makes the fresh names that it gives a task:
+ *   1  the least number, from 1, that the task doesn't use
+ *   2  the least index, from 1, that no name of the task has, times 256, plus how often a fresh name was given
+ *      to the task at that index before, modulo 256. The index of a name is the name / 256. So the first is 256,
+ *      the next 512, and once 512 is given up 513 comes: not the same name for another right.
+ * Names that a caller chooses may be any, and aren't counted. The refusals, in this order: GELVONDS_IN_USE: the
+ * handle holds a kernel already, which stays, whatever the profile is; KERN_INVALID_ARGUMENT: another profile;
+ * KERN_RESOURCE_SHORTAGE: memory. By the last two no kernel is made, and the handle holds none. */
+gelvonds_code gelvonds_make_with_profile(gelvonds *kernel, uint32_t profile);
 
 /* Ends the kernel: gives back all its memory, and the handle holds none. Nothing where it holds none. */
 void gelvonds_free(gelvonds *kernel);
@@ -175,8 +187,7 @@ gelvonds_code gelvonds_task_terminate(gelvonds *kernel, gelvonds_task task);
 /* ---- names: Port Manipulation Interface ---- */
 
 /* mach_port_allocate: makes a port, of which the task has the receive right (MACH_PORT_RIGHT_RECEIVE), an
- * empty set (.._PORT_SET) or a dead name (.._DEAD_NAME), under a fresh name: the least, from 1, that the task
- * doesn't use.
+ * empty set (.._PORT_SET) or a dead name (.._DEAD_NAME), under a fresh name (gelvonds_make_with_profile).
  * KERN_INVALID_VALUE: another right; KERN_NO_SPACE: a limit; KERN_RESOURCE_SHORTAGE: memory. */
 gelvonds_code gelvonds_port_allocate(gelvonds *kernel, gelvonds_task task, uint32_t right, gelvonds_name *name);
 

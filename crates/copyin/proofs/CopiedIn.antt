@@ -163,6 +163,7 @@ module _ (w : WorldView) (s : State) (a : Agrees w s) (o k : ℕ) (l : IsMoving 
       stands = λ r. refl;
       requests = λ r c q. let z = kept_entry r o k c kind q p in omega (arith, z);
       no_set = named_no_set entry p named;
+      given = refl;
     }
 
   module _ (p : ℕ) (named : port_named entry ≡ Some p) (is_target : target_of entry ≡ Target.port p) where
@@ -540,8 +541,13 @@ module _ (w : WorldView) (s : State) (a : Agrees w s) (o k : ℕ) (l : IsMoving 
     stands = stands_are_in b;
     requests = λ r c q. refl;
     no_set = dead_no_set n;
+    given = same_given b;
   }
     where
+      same_given : (x : Bool) → (fewer x).given ≡ s.given
+      same_given true = refl
+      same_given false = refl
+
       shape_is : (x : Bool) → fewer x ≡ shape s (fewer x)
       shape_is true = refl
       shape_is false = refl
@@ -597,6 +603,7 @@ module _ (w : WorldView) (s : State) (a : Agrees w s) (o k : ℕ) (l : IsMoving 
           stands = λ r. refl;
           requests = λ r c q. refl;
           no_set = dead_no_set n;
+          given = refl;
         };
   }
 

@@ -4,6 +4,7 @@ use Rattle.std.specs.Prelude.{◌==◌, MatchBool, map as list_map, replicate, f
 use Rattle.std.specs.FinMap as map
 use Rattle.std.proofs.lemmas.List.{map-append}
 use Rattle.std.specs.Option.{option_map}
+use Rattle.mach_types.specs.declared.profiles.Profile.{Profile}
 use Rattle.mach_types.specs.Numbers.{null_word, dead_word, disposition, kind_sent}
 use Rattle.mach_types.specs.declared.rights.Disposition.{Disposition}
 use Rattle.mach_types.specs.Grammar.{WireBody, Wire, data_item, port_item, IsWire, IsWireBody}
@@ -501,8 +502,8 @@ same_queued ports p v m there = record { live = same_put ports p v (record v { q
 
 -- ---- in the tables
 
-module _ (old : WorldView) (spaces : List (Option SpaceView)) (ports : PortsView Kept) (ledger : LedgerView) (sets : SetsView) (requests : RequestTablesView)
-    (view : tables spaces ports ledger sets requests ≡ old) where
+module _ (old : WorldView) {profile : Profile} (spaces : List (Option SpaceView)) (ports : PortsView Kept) (ledger : LedgerView) (sets : SetsView) (requests : RequestTablesView)
+    (view : tables profile spaces ports ledger sets requests ≡ old) where
   abbrev Lives : Entry → Type 0
   Lives e = (p : ℕ) → port_of e ≡ Some p → IsLive ports p
 
@@ -510,7 +511,7 @@ module _ (old : WorldView) (spaces : List (Option SpaceView)) (ports : PortsView
   pub is_for_live : (task name : ℕ) → IfSome (entry_at old task name) (λ e. IsForLive old e)
   is_for_live task name = subst (λ (w : WorldView). IfSome (entry_at w task name) (λ e. IsForLive w e)) view (subst (λ (o : Option Entry). IfSome o Lives) (sym read) (lives (entry_in (space_in spaces task) name)))
     where
-      read : entry_at (tables spaces ports ledger sets requests) task name ≡ option_map (reading (live_in ports)) (entry_in (space_in spaces task) name)
+      read : entry_at (tables profile spaces ports ledger sets requests) task name ≡ option_map (reading (live_in ports)) (entry_in (space_in spaces task) name)
       read = ap (λ (o : Option SpaceView). entry_in o name) (space_read_in (live_in ports) spaces task) ∙ entry_read_in (live_in ports) (space_in spaces task) name
 
       lives : (o : Option Entry) → IfSome (option_map (reading (live_in ports)) o) Lives
@@ -519,7 +520,7 @@ module _ (old : WorldView) (spaces : List (Option SpaceView)) (ports : PortsView
 
   -- The ports changed so, of which the same are there, and the counts so.
   module _ (new : PortsView Kept) (counts : LedgerView) (same : SamePorts ports new) where
-    pub changed_written : tables spaces new counts sets requests ≡ record old { ports = new; ledger = counts }
+    pub changed_written : tables profile spaces new counts sets requests ≡ record old { ports = new; ledger = counts }
     changed_written = ap (λ (w : WorldView). record w { ledger = counts }) (ports_written old spaces ports ledger sets requests view new same)
 
   -- A right went by the disposition.
@@ -531,7 +532,7 @@ module _ (old : WorldView) (spaces : List (Option SpaceView)) (ports : PortsView
     copied_given = same_given spaces ports new same
 
     pub copied_written : (counts : LedgerView) (become : LedgerView → LedgerView) → counts ≡ become ledger →
-        tables spaces new counts sets requests ≡ record old { ports = ports_copied d m old.ports; ledger = become old.ledger }
+        tables profile spaces new counts sets requests ≡ record old { ports = ports_copied d m old.ports; ledger = become old.ledger }
     copied_written counts become e =
         changed_written new counts same
         ∙ (λ i. record old { ports = (is ∙ ap (λ (w : WorldView). ports_copied d m w.ports) view) i; ledger = (e ∙ ap (λ (w : WorldView). become w.ledger) view) i })
@@ -549,7 +550,7 @@ module _ (old : WorldView) (spaces : List (Option SpaceView)) (ports : PortsView
     queued_given = same_given spaces ports new queued_same
 
     pub queued_written : (counts : LedgerView) (by_once : Bool) → counts ≡ ledger_queued by_once p ledger →
-        tables spaces new counts sets requests ≡ record old { ports = with_message old.ports p v m; ledger = ledger_queued by_once p old.ledger }
+        tables profile spaces new counts sets requests ≡ record old { ports = with_message old.ports p v m; ledger = ledger_queued by_once p old.ledger }
     queued_written counts by_once e =
         changed_written new counts queued_same
         ∙ (λ i. record old { ports = (is here ∙ ap (λ (w : WorldView). with_message w.ports p v m) view) i; ledger = (e ∙ ap (λ (w : WorldView). ledger_queued by_once p w.ledger) view) i })

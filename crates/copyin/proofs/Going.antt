@@ -5,6 +5,7 @@ use Rattle.std.specs.List.{IsFirstAndRest}
 use Rattle.std.proofs.lemmas.Bool.Decides.{eqb_tells}
 use Rattle.std.proofs.lemmas.List.{drop_more}
 use Rattle.std.specs.FinMap as map
+use Rattle.mach_types.specs.declared.profiles.Profile.{Profile}
 use Rattle.mach_types.specs.Numbers.{null_word, dead_word}
 use Rattle.message_codec.specs.declared.words.PortWord.{PortWord}
 use Rattle.name_space.specs.declared.Entry.{Entry}
@@ -62,11 +63,11 @@ pub same_left : (w : WorldView) (task name : ℕ) (c : Carried) (can : CanCopy w
 same_left w task name c can found e copied k a b x y = grind (arith, same_found)
 
 pub copies_right : (old mid : WorldView) (task name : ℕ) (c : Carried) (can : CanCopy old task name c) (k : Copied) → k ≡ can.copied → PutsLeft old task name k.left mid →
-    (spaces : List (Option SpaceView)) (ports : PortsView Kept) (ledger : LedgerView) (sets : SetsView) (requests : RequestTablesView) →
-    ◌≡◌ {A = WorldView} (record { spaces = spaces; ports = ports; ledger = ledger; sets = sets; requests = requests }) mid →
+    (profile : Profile) (spaces : List (Option SpaceView)) (ports : PortsView Kept) (ledger : LedgerView) (sets : SetsView) (requests : RequestTablesView) →
+    ◌≡◌ {A = WorldView} (record { spaces = spaces; ports = ports; ledger = ledger; sets = sets; requests = requests; profile = profile }) mid →
     (new_ports : PortsView Kept) (new_ledger : LedgerView) → new_ports ≡ ports_copied c.given k.mark ports → new_ledger ≡ ledger_copied c.given k.mark ledger →
-    CopiesRight old task c.given name c.mark (record { spaces = spaces; ports = new_ports; ledger = new_ledger; sets = sets; requests = requests })
-copies_right old mid task name c can k kk puts spaces ports ledger sets requests view new_ports new_ledger p l =
+    CopiesRight old task c.given name c.mark (record { spaces = spaces; ports = new_ports; ledger = new_ledger; sets = sets; requests = requests; profile = profile })
+copies_right old mid task name c can k kk puts profile spaces ports ledger sets requests view new_ports new_ledger p l =
     let is = view ∙ puts.rest in
     let here : puts.space ≡ can.space = same_found (space_at old task) puts.space can.space puts.there can.there in
     record {
@@ -77,9 +78,9 @@ copies_right old mid task name c can k kk puts spaces ports ledger sets requests
       copied = can.copied;
       is = can.is;
       mark_is = can.mark_is;
-      rest = same_world _ _ _ _ _ _ _ _ _ _ (ap (λ (w : WorldView). w.spaces) is ∙ rw (here, kk) refl)
+      rest = same_world _ _ _ _ _ _ _ _ _ _ _ _ (ap (λ (w : WorldView). w.spaces) is ∙ rw (here, kk) refl)
           (p ∙ rw kk refl ∙ ap (λ (w : WorldView). ports_copied c.given can.copied.mark w.ports) is) (l ∙ rw kk refl ∙ ap (λ (w : WorldView). ledger_copied c.given can.copied.mark w.ledger) is)
-          (ap (λ (w : WorldView). w.sets) is) (ap (λ (w : WorldView). w.requests) is ∙ rw kk refl);
+          (ap (λ (w : WorldView). w.sets) is) (ap (λ (w : WorldView). w.requests) is ∙ rw kk refl) (ap (λ (w : WorldView). w.profile) is);
     }
 
 -- ---- and what is left to do
@@ -142,7 +143,7 @@ go_on old new task w ws c cs go ch = elim (eqb_tells w.name null_word) [
           ledger = ledger_copied c.given m old.ledger;
           requests = requests_after old.requests task w.name n.copied.left;
         } =
-        r.rest ∙ same_world _ _ _ _ _ _ _ _ _ _ (rw (here, kk) refl) (rw kk refl) (rw kk refl) refl (rw kk refl) in
+        r.rest ∙ same_world _ _ _ _ _ _ _ _ _ _ _ _ (rw (here, kk) refl) (rw kk refl) (rw kk refl) refl (rw kk refl) refl in
         let total = total_copied c.given m old.ledger in
         let one : made_by c ≡ made_by_mark c.given m = ap (λ (x : Mark). made_by_mark c.given x) n.mark in
         subst (λ (x : WorldView). CanGo x task ws cs) (sym is) (record {

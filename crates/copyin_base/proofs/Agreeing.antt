@@ -1,6 +1,6 @@
 -- The tables still agree with a state when one task's names, and attributes and counts of ports, have changed. Each group of what they
 -- tell has a frame of its own.
-use Rattle.std.proofs.Common.{◌≡◌, ℕ, Bool, true, List, Option, Some, None, refl, sym, ap, subst, ◌∙◌, inl, inr, length, arith}
+use Rattle.std.proofs.Common.{◌≡◌, ◌≤◌, ℕ, Bool, true, List, Option, Some, None, refl, sym, ap, subst, ◌∙◌, inl, inr, length, arith}
 use Rattle.std.specs.Prelude.{slice_set, is_some}
 use Rattle.std.specs.Option.{option_map}
 use Rattle.std.specs.FinMap as map
@@ -20,11 +20,11 @@ use Rattle.port_set.specs.Sets.{SetsView}
 use Rattle.copyin_base.specs.Kept.{Kept}
 use Rattle.copyin_base.specs.Worlds.{WorldView, space_in, space_at, entry_in, port_at, put}
 use Rattle.copyin_base.specs.Requests.{RequestTablesView, notify_of, RequestsAgree}
-use Rattle.copyin_base.specs.Shows.{target_of, HasCount, ShowsPort, ShowsCounts, SpacesAgree, ReferencesAgree, SetsAgree, Agrees}
+use Rattle.copyin_base.specs.Shows.{target_of, HasCount, GivenAgrees, ShowsPort, ShowsCounts, SpacesAgree, ReferencesAgree, SetsAgree, Agrees}
 use Rattle.copyin_base.proofs.Requesting.{requests_stay}
 use Rattle.copyin_base.proofs.Gets.{length-set, of_some, same_found}
 use Rattle.copyin_base.proofs.Putting.{each_put, put_own, put_other, same_len}
-use Rattle.copyin_base.proofs.Spaces.{each-space-set}
+use Rattle.copyin_base.proofs.Spaces.{task_below, each-space-set}
 use Rattle.mach_types.specs.declared.profiles.Profile.{Profile}
 
 -- ---- the names of one task
@@ -76,20 +76,28 @@ put_rights m task tokens c name o own n e p is named =
 -- ---- the groups
 
 module _ (spaces : List (Option SpaceView)) (task : ℕ) (space space2 : SpaceView) (there : space_in spaces task ≡ Some space) where
-  pub spaces_agree : {profile : Profile} (live : ℕ → Bool) (number : ℕ) (names names2 : ℕ → Names) → SpacesAgree spaces live number names profile → NamesAgree space2.names (names2 task) →
-      ((u : ℕ) → (u ≡ task → ⊥) → names2 u ≡ names u) → SpacesAgree (slice_set spaces task (Some space2)) live number names2 profile
-  spaces_agree live number names names2 a own others =
+  pub spaces_agree : {own profile : Profile} (live : ℕ → Bool) (number : ℕ) (names names2 : ℕ → Names) (given given2 : ℕ → ℕ → ℕ) → SpacesAgree own spaces live number names profile given →
+      NamesAgree space2.names (names2 task) → GivenAgrees profile space2.given (given2 task) → ((u : ℕ) → (u ≡ task → ⊥) → names2 u ≡ names u) → ((u : ℕ) → (u ≡ task → ⊥) → given2 u ≡ given u) →
+      SpacesAgree own (slice_set spaces task (Some space2)) live number names2 profile given2
+  spaces_agree {own} {profile} live number names names2 given given2 a now counts others given_others =
       let each = each-space-set spaces task space2 space there in
       record {
         live_task = each (λ u x. is_some x ≡ live u) (sym (ap is_some there) ∙ a.live_task task) (λ u not. a.live_task u);
         tasks_made = length-set spaces task (Some space2) ∙ a.tasks_made;
-        naming = each (λ u x. (n : ℕ) → map.get (names2 u) n ≡ option_map target_of (entry_in x n)) own.naming (λ u not n. ap (λ (y : Names). map.get y n) (others u not) ∙ a.naming u n);
+        naming = each (λ u x. (n : ℕ) → map.get (names2 u) n ≡ option_map target_of (entry_in x n)) now.naming (λ u not n. ap (λ (y : Names). map.get y n) (others u not) ∙ a.naming u n);
         names_kept = each (λ u x. (y : SpaceView) → x ≡ Some y → map.len y.names ≡ map.len (names2 u))
-            (λ y is. ap (λ (z : SpaceView). map.len z.names) (same_found (Some space2) y space2 is refl) ∙ own.kept)
+            (λ y is. ap (λ (z : SpaceView). map.len z.names) (same_found (Some space2) y space2 is refl) ∙ now.kept)
             (λ u not y is. a.names_kept u y is ∙ ap (λ (z : Names). map.len z) (sym (others u not)));
-        counted = each (λ u x. (n : ℕ) (e : Entry) → entry_in x n ≡ Some e → HasCount e) own.counted (λ u not. a.counted u);
-        is_first = a.is_first;
+        counted = each (λ u x. (n : ℕ) (e : Entry) → entry_in x n ≡ Some e → HasCount e) now.counted (λ u not. a.counted u);
+        profiles = a.profiles;
+        counts_given = each (λ u x. (y : SpaceView) → x ≡ Some y → GivenAgrees profile y.given (given2 u))
+            (λ y is. subst (λ (z : SpaceView). GivenAgrees profile z.given (given2 task)) (same_found (Some space2) space2 y refl is) counts)
+            (λ u not y is. subst (GivenAgrees profile y.given) (sym (given_others u not)) (a.counts_given u y is));
+        none_given = λ u index unmade. ap (λ f. f index) (given_others u (unmade_other u unmade a.tasks_made)) ∙ a.none_given u index unmade;
       }
+    where
+      unmade_other : (u : ℕ) → number ≤ u → length spaces ≡ number → u ≡ task → ⊥
+      unmade_other u unmade made same = let below = task_below spaces task space there in absurd (omega (arith, unmade, made, same, below))
 
   pub references_agree : (tokens tokens2 : List Token) → ReferencesAgree spaces tokens → CountRights space2.names task tokens2 →
       ((u : ℕ) → (u ≡ task → ⊥) → (kind : Kind) (q : ℕ) → count (is_held u kind q) tokens2 ≡ count (is_held u kind q) tokens) → ReferencesAgree (slice_set spaces task (Some space2)) tokens2
@@ -132,9 +140,12 @@ module _ (ports : map.FinMap nat_cmp (PortView Kept)) (p : ℕ) (v2 : PortView K
 -- What is to be known of the change, but for the requests.
 pub record NearBy (w w2 : WorldView) (s t : State) (task : ℕ) (space2 : SpaceView) : Type 0 where
   pub spaces : w2.spaces ≡ slice_set w.spaces task (Some space2)
+  pub profile : w2.profile ≡ w.profile
   pub rest : t ≡ shape s t
   pub naming_others : (u : ℕ) → (u ≡ task → ⊥) → t.naming u ≡ s.naming u
   pub names : NamesAgree space2.names (t.naming task)
+  pub given : GivenAgrees s.profile space2.given (t.given task)
+  pub given_others : (u : ℕ) → (u ≡ task → ⊥) → t.given u ≡ s.given u
   pub held_others : (u : ℕ) → (u ≡ task → ⊥) → (kind : Kind) (q : ℕ) → held t u kind q ≡ held s u kind q
   pub references : CountRights space2.names task t.ledger
   pub made : w2.ports.made ≡ w.ports.made
@@ -149,9 +160,12 @@ pub record NearBy (w w2 : WorldView) (s t : State) (task : ℕ) (space2 : SpaceV
 -- ... where requests and their rights are as they were
 pub record Near (w w2 : WorldView) (s t : State) (task : ℕ) (space2 : SpaceView) : Type 0 where
   pub spaces : w2.spaces ≡ slice_set w.spaces task (Some space2)
+  pub profile : w2.profile ≡ w.profile
   pub rest : t ≡ shape s t
   pub naming_others : (u : ℕ) → (u ≡ task → ⊥) → t.naming u ≡ s.naming u
   pub names : NamesAgree space2.names (t.naming task)
+  pub given : GivenAgrees s.profile space2.given (t.given task)
+  pub given_others : (u : ℕ) → (u ≡ task → ⊥) → t.given u ≡ s.given u
   pub held_others : (u : ℕ) → (u ≡ task → ⊥) → (kind : Kind) (q : ℕ) → held t u kind q ≡ held s u kind q
   pub references : CountRights space2.names task t.ledger
   pub made : w2.ports.made ≡ w.ports.made
@@ -170,8 +184,8 @@ pub record Near (w w2 : WorldView) (s t : State) (task : ℕ) (space2 : SpaceVie
 module _ (w w2 : WorldView) (s t : State) (a : Agrees w s) (task : ℕ) (space space2 : SpaceView) (there : space_at w task ≡ Some space)
     (near : NearBy w w2 s t task space2) where
   -- the groups, before what they stand over is that of the tables and of the state now
-  tasks_agree : SpacesAgree (slice_set w.spaces task (Some space2)) s.live_task s.tasks_made t.naming s.profile
-  tasks_agree = spaces_agree w.spaces task space space2 there s.live_task s.tasks_made s.naming t.naming a.spaces near.names near.naming_others
+  tasks_agree : SpacesAgree w.profile (slice_set w.spaces task (Some space2)) s.live_task s.tasks_made t.naming s.profile t.given
+  tasks_agree = spaces_agree w.spaces task space space2 there s.live_task s.tasks_made s.naming t.naming s.given t.given a.spaces near.names near.given near.naming_others near.given_others
 
   rights_agree : ReferencesAgree (slice_set w.spaces task (Some space2)) t.ledger
   rights_agree = references_agree w.spaces task space space2 there s.ledger t.ledger a.rights near.references near.held_others
@@ -181,8 +195,9 @@ module _ (w w2 : WorldView) (s t : State) (a : Agrees w s) (task : ℕ) (space s
 
   pub near_by_agrees : RequestsAgree (notify_of w2.requests) w2.requests.names.went w2.ports.made t.stands t.live_port t.ledger → Agrees w2 t
   near_by_agrees of_requests = record {
-    spaces = subst (λ (x : List (Option SpaceView)). SpacesAgree x t.live_task t.tasks_made t.naming t.profile) (sym near.spaces)
-        (subst (λ (x : State). SpacesAgree (slice_set w.spaces task (Some space2)) x.live_task x.tasks_made t.naming x.profile) (sym near.rest) tasks_agree);
+    spaces = subst (λ (x : List (Option SpaceView)). SpacesAgree w2.profile x t.live_task t.tasks_made t.naming t.profile t.given) (sym near.spaces)
+        (subst (λ (x : Profile). SpacesAgree x (slice_set w.spaces task (Some space2)) t.live_task t.tasks_made t.naming t.profile t.given) (sym near.profile)
+        (subst (λ (x : State). SpacesAgree w.profile (slice_set w.spaces task (Some space2)) x.live_task x.tasks_made t.naming x.profile t.given) (sym near.rest) tasks_agree));
     rights = subst (λ (x : List (Option SpaceView)). ReferencesAgree x t.ledger) (sym near.spaces) rights_agree;
     live_port = λ p. near.live p ∙ a.live_port p ∙ sym (ap (λ (x : State). x.live_port p) near.rest);
     ports_made = near.made ∙ a.ports_made ∙ sym (ap (λ (x : State). x.ports_made) near.rest);

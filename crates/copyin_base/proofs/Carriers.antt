@@ -4,6 +4,7 @@ use Rattle.std.specs.Prelude.{Contains}
 use Rattle.std.specs.FinMap as map
 use Rattle.std.specs.Ordering.{nat_cmp}
 use Rattle.std.proofs.lemmas.List.Elements.{Contains-append_cases}
+use Rattle.mach_types.specs.declared.profiles.Profile.{Profile}
 use Rattle.port.specs.declared.Attributes.{Attributes}
 use Rattle.port.specs.declared.Holder.{Holder}
 use Rattle.port.specs.declared.Holder.TheVariants as by
@@ -48,8 +49,8 @@ disbanded_queues old new set d q v m is queued = grind (arith, same_found, same_
 
 -- ---- in the tables
 
-pub carriers_none : CarriersAgree no_world
-carriers_none = record {
+pub carriers_none : (profile : Profile) → CarriersAgree (no_world profile)
+carriers_none profile = record {
   given = λ q u m p is. absurd (let none : None ≡ Some u = sym (map.get-empty nat_cmp q) ∙ is in cc);
   carried = λ q u m p is. absurd (let none : None ≡ Some u = sym (map.get-empty nat_cmp q) ∙ is in cc);
 }

@@ -20,7 +20,7 @@ use Rattle.copyin_base.specs.Worlds.{WorldView, space_at, with_space, entry_in, 
 use Rattle.request_table.specs.declared.Request.{Request as NameRequest}
 use Rattle.request_table.specs.Requests.{name_key}
 use Rattle.copyin_base.specs.Requests.{notify_of, RequestsAgree, requests_after}
-use Rattle.copyin_base.specs.Shows.{target_of, HasCount, ShowsPort, ShowsCounts, Agrees, RequestsStand}
+use Rattle.copyin_base.specs.Shows.{GivenAgrees, target_of, HasCount, ShowsPort, ShowsCounts, Agrees, RequestsStand}
 use Rattle.copyin_base.proofs.Agreeing.{NamesAgree, CountRights, own_names, put_names, near_by_agrees}
 use Rattle.copyin_base.proofs.Requesting.{same_key, stands_after, requests_stay, requests_left}
 use Rattle.copyin_base.proofs.Putting.{each_put, put_other}
@@ -65,6 +65,7 @@ pub record Rest (w w2 : WorldView) (s t : State) (task name : ℕ) (entry : Entr
   pub stands : (r : Request) → t.stands r ≡ stands_after s.stands task name left r
   pub requests : (r : Request) (kind : Kind) (q : ℕ) → lying t kind q (in_request r) ≡ lying s kind q (in_request r)
   pub no_set : (set : ℕ) → target_of entry ≡ Target.set set → ⊥
+  pub given : t.given ≡ s.given
 
 module _ (w : WorldView) (s : State) (a : Agrees w s) (task name : ℕ) (naming : TaskNaming s task) (space : SpaceView) (there : space_at w task ≡ Some space)
     (entry : Entry) (found : map.get space.names name ≡ Some entry) where
@@ -135,8 +136,11 @@ module _ (w : WorldView) (s : State) (a : Agrees w s) (task name : ℕ) (naming 
     changed_agrees requested r = near_by_agrees w w2 s t a task space space2 there
         record {
           spaces = refl;
+          profile = refl;
           rest = r.rest;
           naming_others = r.naming_others;
+          given = subst (λ (g : ℕ → ℕ → ℕ). GivenAgrees s.profile space.given (g task)) (sym r.given) (a.counts_given task space there);
+          given_others = λ u not. ap (λ (g : ℕ → ℕ → ℕ). g u) r.given;
           names = subst (NamesAgree (put space.names name left)) (sym own) (put_names space.names (s.naming task) (own_names w s a task space there) name left r.own_count);
           held_others = r.held_others;
           references = references r;

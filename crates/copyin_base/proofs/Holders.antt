@@ -4,6 +4,7 @@ use Rattle.std.specs.Prelude.{◌≢◌, ◌-◌, slice_set, if◌then◌else◌
 use Rattle.std.specs.FinMap as map
 use Rattle.std.specs.Ordering.{nat_cmp}
 use Rattle.std.proofs.lemmas.Bool.Decides.{eqb_tells}
+use Rattle.mach_types.specs.declared.profiles.Profile.{Profile}
 use Rattle.mach_types.specs.Tokens.{receive, in_message, token, count, is_of, is_held}
 use Rattle.mach_model.specs.State.{State, held}
 use Rattle.mach_model.specs.Telling.{one_if}
@@ -144,8 +145,8 @@ disbanded_holders old new set d p v is = go (map.get old.ports p) refl
 same_task : (t u : ℕ) → ◌≡◌ {A = Holder} (by.Task t) (by.Task u) → t ≡ u
 same_task t u e = cc
 
-pub holders_none : HoldersAgree no_world
-holders_none = record { held = λ task name e p is. absurd (let none : None ≡ Some e = is in cc) }
+pub holders_none : (profile : Profile) → HoldersAgree (no_world profile)
+holders_none profile = record { held = λ task name e p is. absurd (let none : None ≡ Some e = is in cc) }
 
 -- where the machine's task has no receive right, no name of it does
 pub unheld : (w : WorldView) (s : State) → Agrees w s → (task p : ℕ) → held s task receive p ≡ 0 → ReceivesAt w task p → ⊥

@@ -1,17 +1,18 @@
 -- Nothing was lost: what each verb keeps of that.
 use Rattle.std.proofs.Common.{◌≡◌, ℕ, Option, refl, ap, ◌∙◌}
+use Rattle.mach_types.specs.declared.profiles.Profile.{Profile}
 use Rattle.name_space.specs.declared.Entry.{Entry}
 use Rattle.port.specs.declared.Attributes.{Attributes}
 use Rattle.port.specs.declared.Holder.{Holder}
 use Rattle.port.specs.Ports.{PortsView}
 use Rattle.port_set.specs.Sets.{IsDisbanded}
 use Rattle.copyin_base.specs.Kept.{Kept}
-use Rattle.copyin_base.specs.Changes.{PutsLeft, InsertsEntry, SetsAttributes, SetsHolder, SameButRoom}
+use Rattle.copyin_base.specs.Changes.{PutsLeft, InsertsEntry, SetsAttributes, SetsHolder, SameButNaming}
 use Rattle.copyin_base.specs.Stands.{Stands}
 use Rattle.copyin_base.specs.Worlds.{WorldView, no_world, NoneLost, IsIdle}
 
-pub idle_none : IsIdle no_world
-idle_none = record { none_lost = record { lost = refl; doomed = refl; destroyed = refl }; noted = refl; went = refl }
+pub idle_none : (profile : Profile) → IsIdle (no_world profile)
+idle_none profile = record { none_lost = record { lost = refl; doomed = refl; destroyed = refl }; noted = refl; went = refl }
 
 -- in tables that show a state
 pub stands_none_lost : (w : WorldView) → Stands w → NoneLost w
@@ -32,7 +33,7 @@ module _ (w w2 : WorldView) (n : NoneLost w) where
   pub none_lost_inserted : (task name : ℕ) (entry : Entry) → InsertsEntry w task name entry w2 → NoneLost w2
   none_lost_inserted task name entry puts = none_lost_same (ap (λ (x : WorldView). x.ports) puts.rest)
 
-  pub none_lost_room : SameButRoom w w2 → NoneLost w2
+  pub none_lost_room : SameButNaming w w2 → NoneLost w2
   none_lost_room same = none_lost_same same.ports
 
   pub none_lost_set : (port : ℕ) (attributes : Attributes) → SetsAttributes w port attributes w2 → NoneLost w2

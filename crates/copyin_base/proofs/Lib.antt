@@ -29,4 +29,4 @@ pub mod Idle
 pub mod Noting
 pub mod KeptEntries
 pub mod Disbanded
-pub mod ProfileOne
+pub mod FreshNames

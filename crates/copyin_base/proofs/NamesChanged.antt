@@ -52,8 +52,8 @@ module _ (w : WorldView) (s : State) (a : Agrees w s) (task : ℕ) (space : Spac
       Agrees (record (with_space w task (record space { names = names; room = room })) { sets = sets; requests = requests })
       (record s { naming = at s.naming task own; stands = stands; set_owner = owner; sets_made = made; ledger = tokens })
   names_agree_with names room own stands sets owner made requests tokens same held total of_requests named counted in_sets = record {
-    spaces = spaces_agree w.spaces task space (record space { names = names; room = room }) there s.live_task s.tasks_made s.naming (at s.naming task own) a.spaces
-        (subst (NamesAgree names) (sym (at_own s.naming task own)) named) (others own);
+    spaces = spaces_agree w.spaces task space (record space { names = names; room = room }) there s.live_task s.tasks_made s.naming (at s.naming task own) s.given s.given a.spaces
+        (subst (NamesAgree names) (sym (at_own s.naming task own)) named) (a.counts_given task space there) (others own) (λ u not. refl);
     rights = references_agree w.spaces task space (record space { names = names; room = room }) there s.ledger tokens a.rights counted (λ u not kind q. held u kind q);
     live_port = a.live_port;
     ports_made = a.ports_made;

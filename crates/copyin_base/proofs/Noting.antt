@@ -2,6 +2,7 @@
 use Rattle.std.proofs.Common.{◌≡◌, ℕ, List, [], ◌∷◌, ◌++◌, Option, refl, sym, ap, subst, ◌∙◌, ◌⊎◌, inl, inr, arith}
 use Rattle.std.specs.Prelude.{Contains}
 use Rattle.std.proofs.lemmas.List.Elements.{Contains-append_left, Contains-append_right, Contains-append_cases}
+use Rattle.mach_types.specs.declared.profiles.Profile.{Profile}
 use Rattle.name_space.specs.Names.{SpaceView}
 use Rattle.port.specs.Ports.{PortsView, IsLive}
 use Rattle.port_set.specs.Sets.{SetsView}
@@ -43,7 +44,7 @@ also_noted ports p new live fresh again = elim (is_listed ports.noted p) [
   }
 ]
 
-module _ (old : WorldView) (spaces : List (Option SpaceView)) (ports : PortsView Kept) (ledger : LedgerView) (sets : SetsView) (requests : RequestTablesView) (view : tables spaces ports ledger sets requests ≡ old)
+module _ (old : WorldView) {profile : Profile} (spaces : List (Option SpaceView)) (ports : PortsView Kept) (ledger : LedgerView) (sets : SetsView) (requests : RequestTablesView) (view : tables profile spaces ports ledger sets requests ≡ old)
     (p : ℕ) (senderless : IsSenderless old p) (new : PortsView Kept)
     (fresh : IsLive ports p → ¬ (Contains ports.noted p) → new ≡ record ports { noted = ports.noted ++ p ∷ [] }) (again : Contains ports.noted p → new ≡ ports) where
   are : ports ≡ old.ports
@@ -58,7 +59,7 @@ module _ (old : WorldView) (spaces : List (Option SpaceView)) (ports : PortsView
   pub noted_given : AreGiven spaces ports → AreGiven spaces new
   noted_given = same_given spaces ports new same
 
-  pub noted_written : NotesSenderless old p (tables spaces new ledger sets requests)
+  pub noted_written : NotesSenderless old p (tables profile spaces new ledger sets requests)
   noted_written = record {
     noted = also.noted;
     rest = ports_written old spaces ports ledger sets requests view new same

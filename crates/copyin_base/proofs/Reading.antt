@@ -1,6 +1,6 @@
 -- Names as they are read: at a name, in a space, and after a change of what is kept or of the ports.
-use Rattle.std.proofs.Common.{◌≡◌, ℕ, zero, suc, ◌+◌, ◌<◌, Bool, true, false, cond, List, [], ◌∷◌, ◌++◌, ◌&&◌, length, T, refl, ap, sym, subst, ◌∙◌, Option, Some, None, map as map_list, get_or, arith, inl, inr}
-use Rattle.std.specs.Prelude.{is_some, slice_set, if◌then◌else◌}
+use Rattle.std.proofs.Common.{◌≡◌, ℕ, zero, suc, ◌+◌, ◌/◌, ◌<◌, Bool, true, false, cond, List, [], ◌∷◌, ◌++◌, ◌&&◌, length, T, refl, ap, sym, subst, ◌∙◌, Option, Some, None, map as map_list, get_or, arith, inl, inr}
+use Rattle.std.specs.Prelude.{◌⊎◌, is_some, slice_set, if◌then◌else◌}
 use Rattle.std.specs.Option.{option_map, option_and_then}
 use Rattle.std.specs.Ordering.{nat_cmp, eq_by_cmp, is_lt}
 use Rattle.std.specs.FinMap as map
@@ -8,10 +8,12 @@ use Rattle.std.specs.FinMap.Entries.{find, is_sorted, below_all}
 use Rattle.std.proofs.Math.Path.{fun_ext}
 use Rattle.std.proofs.lemmas.Bool.Decides.{eqb_tells}
 use Rattle.mach_model.proofs.Names.{alike}
+use Rattle.name_space_base.specs.High.{KeepsUsed}
 use Rattle.name_space.specs.declared.Entry.{Entry}
 use Rattle.name_space.specs.declared.Entry.TheVariants.{Receive, Send, ReceiveAndSend, SendOnce, DeadName, Set}
 use Rattle.name_space.specs.Entry.{port_of, port_named}
-use Rattle.name_space.specs.Names.{Names, SpaceView, IsFreshName, HasPlace, HasNoOther}
+use Rattle.tagged_names.specs.Names.{Given, IsTaken, IsFreshIndex}
+use Rattle.name_space.specs.Names.{Names, SpaceView, IsFreshIn, HasRoomIn, HasPlace, HasNoOther, CanCountIn, MayWantIn, MayWantPlace}
 use Rattle.name_space.specs.Names.{port_at as named_at}
 use Rattle.port.specs.Ports.{PortView, PortsView}
 use Rattle.copyin_base.specs.Kept.{Kept}
@@ -184,20 +186,67 @@ module _ (live : ℕ → Bool) where
       go (Some e) e-is = (read_lives live e p (named_port (reading live e) p e-is)).1
       go None e-is = absurd (let f : None ≡ Some p = e-is in cc)
 
-  -- The same names are unused.
-  pub fresh_read : (m : Names) (n : ℕ) → IsFreshName m n → IsFreshName (read_names live m) n
-  fresh_read m n f = record {
-    unused = get_read m n ∙ ap (option_map (reading live)) f.unused;
-    not_null = f.not_null;
-    least = λ k some less. used_read m k ∙ f.least k some less;
-  }
+  -- The same names are in use.
+  module _ (space : SpaceView) where
+    taken_read : (i : ℕ) → IsTaken space.names i → IsTaken (read_names live space.names) i
+    taken_read i t = record { name = t.name; at = t.at; used = used_read space.names t.name ∙ t.used }
 
-  pub fresh_kept : (m : Names) (n : ℕ) → IsFreshName (read_names live m) n → IsFreshName m n
-  fresh_kept m n f = record { unused = unused_read m n f.unused; not_null = f.not_null; least = λ k some less. sym (used_read m k) ∙ f.least k some less }
+    taken_kept : (i : ℕ) → IsTaken (read_names live space.names) i → IsTaken space.names i
+    taken_kept i t = record { name = t.name; at = t.at; used = sym (used_read space.names t.name) ∙ t.used }
 
-  pub place_read : (space : SpaceView) (n : ℕ) → HasPlace (read_space live space) n → HasPlace space n
-  place_read space n (inl h) = inl (fresh_kept space.names n h.0, h.1)
-  place_read space n (inr h) = inr h
+    unread : (n : ℕ) → map.get space.names n ≡ None → map.get (read_names live space.names) n ≡ None
+    unread n none = get_read space.names n ∙ ap (option_map (reading live)) none
+
+    index_kept : (i : ℕ) → IsFreshIndex (read_names live space.names) i → IsFreshIndex space.names i
+    index_kept i f = record { free = λ n at. unused_read space.names n (f.free n at); positive = f.positive; least = λ j some less. taken_kept j (f.least j some less) }
+
+    pub fresh_read : (counts : Option Given) (n : ℕ) → IsFreshIn counts space n → IsFreshIn counts (read_space live space) n
+    fresh_read None n f = record { unused = unread n f.unused; not_null = f.not_null; least = λ k some less. used_read space.names k ∙ f.least k some less }
+    fresh_read (Some c) n f = record {
+      index = record { free = λ k at. unread k (f.index.free k at); positive = f.index.positive; least = λ j some less. taken_read j (f.index.least j some less) };
+      low = f.low;
+    }
+
+    room_kept : (counts : Option Given) (n : ℕ) → HasRoomIn counts (read_space live space) n → HasRoomIn counts space n
+    room_kept None n h = (record { unused = unused_read space.names n h.0.unused; not_null = h.0.not_null; least = λ k some less. sym (used_read space.names k) ∙ h.0.least k some less }, h.1)
+    room_kept (Some c) n h = (index_kept (n / 256) h.0, h.1)
+
+    pub place_read : (n : ℕ) → HasPlace (read_space live space) n → HasPlace space n
+    place_read n (inl h) = inl (room_kept space.given n h)
+    place_read n (inr h) = inr h
+
+    pub count_kept : (counts : Option Given) (n : ℕ) → CanCountIn counts (read_space live space) n → CanCountIn counts space n
+    count_kept None n c = tt
+    count_kept (Some counts) n c = record {
+      positive = c.positive;
+      small = c.small;
+      least = λ j some less. taken_kept j (c.least j some less);
+      here = elim c.here [ inl room ↦ inl room | inr taken ↦ inr (taken_kept (n / 256) taken) ];
+    }
+
+  -- Where a place for a name may want memory, it may as names are read.
+  module _ (space : SpaceView) where
+    holder_used : (n p : ℕ) (o : Option Entry) → option_and_then port_named o ≡ Some p → is_some o ≡ true
+    holder_used n p (Some e) at = refl
+    holder_used n p None at = absurd (let f : None ≡ Some p = at in cc)
+
+    used_kept : (n : ℕ) → map.contains_key (read_names live space.names) n ≡ true → map.contains_key space.names n ≡ true
+    used_kept n used = sym (used_read space.names n) ∙ used
+
+    keeps_used : KeepsUsed space.names space.kept → KeepsUsed (read_names live space.names) space.kept
+    keeps_used (n, is, used) = (n, is, used_read space.names n ∙ used)
+
+    wanted_in : (counts : Option Given) (n : ℕ) → MayWantIn counts space n → MayWantIn counts (read_space live space) n
+    wanted_in None n (inl high) = inl high
+    wanted_in None n (inr h) = inr (record { alone = λ k used. h.alone k (used_kept k used); apart = h.apart })
+    wanted_in (Some c) n (inl room) = inl room
+    wanted_in (Some c) n (inr (inl used)) = inr (inl (keeps_used used))
+    wanted_in (Some c) n (inr (inr h)) =
+        inr (inr (record { positive = h.positive; small = h.small; alone = λ k used. h.alone k (used_kept k used); apart = h.apart }))
+
+    pub place_wanted : (n : ℕ) → MayWantPlace space n → KeepsUsed (read_names live space.names) space.kept ⊎ MayWantIn space.given (read_space live space) n
+    place_wanted n (inl (kept, port, is, at)) = inl (keeps_used (kept, is, holder_used kept port (map.get space.names kept) at))
+    place_wanted n (inr h) = inr (wanted_in space.given n h)
 
   -- no other name is for the entry's port, which is there
   pub no_other_kept : (m : Names) (e : Entry) → ((p : ℕ) → port_of e ≡ Some p → live p ≡ true) → HasNoOther (read_names live m) e → HasNoOther m e

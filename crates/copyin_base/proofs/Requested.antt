@@ -4,6 +4,7 @@ use Rattle.std.specs.Prelude.{is_some, slice_set}
 use Rattle.std.specs.FinMap as map
 use Rattle.std.specs.Ordering.{nat_cmp}
 use Rattle.std.proofs.lemmas.Bool.Decides.{eqb_tells}
+use Rattle.mach_types.specs.declared.profiles.Profile.{Profile}
 use Rattle.mach_model.proofs.Names.{removed_own}
 use Rattle.name_space.specs.declared.Entry.{Entry}
 use Rattle.name_space.specs.Entry.{port_of}
@@ -16,7 +17,7 @@ use Rattle.number_map.specs.Maps.{MapView}
 use Rattle.request_table.specs.declared.Request.{Request}
 use Rattle.request_table.specs.Requests.{name_key, key_of}
 use Rattle.copyin_base.specs.Kept.{Kept}
-use Rattle.copyin_base.specs.Changes.{PutsLeft, InsertsEntry, SetsAttributes, SetsHolder, SameButRoom}
+use Rattle.copyin_base.specs.Changes.{PutsLeft, InsertsEntry, SetsAttributes, SetsHolder, SameButNaming}
 use Rattle.copyin_base.specs.Requests.{RequestTablesView, left_by}
 use Rattle.copyin_base.specs.Worlds.{WorldView, no_world, space_in, space_at, entry_in, entry_at, put}
 use Rattle.copyin_base.specs.Shows.{IsOnName, RequestsStand}
@@ -24,8 +25,8 @@ use Rattle.copyin_base.proofs.Putting.{each_put, get_removed, put_own, put_other
 use Rattle.copyin_base.proofs.Spaces.{each-space-set}
 
 -- at the start
-pub requested_none : RequestsStand no_world
-requested_none = record {
+pub requested_none : (profile : Profile) → RequestsStand (no_world profile)
+requested_none profile = record {
   on_names = λ key r is. absurd (let e : None ≡ Some r = sym (map.get-empty nat_cmp key) ∙ is in cc);
   no_senders = λ p is. absurd (let e : false ≡ true = ap is_some (sym (map.get-empty nat_cmp p)) ∙ is in cc);
   port_destroyed = λ p is. absurd (let e : false ≡ true = ap is_some (sym (map.get-empty nat_cmp p)) ∙ is in cc);
@@ -104,7 +105,7 @@ module _ (w w2 : WorldView) (a : RequestsStand w) where
   same_live : w2.ports ≡ w.ports → (p : ℕ) → IsLive w.ports p → IsLive w2.ports p
   same_live ports p lives = subst (λ (x : PortsView Kept). IsLive x p) (sym ports) lives
 
-  pub requested_room : SameButRoom w w2 → ((u n : ℕ) → entry_at w2 u n ≡ entry_at w u n) → RequestsStand w2
+  pub requested_room : SameButNaming w w2 → ((u n : ℕ) → entry_at w2 u n ≡ entry_at w u n) → RequestsStand w2
   requested_room same entries = requested_kept (same_live same.ports) same.requests (λ u n. keeps_same (entry_at w u n) (entry_at w2 u n) (entries u n))
 
   module _ (task name : ℕ) where

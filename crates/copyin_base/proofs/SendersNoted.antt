@@ -11,7 +11,7 @@ use Rattle.rights.specs.declared.RightKind.{RightKind}
 use Rattle.rights.specs.declared.RightKind.TheVariants as right
 use Rattle.rights.specs.Counts.{no_rights, with_more, with_fewer, one_shifted}
 use Rattle.rights.specs.Ledger.{LedgerView, counts_of, made, taken, shifted}
-use Rattle.copyin_base.specs.Changes.{IsSenderless, NotesSenderless, NotesSenders}
+use Rattle.copyin_base.specs.Changes.{IsSenderless, NotesSenderless, NotesSenders, SameButNaming}
 use Rattle.copyin_base.specs.Wanted.{KeepsSpares}
 use Rattle.copyin_base.specs.Worlds.{WorldView, NoneLost}
 use Rattle.copyin_base.specs.Shows.{Agrees, HoldersAgree, CarriersAgree, SlotsSuffice, RequestsStand}
@@ -151,6 +151,10 @@ keeps_senders old new requested requests sends noted = record {
 pub keeps_senders_same : (old new : WorldView) → RequestsStand old → new.requests.no_senders ≡ old.requests.no_senders → new.ledger ≡ old.ledger → new.ports.noted ≡ old.ports.noted → KeepsSenders old new
 keeps_senders_same old new requested requests ledger noted =
     keeps_senders old new requested requests (λ q none. ap (λ (l : LedgerView). (counts_of l q).send) (sym ledger) ∙ none) noted
+
+-- ... as where only names' places and counts changed
+pub naming_senders : (w v : WorldView) → SameButNaming w v → RequestsStand w → KeepsSenders w v
+naming_senders w v same requested = keeps_senders_same w v requested (ap (λ x. x.no_senders) same.requests) same.ledger (ap (λ x. x.noted) same.ports)
 
 pub keeps_senders_refl : (w : WorldView) → KeepsSenders w w
 keeps_senders_refl w = record { senderless = λ p s. s; noted = refl }

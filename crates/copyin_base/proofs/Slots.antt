@@ -1,6 +1,7 @@
 -- Slots suffice, as before, after a change of the tables.
 use Rattle.std.proofs.Common.{◌≡◌, ℕ, ◌+◌, ◌<◌, ◌≤◌, Option, ap, subst, sym, arith}
 use Rattle.std.specs.Prelude.{max}
+use Rattle.mach_types.specs.declared.profiles.Profile.{Profile}
 use Rattle.name_space.specs.declared.Entry.{Entry}
 use Rattle.port.specs.declared.Attributes.{Attributes}
 use Rattle.port.specs.declared.Holder.{Holder}
@@ -12,8 +13,8 @@ use Rattle.copyin_base.specs.Shows.{SlotsSuffice}
 use Rattle.copyin_base.specs.Changes.{PutsLeft, InsertsEntry, SetsAttributes, SetsHolder, with_slots}
 
 -- at the start
-pub slots_none : SlotsSuffice no_world
-slots_none = omega arith
+pub slots_none : (profile : Profile) → SlotsSuffice (no_world profile)
+slots_none profile = omega arith
 
 module _ (old new : WorldView) (enough : SlotsSuffice old) where
   -- where nothing changed

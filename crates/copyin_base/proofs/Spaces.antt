@@ -1,7 +1,8 @@
 -- The space of one task was read and replaced in the tables.
-use Rattle.std.proofs.Common.{◌≡◌, ℕ, List, [], ◌∷◌, ◌++◌, Option, Some, None, Ok, Err, OnOk, refl, sym, ap, subst, ◌∙◌, zero, suc, length, get_or, inl, inr}
+use Rattle.std.proofs.Common.{◌≡◌, ℕ, List, [], ◌∷◌, ◌++◌, ◌<◌, Option, Some, None, Ok, Err, OnOk, refl, sym, ap, subst, ◌∙◌, zero, suc, length, get_or, inl, inr, arith}
 use Rattle.std.specs.Prelude.{◌≢◌, slice_set, Result}
 use Rattle.std.proofs.lemmas.Bool.Decides.{eqb_tells}
+use Rattle.mach_types.specs.declared.profiles.Profile.{Profile}
 use Rattle.name_space.specs.Names.{SpaceView}
 use Rattle.port.specs.Ports.{PortsView}
 use Rattle.port_set.specs.Sets.{SetsView}
@@ -23,6 +24,12 @@ space-set_other (x ∷ xs) zero new zero not = absurd (not refl)
 space-set_other (x ∷ xs) zero new (suc other) not = refl
 space-set_other (x ∷ xs) (suc task) new zero not = refl
 space-set_other (x ∷ xs) (suc task) new (suc other) not = space-set_other xs task new other (λ e. not (ap suc e))
+
+-- a task that lives was made
+pub task_below : (spaces : List (Option SpaceView)) (task : ℕ) (space : SpaceView) → space_in spaces task ≡ Some space → task < length spaces
+task_below [] task space is = absurd (let none : None ≡ Some space = is in cc)
+task_below (x ∷ xs) zero space is = omega arith
+task_below (x ∷ xs) (suc task) space is = let below = task_below xs task space is in omega (arith, below)
 
 -- what is true of the space that was set, and of each other, is true of all
 pub each-space-set : (spaces : List (Option SpaceView)) (task : ℕ) (new was : SpaceView) → space_in spaces task ≡ Some was → (P : ℕ → Option SpaceView → Type 0) → P task (Some new) →
@@ -48,9 +55,9 @@ space-end (x ∷ xs) = space-end xs
 
 -- ---- in the tables
 
-pub same_world : (a b : List (Option SpaceView)) (p q : PortsView Kept) (l m : LedgerView) (x y : SetsView) (r t : RequestTablesView) → a ≡ b → p ≡ q → l ≡ m → x ≡ y → r ≡ t →
-    ◌≡◌ {A = WorldView} (record { spaces = a; ports = p; ledger = l; sets = x; requests = r }) (record { spaces = b; ports = q; ledger = m; sets = y; requests = t })
-same_world a b p q l m x y r t e f g h k = λ i. record { spaces = e i; ports = f i; ledger = g i; sets = h i; requests = k i }
+pub same_world : (a b : List (Option SpaceView)) (p q : PortsView Kept) (l m : LedgerView) (x y : SetsView) (r t : RequestTablesView) (u v : Profile) → a ≡ b → p ≡ q → l ≡ m → x ≡ y → r ≡ t → u ≡ v →
+    ◌≡◌ {A = WorldView} (record { spaces = a; ports = p; ledger = l; sets = x; requests = r; profile = u }) (record { spaces = b; ports = q; ledger = m; sets = y; requests = t; profile = v })
+same_world a b p q l m x y r t u v e f g h k j = λ i. record { spaces = e i; ports = f i; ledger = g i; sets = h i; requests = k i; profile = j i }
 
 -- what is set again was never set before
 pub set-set : {A : Type 0} (xs : List A) (i : ℕ) (y z : A) → slice_set (slice_set xs i y) i z ≡ slice_set xs i z

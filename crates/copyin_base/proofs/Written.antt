@@ -3,6 +3,7 @@ use Rattle.std.proofs.Common.{◌≡◌, ℕ, ◌+◌, ◌<◌, List, [], ◌∷
 use Rattle.std.specs.Prelude.{slice_set, is_some, IfSome}
 use Rattle.std.specs.FinMap as map
 use Rattle.std.specs.Ordering.{nat_cmp}
+use Rattle.mach_types.specs.declared.profiles.Profile.{Profile}
 use Rattle.member_lists.specs.Lists.{without}
 use Rattle.name_space.specs.declared.Entry.{Entry}
 use Rattle.name_space.specs.Entry.{port_of}
@@ -22,12 +23,12 @@ use Rattle.copyin_base.proofs.Reading.{kept_there, read_set, given_put, SamePort
 use Rattle.copyin_base.proofs.Spaces.{read_there, same_world}
 
 -- the tables whose names are kept so
-abbrev pub tables : List (Option SpaceView) → PortsView Kept → LedgerView → SetsView → RequestTablesView → WorldView
-tables spaces ports ledger sets requests = record { spaces = read_spaces (live_in ports) spaces; ports = ports; ledger = ledger; sets = sets; requests = requests }
+abbrev pub tables : Profile → List (Option SpaceView) → PortsView Kept → LedgerView → SetsView → RequestTablesView → WorldView
+tables profile spaces ports ledger sets requests = record { spaces = read_spaces (live_in ports) spaces; ports = ports; ledger = ledger; sets = sets; requests = requests; profile = profile }
 
-module _ (old : WorldView) (task : ℕ) (space : SpaceView) (spaces : List (Option SpaceView)) (ports : PortsView Kept) (ledger : LedgerView) (sets : SetsView) (requests : RequestTablesView)
+module _ (old : WorldView) (task : ℕ) (space : SpaceView) {profile : Profile} (spaces : List (Option SpaceView)) (ports : PortsView Kept) (ledger : LedgerView) (sets : SetsView) (requests : RequestTablesView)
     (i : ℕ) (read : Option SpaceView) (lent : SpaceView)
-    (there : space_at old task ≡ Some space) (view : tables spaces ports ledger sets requests ≡ old) (index : i ≡ task) (is : read ≡ get_or spaces i read) (some : read ≡ Some lent) where
+    (there : space_at old task ≡ Some space) (view : tables profile spaces ports ledger sets requests ≡ old) (index : i ≡ task) (is : read ≡ get_or spaces i read) (some : read ≡ Some lent) where
   kept : (x : SpaceView) × (space_in spaces task ≡ Some x) × (space ≡ read_space (live_in ports) x)
   kept = kept_there (live_in ports) spaces task space (ap (λ (w : WorldView). space_at w task) view ∙ there)
 
@@ -48,15 +49,15 @@ module _ (old : WorldView) (task : ℕ) (space : SpaceView) (spaces : List (Opti
 
   -- The tables are those of before, but for the names of the task: what was kept of them became this, which is read as that.
   pub space_written : (become : SpaceView → SpaceView) (after : SpaceView) → read_space (live_in ports) after ≡ become (read_space (live_in ports) lent) →
-      tables (slice_set spaces i (Some after)) ports ledger sets requests ≡ with_space old task (become space)
+      tables profile (slice_set spaces i (Some after)) ports ledger sets requests ≡ with_space old task (become space)
   space_written become after new =
       let spaces_are : read_spaces (live_in ports) spaces ≡ old.spaces = ap (λ (w : WorldView). w.spaces) view in
-      same_world _ _ _ _ _ _ _ _ _ _
+      same_world _ _ _ _ _ _ _ _ _ _ _ _
       (read_set (live_in ports) spaces i (Some after)
       ∙ ap (λ (x : SpaceView). slice_set (read_spaces (live_in ports) spaces) i (Some x)) (new ∙ ap become (sym lent_read))
       ∙ ap (λ (j : ℕ). slice_set (read_spaces (live_in ports) spaces) j (Some (become space))) index
       ∙ ap (λ (xs : List (Option SpaceView)). slice_set xs task (Some (become space))) spaces_are)
-      ports_there (ap (λ (w : WorldView). w.ledger) view) (ap (λ (w : WorldView). w.sets) view) (ap (λ (w : WorldView). w.requests) view)
+      ports_there (ap (λ (w : WorldView). w.ledger) view) (ap (λ (w : WorldView). w.sets) view) (ap (λ (w : WorldView). w.requests) view) (ap (λ (w : WorldView). w.profile) view)
 
   -- What is kept is for ports that were made, as before, where a change put at most an entry for a port that is there.
   pub given_after : AreGiven spaces ports → (after : SpaceView) →
@@ -106,10 +107,10 @@ disbanded_ports old new set d = record { live = λ p. go p (map.get old.ports p)
     go p None at = ap is_some (d.gone p at ∙ sym at)
     go p (Some x) at = member p x at (same_port x.attributes.set set) ∙ sym (ap is_some at)
 
-module _ (old : WorldView) (spaces : List (Option SpaceView)) (ports : PortsView Kept) (ledger : LedgerView) (sets : SetsView) (requests : RequestTablesView) (view : tables spaces ports ledger sets requests ≡ old) where
+module _ (old : WorldView) {profile : Profile} (spaces : List (Option SpaceView)) (ports : PortsView Kept) (ledger : LedgerView) (sets : SetsView) (requests : RequestTablesView) (view : tables profile spaces ports ledger sets requests ≡ old) where
   -- The tables are those of before, but for the ports: as many were made, and the same are there.
-  pub ports_written : (new : PortsView Kept) → SamePorts ports new → tables spaces new ledger sets requests ≡ record old { ports = new }
-  ports_written new s = same_world _ _ _ _ _ _ _ _ _ _ (same_read spaces ports new s ∙ ap (λ (w : WorldView). w.spaces) view) refl (ap (λ (w : WorldView). w.ledger) view) (ap (λ (w : WorldView). w.sets) view) (ap (λ (w : WorldView). w.requests) view)
+  pub ports_written : (new : PortsView Kept) → SamePorts ports new → tables profile spaces new ledger sets requests ≡ record old { ports = new }
+  ports_written new s = same_world _ _ _ _ _ _ _ _ _ _ _ _ (same_read spaces ports new s ∙ ap (λ (w : WorldView). w.spaces) view) refl (ap (λ (w : WorldView). w.ledger) view) (ap (λ (w : WorldView). w.sets) view) (ap (λ (w : WorldView). w.requests) view) (ap (λ (w : WorldView). w.profile) view)
 
   -- One port was put again.
   module _ (p : ℕ) (v v2 : PortView Kept) (new : PortsView Kept) (there : map.get old.ports.ports p ≡ Some v)
@@ -123,30 +124,30 @@ module _ (old : WorldView) (spaces : List (Option SpaceView)) (ports : PortsView
     pub port_given : AreGiven spaces ports → AreGiven spaces new
     port_given = same_given spaces ports new port_same
 
-    pub port_written : tables spaces new ledger sets requests ≡ record old { ports = with_port old.ports p v2 }
+    pub port_written : tables profile spaces new ledger sets requests ≡ record old { ports = with_port old.ports p v2 }
     port_written = ports_written new port_same ∙ ap (λ (x : PortsView Kept). record old { ports = x }) (put here ∙ ap (λ (w : WorldView). with_port w.ports p v2) view)
 
 -- A port was made: it has a new identity, so no name that is kept is read otherwise.
-module _ (old : WorldView) (spaces : List (Option SpaceView)) (ports : PortsView Kept) (ledger : LedgerView) (sets : SetsView) (requests : RequestTablesView) (view : tables spaces ports ledger sets requests ≡ old)
+module _ (old : WorldView) {profile : Profile} (spaces : List (Option SpaceView)) (ports : PortsView Kept) (ledger : LedgerView) (sets : SetsView) (requests : RequestTablesView) (view : tables profile spaces ports ledger sets requests ≡ old)
     (given : AreGiven spaces ports) (v : PortView Kept) (new : PortsView Kept) (made : new ≡ record ports { ports = map.insert ports.ports ports.made v; made = ports.made + 1 }) where
   pub made_given : AreGiven spaces new
   made_given = subst (AreGiven spaces) (sym made) (given_more ports v spaces given)
 
-  pub made_written : tables spaces new ledger sets requests ≡ record old { ports = record old.ports { ports = map.insert old.ports.ports old.ports.made v; made = old.ports.made + 1 } }
-  made_written = same_world _ _ _ _ _ _ _ _ _ _
+  pub made_written : tables profile spaces new ledger sets requests ≡ record old { ports = record old.ports { ports = map.insert old.ports.ports old.ports.made v; made = old.ports.made + 1 } }
+  made_written = same_world _ _ _ _ _ _ _ _ _ _ _ _
       (ap (λ (x : PortsView Kept). read_spaces (live_in x) spaces) made ∙ read_more ports v spaces given ∙ ap (λ (w : WorldView). w.spaces) view)
       (made ∙ ap (λ (w : WorldView). record w.ports { ports = map.insert w.ports.ports w.ports.made v; made = w.ports.made + 1 }) view)
-      (ap (λ (w : WorldView). w.ledger) view) (ap (λ (w : WorldView). w.sets) view) (ap (λ (w : WorldView). w.requests) view)
+      (ap (λ (w : WorldView). w.ledger) view) (ap (λ (w : WorldView). w.sets) view) (ap (λ (w : WorldView). w.requests) view) (ap (λ (w : WorldView). w.profile) view)
 
 -- A task was made, with no names.
-module _ (old : WorldView) (spaces : List (Option SpaceView)) (ports : PortsView Kept) (ledger : LedgerView) (sets : SetsView) (requests : RequestTablesView) (view : tables spaces ports ledger sets requests ≡ old)
+module _ (old : WorldView) {profile : Profile} (spaces : List (Option SpaceView)) (ports : PortsView Kept) (ledger : LedgerView) (sets : SetsView) (requests : RequestTablesView) (view : tables profile spaces ports ledger sets requests ≡ old)
     (new : SpaceView) (none : new.names ≡ map.empty) where
   pub pushed_given : AreGiven spaces ports → AreGiven (spaces ++ Some new ∷ []) ports
   pushed_given g = given_pushed spaces ports g new (λ name entry p found. absurd (let e : None ≡ Some entry = sym (map.get-empty nat_cmp name) ∙ ap (λ m. map.get m name) (sym none) ∙ found in cc))
 
-  pub pushed_written : tables (spaces ++ Some new ∷ []) ports ledger sets requests ≡ record old { spaces = old.spaces ++ Some new ∷ [] }
-  pushed_written = same_world _ _ _ _ _ _ _ _ _ _
+  pub pushed_written : tables profile (spaces ++ Some new ∷ []) ports ledger sets requests ≡ record old { spaces = old.spaces ++ Some new ∷ [] }
+  pushed_written = same_world _ _ _ _ _ _ _ _ _ _ _ _
       (read_pushed (live_in ports) spaces (Some new)
       ∙ ap (λ (x : SpaceView). read_spaces (live_in ports) spaces ++ Some x ∷ []) (ap (λ m. record new { names = m }) (ap (read_names (live_in ports)) none ∙ none_read (live_in ports) ∙ sym none))
       ∙ ap (λ (w : WorldView). w.spaces ++ Some new ∷ []) view)
-      (ap (λ (w : WorldView). w.ports) view) (ap (λ (w : WorldView). w.ledger) view) (ap (λ (w : WorldView). w.sets) view) (ap (λ (w : WorldView). w.requests) view)
+      (ap (λ (w : WorldView). w.ports) view) (ap (λ (w : WorldView). w.ledger) view) (ap (λ (w : WorldView). w.sets) view) (ap (λ (w : WorldView). w.requests) view) (ap (λ (w : WorldView). w.profile) view)

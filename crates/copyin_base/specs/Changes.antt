@@ -5,7 +5,7 @@ use Rattle.std.specs.FinMap as map
 use Rattle.mach_types.specs.Numbers.{most_names}
 use Rattle.name_space.specs.declared.Entry.{Entry}
 use Rattle.name_space.specs.Entry.{port_named, port_of}
-use Rattle.name_space.specs.Names.{SpaceView, IsUsable, HasPlace, HasNoOther}
+use Rattle.name_space.specs.Names.{SpaceView, IsUsable, HasPlace, HasNoOther, CanCountIn, given_after}
 use Rattle.name_space.specs.Names.{port_at as named_at}
 use Rattle.port.specs.declared.Attributes.{Attributes}
 use Rattle.port.specs.declared.Holder.{Holder}
@@ -64,14 +64,33 @@ pub record KeepsPlace (old : WorldView) (task name : ℕ) (new : WorldView) : Ty
   pub there : space_at old task ≡ Some space
   pub rest : new ≡ with_space old task (record space { kept = Some name })
 
--- All is as before, but for places for names to come.
-pub record SameButRoom (old new : WorldView) : Type 0 where
+-- The name can be counted as a fresh one of the task.
+pub record CanCountName (w : WorldView) (task name : ℕ) : Type 0 where
+  pub space : SpaceView
+  pub there : space_at w task ≡ Some space
+  pub can : CanCountIn space.given space name
+
+-- The name was counted as a fresh one of the task, where names have a generation.
+pub record CountsName (old : WorldView) (task name : ℕ) (new : WorldView) : Type 0 where
+  pub space : SpaceView
+  pub there : space_at old task ≡ Some space
+  pub rest : new ≡ with_space old task (record space { given = given_after space.given name })
+
+-- All is as before, but for places for names to come and for counts of fresh ones.
+pub record SameButNaming (old new : WorldView) : Type 0 where
   pub tasks : length new.spaces ≡ length old.spaces
   pub names : (task : ℕ) → option_map (λ (x : SpaceView). x.names) (space_at new task) ≡ option_map (λ (x : SpaceView). x.names) (space_at old task)
   pub ports : new.ports ≡ old.ports
   pub ledger : new.ledger ≡ old.ledger
   pub sets : new.sets ≡ old.sets
   pub requests : new.requests ≡ old.requests
+  pub profile : new.profile ≡ old.profile
+
+-- All is as before, but for places for names to come.
+pub record SameButRoom (old new : WorldView) : Type 0 where
+  pub naming : SameButNaming old new
+  pub open naming use *
+  pub given : (task : ℕ) → option_map (λ (x : SpaceView). x.given) (space_at new task) ≡ option_map (λ (x : SpaceView). x.given) (space_at old task)
 
 -- All is as before but the number of spare message slots.
 abbrev pub with_slots : WorldView → ℕ → WorldView

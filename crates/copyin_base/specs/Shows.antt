@@ -1,9 +1,8 @@
 -- When the kernel's tables show a state of the machine: they agree with it at each task, name, port and request.
-use Rattle.std.specs.Prelude.{◌≡◌, ℕ, ◌+◌, ◌<◌, ◌≤◌, ◌^◌, Bool, true, List, [], ◌∷◌, length, Option, Some, is_some, Contains}
+use Rattle.std.specs.Prelude.{◌≡◌, ℕ, ◌+◌, ◌<◌, ◌≤◌, ◌^◌, ◌%◌, Bool, true, List, [], ◌∷◌, length, Option, Some, is_some, IfSome, Contains}
 use Rattle.std.specs.Option.{option_map, option_to_list}
 use Rattle.std.specs.FinMap as map
 use Rattle.mach_types.specs.declared.profiles.Profile.{Profile}
-use Rattle.mach_types.specs.declared.profiles.Profile.TheVariants.{One}
 use Rattle.mach_types.specs.declared.rights.Disposition.TheVariants.{MoveReceive}
 use Rattle.mach_types.specs.Tokens.{receive, send, send_once, Token, count, is_of, is_held}
 use Rattle.mach_types.specs.Messages.{Entry}
@@ -11,10 +10,12 @@ use Rattle.mach_model.specs.State.{State, Target, Names, queue}
 use Rattle.mach_model.specs.Telling.{one_if}
 pub use Rattle.mach_model.specs.Unused.{came_by_once, onces_queued}
 use Rattle.mach_model.specs.Lawful.{IsLawful}
+use Rattle.mach_model.specs.NameGuards.{HasSeveral}
 use Rattle.name_space.specs.declared.Entry.{Entry as Named}
 use Rattle.name_space.specs.declared.Entry.TheVariants as named
 use Rattle.name_space.specs.Entry.{port_named, port_of, has_receive, send_references}
 use Rattle.name_space.specs.Names.{SpaceView}
+use Rattle.tagged_names.specs.Names.{Given, count_of}
 use Rattle.port.specs.declared.Holder.TheVariants as Holder
 use Rattle.port.specs.Ports.{PortView, IsLive}
 use Rattle.port_set.specs.declared.SetRecord.{SetRecord}
@@ -25,7 +26,7 @@ use Rattle.rights.specs.Ledger.{LedgerView, counts_of}
 use Rattle.copyin_base.specs.declared.message.Mark.TheVariants as mark
 use Rattle.copyin_base.specs.Kept.{Kept, Keeps}
 use Rattle.copyin_base.specs.Requests.{notify_of, RequestsAgree}
-use Rattle.copyin_base.specs.Worlds.{WorldView, space_in, entry_in, entry_at, port_at, IsIdle}
+use Rattle.copyin_base.specs.Worlds.{WorldView, has_generations, space_in, entry_in, entry_at, port_at, IsIdle}
 
 abbrev pub target_of : Named → Target
 target_of (named.Receive p) = Target.port p
@@ -50,14 +51,28 @@ AllKept p (m ∷ ms) [] = ⊥
 
 -- ---- the parts of a state that the tables tell of, each over what it speaks of alone
 
--- Tasks and their names are those of the machine, which goes by the first profile.
-pub record SpacesAgree (spaces : List (Option SpaceView)) (live : ℕ → Bool) (number : ℕ) (names : ℕ → Names) (profile : Profile) : Type 0 where
+-- Where names have a generation, the counts of a task's fresh names are those of the machine, modulo 256.
+pub record GivenAgrees (profile : Profile) (counts : Option Given) (given : ℕ → ℕ) : Type 0 where
+  pub kind : is_some counts ≡ has_generations profile
+  pub same : (c : Given) → counts ≡ Some c → (index : ℕ) → count_of c index ≡ given index % 256
+
+-- The tables go by the profile of the machine, in which a port is in one set at most.
+pub record ProfilesAgree (own profile : Profile) : Type 0 where
+  pub same_profile : own ≡ profile
+  pub one_set : HasSeveral profile → ⊥
+
+-- Tasks and their names are those of the machine, and fresh names are counted as there.
+pub record SpacesAgree (own : Profile) (spaces : List (Option SpaceView)) (live : ℕ → Bool) (number : ℕ) (names : ℕ → Names) (profile : Profile) (given : ℕ → ℕ → ℕ) : Type 0 where
   pub live_task : (task : ℕ) → is_some (space_in spaces task) ≡ live task
   pub tasks_made : length spaces ≡ number
   pub naming : (task name : ℕ) → map.get (names task) name ≡ option_map target_of (entry_in (space_in spaces task) name)
   pub names_kept : (task : ℕ) (space : SpaceView) → space_in spaces task ≡ Some space → map.len space.names ≡ map.len (names task)
   pub counted : (task name : ℕ) (entry : Named) → entry_in (space_in spaces task) name ≡ Some entry → HasCount entry
-  pub is_first : profile ≡ One
+  pub profiles : ProfilesAgree own profile
+  pub open profiles use *
+  pub counts_given : (task : ℕ) (space : SpaceView) → space_in spaces task ≡ Some space → GivenAgrees profile space.given (given task)
+  -- a task that wasn't made was given none
+  pub none_given : (task index : ℕ) → number ≤ task → given task index ≡ 0
 
 -- A port's name counts the task's rights for it.
 pub record ReferencesAgree (spaces : List (Option SpaceView)) (tokens : List Token) : Type 0 where
@@ -97,7 +112,7 @@ pub record SetsAgree (sets : SetsView) (owner : ℕ → Option ℕ) (number : �
 
 -- The tables tell of the whole state, but for what was received and where entries came from.
 pub record Agrees (w : WorldView) (s : State) : Type 0 where
-  pub spaces : SpacesAgree w.spaces s.live_task s.tasks_made s.naming s.profile
+  pub spaces : SpacesAgree w.profile w.spaces s.live_task s.tasks_made s.naming s.profile s.given
   pub open spaces use *
   pub rights : ReferencesAgree w.spaces s.ledger
   pub open rights use *

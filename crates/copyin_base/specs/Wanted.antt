@@ -1,6 +1,7 @@
 -- Where memory is wanted, and what is kept of it for what is to come.
-use Rattle.std.specs.Prelude.{◌≡◌, ◌≢◌, ℕ, ◌+◌, ◌<◌, ◌≤◌, max, Option, Some, None}
-use Rattle.name_space.specs.Names.{SpaceView}
+use Rattle.std.specs.Prelude.{◌≡◌, ◌≢◌, ◌⊎◌, ℕ, ◌+◌, ◌<◌, ◌≤◌, max, Option, Some, None}
+use Rattle.name_space_base.specs.High.{KeepsUsed}
+use Rattle.name_space.specs.Names.{SpaceView, MayWantIn}
 use Rattle.copyin_base.specs.Worlds.{WorldView, space_at}
 
 abbrev pub room_in : Option SpaceView → ℕ
@@ -27,9 +28,13 @@ kept_in None = None
 abbrev pub kept_of : WorldView → (task : ℕ) → Option ℕ
 kept_of w task = kept_in (space_at w task)
 
--- No place is kept for the name of the task that is chosen.
-abbrev pub LacksPlace : WorldView → (task name : ℕ) → Type 0
-LacksPlace w task name = kept_of w task ≢ Some name
+-- Memory may be wanted for a place for the name of the task that is chosen: no place is kept for it, and the one that is given up has a name in
+-- use, or memory may be wanted where the name lies.
+pub record LacksPlace (w : WorldView) (task name : ℕ) : Type 0 where
+  pub space : SpaceView
+  pub there : space_at w task ≡ Some space
+  pub none_kept : space.kept ≢ Some name
+  pub wanted : KeepsUsed space.names space.kept ⊎ MayWantIn space.given space name
 
 -- Fewer message slots are spare than send-once rights that no queued message goes by, and so many more.
 abbrev pub LacksSlots : WorldView → (more : ℕ) → Type 0

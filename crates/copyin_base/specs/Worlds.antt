@@ -1,8 +1,10 @@
 -- The kernel's tables as contracts see them.
-use Rattle.std.specs.Prelude.{◌≡◌, ℕ, List, [], Option, Some, None, true, is_some, get_or, slice_set, refl}
+use Rattle.std.specs.Prelude.{◌≡◌, ℕ, Bool, List, [], Option, Some, None, true, false, is_some, get_or, slice_set, refl}
 use Rattle.std.specs.Coded.{Coded, code_by, coded×, coded_list, coded_option}
 use Rattle.std.specs.FinMap as map
 use Rattle.std.specs.Ordering.{nat_cmp}
+use Rattle.mach_types.specs.declared.profiles.Profile.{Profile}
+use Rattle.mach_types.specs.declared.profiles.Profile.TheVariants.{One, Two, Three}
 use Rattle.name_space.specs.declared.Entry.{Entry}
 use Rattle.name_space.specs.Names.{SpaceView}
 use Rattle.port.specs.Ports.{PortView, PortsView}
@@ -18,24 +20,33 @@ pub record WorldView : Type 0 where
   pub ledger : LedgerView
   pub sets : SetsView
   pub requests : RequestTablesView
+  -- by which profile names are made
+  pub profile : Profile
 
-abbrev pub world_code : Coded SpaceView → Coded (PortsView Kept) → Coded LedgerView → Coded SetsView → Coded RequestTablesView → Coded WorldView
-world_code space ports ledger sets requests =
+abbrev pub world_code : Coded SpaceView → Coded (PortsView Kept) → Coded LedgerView → Coded SetsView → Coded RequestTablesView → Coded Profile → Coded WorldView
+world_code space ports ledger sets requests profile =
     code_by
-    (List (Option SpaceView) × (PortsView Kept × (LedgerView × (SetsView × RequestTablesView))))
-    (coded× (coded_list (coded_option space)) (coded× ports (coded× ledger (coded× sets requests))))
-    (λ w. (w.spaces, (w.ports, (w.ledger, (w.sets, w.requests)))))
-    (λ x. record { spaces = x.0; ports = x.1.0; ledger = x.1.1.0; sets = x.1.1.1.0; requests = x.1.1.1.1 })
+    (List (Option SpaceView) × (PortsView Kept × (LedgerView × (SetsView × (RequestTablesView × Profile)))))
+    (coded× (coded_list (coded_option space)) (coded× ports (coded× ledger (coded× sets (coded× requests profile)))))
+    (λ w. (w.spaces, (w.ports, (w.ledger, (w.sets, (w.requests, w.profile))))))
+    (λ x. record { spaces = x.0; ports = x.1.0; ledger = x.1.1.0; sets = x.1.1.1.0; requests = x.1.1.1.1.0; profile = x.1.1.1.1.1 })
     (λ _. refl)
 
+-- whether fresh names have a generation
+abbrev pub has_generations : Profile → Bool
+has_generations One = false
+has_generations Two = true
+has_generations Three = true
+
 -- the tables before anything was made
-abbrev pub no_world : WorldView
-no_world = record {
+abbrev pub no_world : Profile → WorldView
+no_world profile = record {
   spaces = [];
   ports = record { ports = map.empty; ready = map.empty; made = 0; spare = 0; destroyed = []; lost = []; doomed = []; noted = [] };
   ledger = record { counts = map.empty; total = 0; unused = 0 };
   sets = no_sets;
   requests = none_requested;
+  profile = profile;
 }
 
 -- the names of the task; nothing where there was no such task, or it has ended

@@ -2,7 +2,7 @@
 ghost use Rattle.std.specs.Prelude.{◌≡◌, Some, None, OnOk, OnErr, IfErr};
 ghost use Rattle.mach_types.specs.declared.codes.KernReturn.TheVariants as kern;
 ghost use Rattle.name_space.specs.Names.{IsUsable};
-ghost use Rattle.copyin_base.specs.Changes.{CanPutLeft, PutsLeft, CanInsert, InsertsEntry, MakesRoom, KeepsPlace};
+ghost use Rattle.copyin_base.specs.Changes.{CanPutLeft, PutsLeft, CanInsert, InsertsEntry, CanCountName, CountsName, MakesRoom, KeepsPlace};
 ghost use Rattle.copyin_base.specs.Wanted.{LacksRoomFor, LacksPlace};
 ghost use Rattle.copyin_base.specs.Worlds.{HasTask};
 
@@ -66,6 +66,21 @@ impl World {
         space.insert(name, entry);
     }
 
+    /// Counts a fresh name of the task, before it is put in or after, so that the next one of its index is
+    /// another. Where names have no generation there is nothing to count.
+    ///
+    /// Takes no memory. Constant time.
+    #[inline(always)]
+    pub fn count_name(&mut self, task: TaskId, name: Name)
+        requires { CanCountName self.old task name }
+        ensures { CountsName self.old task name self.new }
+    {
+        let Some(space) = &mut self.spaces[task.number() as usize] else {
+            unreachable!()
+        };
+        space.count(name);
+    }
+
     /// Makes room for so many fresh names of the task. Room that is there stays and counts: where it is
     /// less, there is then room for just so many.
     ///
@@ -89,7 +104,9 @@ impl World {
     /// Keeps a place for this name of the task, in use or not, and for no other, so that an entry can
     /// come under it without memory.
     ///
-    /// `KERN_RESOURCE_SHORTAGE` where it wasn't kept and memory was refused; all is then as before.
+    /// `KERN_RESOURCE_SHORTAGE` where memory was refused; all is then as before. Memory is wanted only where
+    /// the place wasn't kept, and where the name that gives it up is in use, or as `Space::reserve_name`
+    /// says of the new name.
     /// Constant time, but where memory is taken.
     pub fn reserve_name(&mut self, task: TaskId, name: Name) -> Result<(), KernReturn>
         requires there { HasTask self.old task }

@@ -1,9 +1,9 @@
 //! The names of one task, as they are read.
-ghost use Rattle.std.specs.Prelude.{◌≡◌, ◌↔◌, ◌+◌, ◌≤◌, ◌≢◌, ℕ, Bool, false, true, Some, None, IfOk, IfSome, IfNone, IsTrue};
+ghost use Rattle.std.specs.Prelude.{◌≡◌, ◌↔◌, ◌<◌, ◌≤◌, ◌≢◌, ℕ, Bool, false, true, Some, None, IfOk, IfSome, IfNone, IsTrue};
 ghost use Rattle.std.specs.FinMap as map;
 ghost use Rattle.mach_types.specs.Numbers.{most_names};
 ghost use Rattle.name_space.specs.Entry.{port_of};
-ghost use Rattle.name_space.specs.Names.{IsFreshName, IsNextName, port_at};
+ghost use Rattle.name_space.specs.Names.{IsFreshFor, IsNextName, IsUsable, port_at};
 ghost use Rattle.copyin_base.specs.Reading.{live_in, read_space, reading};
 
 use crate::queued::Queued;
@@ -96,10 +96,14 @@ impl<'a> TaskNames<'a> {
         Some(read(self.ports, kept))
     }
 
-    /// The least number from 1 that is no name, at most 65,536. Constant time.
+    /// The fresh name, less than 2^24, where there are fewer than 65,535: the least number from 1 that is no
+    /// name, or where names have a generation that of the least index from 1 that no name has. Constant time.
     pub fn fresh(&self) -> Name
-        ensures fresh { IsFreshName self.now.names result }
-        ensures small { result ≤ most_names + 1 }
+        requires not_full { map.len self.now.names < most_names }
+        ensures fresh { IsFreshFor self.now result }
+        ensures unused { map.get self.now.names result ≡ None }
+        ensures usable { IsUsable result }
+        ensures small { result < 16777216 }
     {
         self.kept.fresh()
     }

@@ -4,12 +4,12 @@ ghost use Rattle.rights.specs.Unused.{IsUnusedOfAll};
 ghost use Rattle.copyin_base.specs.Changes.{with_slots};
 ghost use Rattle.copyin_base.specs.Shows.{SlotsSuffice};
 ghost use Rattle.copyin_base.specs.Wanted.{LacksSlots};
-ghost use Rattle.copyin_base.specs.Worlds.{HasTask, entry_at, no_world, space_at};
+ghost use Rattle.copyin_base.specs.Worlds.{HasTask, entry_at, has_generations, no_world, space_at};
 
 use crate::queued::Queued;
 use crate::requests::RequestTables;
 use crate::task_names::TaskNames;
-use mach_types::{Name, TaskId};
+use mach_types::{Name, Profile, TaskId};
 use name_space::{Entry, Space};
 use port::Ports;
 use port_set::Sets;
@@ -35,6 +35,8 @@ pub struct World {
     pub sets: Sets,
     /// The requests for notices.
     pub requests: RequestTables,
+    /// By which profile fresh names are made.
+    profile: Profile,
 }
 
 impl Model for World {
@@ -51,22 +53,23 @@ impl Model for World {
     ghost use Rattle.copyin_base.specs.Requests.{request_tables_code};
     ghost use Rattle.copyin_base.specs.Kept.{kept_code};
     ghost use Rattle.copyin_base.specs.contracts.message.Carried as carried;
+    ghost use Rattle.mach_types.specs.contracts.profiles.Profile as profile_of;
     ghost use Rattle.copyin_base.specs.Reading.{AreGiven, live_in, read_spaces};
     ghost use Rattle.copyin_base.specs.Worlds.{WorldView, world_code};
 
     ghost Value = { WorldView };
 
-    ghost coded = { world_code (space_code entry.the_row.coded) (ports_code (kept_code carried.the_row.coded) attributes.the_row.coded) (ledger_code counts.the_row.coded) (sets_code set_record.the_row.coded) (request_tables_code request.the_row.coded port_id.the_row.coded) };
+    ghost coded = { world_code (space_code entry.the_row.coded) (ports_code (kept_code carried.the_row.coded) attributes.the_row.coded) (ledger_code counts.the_row.coded) (sets_code set_record.the_row.coded) (request_tables_code request.the_row.coded port_id.the_row.coded) profile_of.the_row.coded };
 
-    ghost view = { λ w. record { spaces = read_spaces (live_in w.ports) w.spaces.items; ports = w.ports; ledger = w.ledger; sets = w.sets; requests = w.requests } };
+    ghost view = { λ w. record { spaces = read_spaces (live_in w.ports) w.spaces.items; ports = w.ports; ledger = w.ledger; sets = w.sets; requests = w.requests; profile = w.profile } };
 
     ghost invariant = { λ w. AreGiven w.spaces.items w.ports };
 }
 
 impl World {
-    /// Nothing was made yet. Takes no memory.
-    pub fn new(alloc: Global) -> World
-        ensures { result ≡ no_world }
+    /// Nothing was made yet; names will be made by this profile. Takes no memory.
+    pub fn new(alloc: Global, profile: Profile) -> World
+        ensures { result ≡ no_world profile }
     {
         World {
             spaces: Vec::new(alloc),
@@ -74,6 +77,17 @@ impl World {
             ledger: Ledger::new(alloc),
             sets: Sets::new(alloc),
             requests: RequestTables::new(alloc),
+            profile,
+        }
+    }
+
+    /// Whether fresh names have a generation. Constant time.
+    pub fn has_generations(&self) -> bool
+        ensures { result ≡ has_generations self.now.profile }
+    {
+        match self.profile {
+            Profile::One => false,
+            Profile::Two | Profile::Three => true,
         }
     }
 

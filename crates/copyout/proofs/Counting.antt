@@ -14,7 +14,9 @@ use Rattle.mach_types.specs.Tokens.{Kind, receive, send, send_once}
 use Rattle.mach_model.proofs.Names.{many_names}
 use Rattle.name_space.specs.declared.Entry.{Entry}
 use Rattle.name_space.specs.Entry.{port_named}
-use Rattle.name_space.specs.Names.{Names, SpaceView, IsFreshName, port_at}
+use Rattle.tagged_names.specs.Names.{Given}
+use Rattle.tagged_names.proofs.Found.{has_fresh_name}
+use Rattle.name_space.specs.Names.{Names, SpaceView, IsFreshName, IsFreshIn, tagged_of, given_after, port_at}
 use Rattle.name_space.proofs.Keys.{put_here, put_other, equal_or_not}
 use Rattle.port.specs.Ports.{PortsView}
 use Rattle.copyin_base.specs.declared.message.Carried.{Carried}
@@ -22,6 +24,7 @@ use Rattle.copyin_base.specs.declared.message.Mark.{Mark}
 use Rattle.copyin_base.specs.declared.message.Mark.TheVariants as mark
 use Rattle.copyin_base.specs.Worlds.{WorldView, space_at, with_space}
 use Rattle.copyin_base.specs.Kept.{Kept}
+use Rattle.copyin_base.proofs.FreshNames.{fresh_unused}
 use Rattle.copyin_base.proofs.Gets.{same_found, get-set_same, get-set_other, length-set}
 use Rattle.copyin_base.proofs.Spaces.{space-set_same}
 use Rattle.copyout.specs.Giving.{free_names, free_room, joined, alone, JoinsName, TakesName, GivesPort, ledger_joined, ports_given, GivesMark, GivesAll, MarkLacks, Lack}
@@ -56,6 +59,11 @@ has_fresh names = elim (fresh_to names (map.len names + 1)) [
   | inl all ↦ absurd (let h = many_names (map.len names + 1) names all in omega arith)
   | inr f ↦ f
 ]
+
+-- with a generation or without
+pub has_fresh_in : (counts : Option Given) (space : SpaceView) → (word : ℕ) × IsFreshIn counts space word
+has_fresh_in None space = has_fresh space.names
+has_fresh_in (Some given) space = has_fresh_name (tagged_of given space)
 
 -- ---- names of ports
 
@@ -142,19 +150,19 @@ module _ (left : SpaceView → ℕ) (is_left : IsLeft left) (ports0 : PortsView 
     same_space : g.space ≡ f.space
     same_space = same_found (space_at w task) g.space f.space g.there f.there
 
-    there_after : space_at mid task ≡ Some (record g.space { names = g.after; room = g.room })
-    there_after = ap (λ (x : WorldView). space_at x task) g.rest ∙ space-set_same w.spaces task (record g.space { names = g.after; room = g.room }) g.space g.there
+    there_after : space_at mid task ≡ Some (record g.space { names = g.after; room = g.room; given = g.counts })
+    there_after = ap (λ (x : WorldView). space_at x task) g.rest ∙ space-set_same w.spaces task (record g.space { names = g.after; room = g.room; given = g.counts }) g.space g.there
 
     live_after : (p : ℕ) → is_some (map.get mid.ports.ports p) ≡ is_some (map.get ports0.ports p)
     live_after p = ap (λ (x : WorldView). is_some (map.get x.ports.ports p)) g.rest ∙ given_live task port w.ports (kind_sent c.given) p ∙ f.live p
 
     -- under a name of its own
-    pub follows_taken : (t : TakesName f.space.names (kind_sent c.given) port word g.after) → g.room ≡ f.space.room - 1 → Follows left ports0 names0 task (earlier ++ c ∷ []) mid (n + 1) (l - 1)
+    pub follows_taken : (t : TakesName f.space (kind_sent c.given) port word g.after) → g.room ≡ f.space.room - 1 → Follows left ports0 names0 task (earlier ++ c ∷ []) mid (n + 1) (l - 1)
     follows_taken t room = record {
-      space = record g.space { names = g.after; room = g.room };
+      space = record g.space { names = g.after; room = g.room; given = g.counts };
       there = there_after;
       size = more ∙ ap (λ (k : ℕ). k + 1) f.size;
-      left_is = is_left.lower f.space (record g.space { names = g.after; room = g.room }) more room ∙ ap (λ (k : ℕ). k - 1) f.left_is;
+      left_is = is_left.lower f.space (record g.space { names = g.after; room = g.room; given = g.counts }) more room ∙ ap (λ (k : ℕ). k - 1) f.left_is;
       live = live_after;
       named = λ p there h. elim (before p h) [
         | inl a ↦ let at = f.named p there a in (at.0, other p at.0 at.1)
@@ -171,7 +179,7 @@ module _ (left : SpaceView → ℕ) (is_left : IsLeft left) (ports0 : PortsView 
     }
       where
         more : map.len g.after ≡ map.len f.space.names + 1
-        more = ap map.len t.rest ∙ map.len-insert nat_cmp_total f.space.names word (alone (kind_sent c.given) port) ∙ ap (λ b. cond b (map.len f.space.names) (map.len f.space.names + 1)) (ap is_some t.fresh.unused)
+        more = ap map.len t.rest ∙ map.len-insert nat_cmp_total f.space.names word (alone (kind_sent c.given) port) ∙ ap (λ b. cond b (map.len f.space.names) (map.len f.space.names + 1)) (ap is_some t.unused)
 
         before : (p : ℕ) → (IsNamed names0 p) ⊎ (named_by (earlier ++ c ∷ []) p ≡ true) → ((IsNamed names0 p) ⊎ (named_by earlier p ≡ true)) ⊎ (names_port (kind_sent c.given) c.mark p ≡ true)
         before p h = elim h [
@@ -192,15 +200,15 @@ module _ (left : SpaceView → ℕ) (is_left : IsLeft left) (ports0 : PortsView 
 
         other : (p name : ℕ) → port_at f.space.names name ≡ Some p → port_at g.after name ≡ Some p
         other p name at = ap (option_and_then port_named) (ap (λ (x : Names). map.get x name) t.rest ∙ put_other f.space.names word (alone (kind_sent c.given) port) name
-            (λ e. let free : port_at f.space.names name ≡ None = ap (option_and_then port_named) (ap (map.get f.space.names) e ∙ t.fresh.unused) in cc)) ∙ at
+            (λ e. let free : port_at f.space.names name ≡ None = ap (option_and_then port_named) (ap (map.get f.space.names) e ∙ t.unused) in cc)) ∙ at
 
     -- under the name that the port has
     pub follows_joined : (j : JoinsName f.space.names (kind_sent c.given) port word g.after) → g.room ≡ f.space.room → IsNamed f.space.names port → Follows left ports0 names0 task (earlier ++ c ∷ []) mid n l
     follows_joined j room has = record {
-      space = record g.space { names = g.after; room = g.room };
+      space = record g.space { names = g.after; room = g.room; given = g.counts };
       there = there_after;
       size = as_many ∙ f.size;
-      left_is = is_left.same f.space (record g.space { names = g.after; room = g.room }) as_many room ∙ f.left_is;
+      left_is = is_left.same f.space (record g.space { names = g.after; room = g.room; given = g.counts }) as_many room ∙ f.left_is;
       live = live_after;
       named = λ p there h. elim h [
         | inl a ↦ let at = f.named p there (inl a) in (at.0, unchanged at.0 ∙ at.1)
@@ -265,14 +273,14 @@ module _ (left : SpaceView → ℕ) (is_left : IsLeft left) (ports0 : PortsView 
       elim g.given [
         | inl j ↦ absurd (let named : port_at f.space.names word ≡ Some o.port = subst (λ (s : SpaceView). port_at s.names word ≡ Some o.port) same (ap (option_and_then port_named) j.0.found ∙ j.0.named) in
             elim o.own [ inl once ↦ j.0.not_once once | inr own ↦ f.none o.port own.0 own.1 word named ])
-        | inr t ↦ follows_taken left is_left ports0 names0 task earlier c w n l f mid o.port word o.for_port g (subst (λ (s : SpaceView). TakesName s.names (kind_sent c.given) o.port word g.after) same t.0) (t.2 ∙ ap (λ (s : SpaceView). s.room - 1) same)
+        | inr t ↦ follows_taken left is_left ports0 names0 task earlier c w n l f mid o.port word o.for_port g (subst (λ (s : SpaceView). TakesName s (kind_sent c.given) o.port word g.after) same t.0) (t.2 ∙ ap (λ (s : SpaceView). s.room - 1) same)
       ]
 
   give_own : Owns ports0 names0 earlier c → n < most_names → (word : ℕ) × (mid : WorldView) × GivesMark w task (kind_sent c.given) c.mark word mid
   give_own o few =
-      let fresh = has_fresh f.space.names in
+      let fresh = has_fresh_in f.space.given f.space in
       let live : is_some (map.get w.ports.ports o.port) ≡ true = f.live o.port ∙ o.there in
-      let mid : WorldView = record (with_space w task (record f.space { names = map.insert f.space.names fresh.0 (alone (kind_sent c.given) o.port); room = f.space.room - 1 })) {
+      let mid : WorldView = record (with_space w task (record f.space { names = map.insert f.space.names fresh.0 (alone (kind_sent c.given) o.port); room = f.space.room - 1; given = given_after f.space.given fresh.0 })) {
         ports = ports_given (kind_sent c.given) task o.port w.ports;
       } in (
         fresh.0,
@@ -282,14 +290,17 @@ module _ (left : SpaceView → ℕ) (is_left : IsLeft left) (ports0 : PortsView 
           there = f.there;
           after = map.insert f.space.names fresh.0 (alone (kind_sent c.given) o.port);
           room = f.space.room - 1;
+          counts = given_after f.space.given fresh.0;
           ledger = w.ledger;
           given = inr (
             record {
               fresh = fresh.1;
+              unused = fresh_unused f.space.given f.space fresh.0 fresh.1;
               room = let s = f.size in omega arith;
               lone = λ not. elim o.own [ inl once ↦ absurd (not once) | inr own ↦ f.none o.port own.0 own.1 ];
               rest = refl;
             },
+            refl,
             refl,
             refl,
           );
@@ -321,7 +332,7 @@ module _ (left : SpaceView → ℕ) (is_left : IsLeft left) (ports0 : PortsView 
         let named : IsNamed f.space.names has.0 = f.named has.0 has.2 has.4 in
         elim g.given [
           | inl j ↦ follows_joined left is_left ports0 names0 task earlier c w n l f mid has.0 word has.1 g (subst (λ (x : SpaceView). JoinsName x.names (kind_sent c.given) has.0 word g.after) same j.0) (j.2 ∙ ap (λ (x : SpaceView). x.room) same) named
-          | inr t ↦ absurd ((subst (λ (x : SpaceView). TakesName x.names (kind_sent c.given) has.0 word g.after) same t.0).lone has.3 named.0 named.1)
+          | inr t ↦ absurd ((subst (λ (x : SpaceView). TakesName x (kind_sent c.given) has.0 word g.after) same t.0).lone has.3 named.0 named.1)
         ]
   ]
 
@@ -342,8 +353,9 @@ module _ (left : SpaceView → ℕ) (is_left : IsLeft left) (ports0 : PortsView 
             there = f.there;
             after = map.insert f.space.names named.0 (joined (kind_sent c.given) entry.0);
             room = f.space.room;
+            counts = f.space.given;
             ledger = ledger_joined (kind_sent c.given) has.0 entry.0 w.ledger;
-            given = inl (record { not_once = has.3; entry = entry.0; found = entry.1; named = entry.2; rest = refl }, refl, refl);
+            given = inl (record { not_once = has.3; entry = entry.0; found = entry.1; named = entry.2; rest = refl }, refl, refl, refl);
             rest = refl;
           }),
         )

@@ -1,7 +1,8 @@
 -- A message that was taken: its rights are given.
-use Rattle.std.proofs.Common.{◌≡◌, ℕ, ◌+◌, ◌*◌, ◌^◌, List, [], ◌∷◌, ◌++◌, Option, Some, None, refl, sym, ap, subst, ◌∙◌, arith, length, ◌<◌, ◌≤◌, ◌≢◌, Bool, inl, inr}
+use Rattle.std.proofs.Common.{◌≡◌, ℕ, ◌+◌, ◌*◌, ◌^◌, List, [], ◌∷◌, ◌++◌, Option, Some, None, refl, sym, ap, subst, ◌∙◌, arith, length, ◌<◌, ◌≤◌, ◌≢◌, Bool, true, false, inl, inr}
 use Rattle.std.specs.Prelude.{if◌then◌else◌, min, MatchBool, MatchOption, max, is_some}
 use Rattle.std.specs.Option.{option_to_list}
+use Rattle.std.specs.FinMap as map
 use Rattle.mach_types.specs.Numbers.{kind_sent, most_bytes, dead_word, null_word}
 use Rattle.mach_types.specs.Rights.{disposition_number}
 use Rattle.mach_types.specs.Grammar.{WireBody, body_text}
@@ -40,7 +41,8 @@ use Rattle.copyout.specs.declared.bare.Bare.{Bare}
 use Rattle.copyout.specs.Bare.{IsBare, OwnsFor, TellsOwn, lone_right, own_names}
 use Rattle.copyout.proofs.Counting.{needs_alone}
 use Rattle.copyout.specs.Putting.{PutsPort}
-use Rattle.copyout.proofs.Given.{gives_puts, put_keeps, given_keeps}
+use Rattle.copyout.proofs.Counted.{put_world, gives_puts}
+use Rattle.copyout.proofs.Given.{put_keeps, given_keeps}
 
 -- ---- A message that was taken: the right to answer with is given first, then those of the body.
 
@@ -307,7 +309,11 @@ pub put_unused : (w new : WorldView) (task : ℕ) (kind : Kind) (port word : ℕ
 put_unused w new task kind port word g = grind (arith, unused_joined)
 
 pub mark_unused : (w new : WorldView) (task : ℕ) (kind : Kind) (one : Mark) (word : ℕ) → GivesMark w task kind one word new → new.ledger.unused ≡ w.ledger.unused
-mark_unused w new task kind (mark.Port p) word h = grind (arith, put_unused, gives_puts)
+mark_unused w new task kind (mark.Port p) word h = go (is_some (map.get w.ports.ports p)) _ h
+  where
+    go : (b : Bool) (dead : ℕ) → MatchBool b (GivesPort w task kind p word new) ((word ≡ dead) × (new ≡ w)) → new.ledger.unused ≡ w.ledger.unused
+    go true dead g = ap (λ (x : WorldView). x.ledger.unused) g.rest ∙ put_unused w (put_world w task kind p word new g) task kind p word (gives_puts w task kind p word new g)
+    go false dead g = ap (λ (x : WorldView). x.ledger.unused) g.1
 mark_unused w new task kind mark.Null word h = ap (λ (x : WorldView). x.ledger.unused) h.1
 mark_unused w new task kind mark.Dead word h = ap (λ (x : WorldView). x.ledger.unused) h.1
 

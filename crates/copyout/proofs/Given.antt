@@ -8,7 +8,7 @@ use Rattle.std.proofs.lemmas.Bool.{eq-eqb, ne_eqb, ltb-true, ltb-false, lt-ltb, 
 use Rattle.mach_types.specs.Tokens.{Token, Moves, Kind, receive, send, send_once, Request, in_task, in_message, in_request, token, weigh, count, is_of, is_held}
 use Rattle.mach_types.specs.Numbers.{most_names, most_references}
 use Rattle.mach_model.proofs.Names.{weigh-append, pos_or_zero, both_test, length-weigh, held_le_of, lying_le_of, at_own, at_other, kept}
-use Rattle.mach_model.specs.State.{State, Target, Names as Targets, lookup, held, with_name, IsFresh}
+use Rattle.mach_model.specs.State.{State, Target, Names as Targets, lookup, held, with_name, gives}
 use Rattle.mach_model.specs.Telling.{one_if}
 use Rattle.mach_model.specs.Carried.{lying}
 use Rattle.mach_model.specs.CopyOut.{given_to, Named, NamedFor, GiveRight}
@@ -21,7 +21,7 @@ use Rattle.rights.specs.declared.Counts.{Counts}
 use Rattle.name_space.specs.declared.Entry.{Entry}
 use Rattle.name_space.specs.declared.Entry.TheVariants as entry
 use Rattle.name_space.specs.Entry.{port_named, has_receive, send_references}
-use Rattle.name_space.specs.Names.{Names, SpaceView, IsFreshName}
+use Rattle.name_space.specs.Names.{Names, SpaceView, IsFreshFor}
 use Rattle.port.specs.Ports.{PortView, PortsView}
 use Rattle.port.specs.declared.Holder.TheVariants as Holder
 use Rattle.copyin_base.proofs.Taking.{Without, take_lying}
@@ -33,7 +33,10 @@ use Rattle.copyin_base.proofs.Counting.{right_of, right_taken, counts_same}
 use Rattle.copyin_base.proofs.Gets.{of_some, same_found}
 use Rattle.copyin_base.proofs.Putting.{each_put, put_same}
 use Rattle.copyin_base.proofs.Told.{port_of}
-use Rattle.copyin_base.proofs.ProfileOne.{fresh_for, none_counted}
+use Rattle.copyin_base.proofs.FreshNames.{fresh_for}
+use Rattle.copyin_base.specs.Changes.{CountsName}
+use Rattle.copyin_base.proofs.Roomier.{counted_agrees}
+use Rattle.copyout.proofs.Counted.{new_of, put_world, gives_puts, joins_only, takes_counted}
 use Rattle.copyin_base.proofs.Changing.{target_named}
 use Rattle.copyin_base.proofs.Holders.{IsReceive, ReceivesIn, ReceivesAt, receives_at, put_receives, left_receives, added_receives, KeepHolders, ChangesHolder, same_holders, unheld, unheld_lying, holders_left, holders_given}
 use Rattle.copyin_base.proofs.SendersNoted.{KeepsSends, KeepsSenders, keeps_senders, counts_own, sends_elsewhere}
@@ -41,7 +44,7 @@ use Rattle.copyin_base.specs.declared.message.Mark.{Mark}
 use Rattle.copyin_base.specs.declared.message.Mark.TheVariants as mark
 use Rattle.copyin_base.specs.Wanted.{KeepsSpares}
 use Rattle.copyin_base.proofs.Spares.{keeps_same, keeps_space}
-use Rattle.copyout.specs.Giving.{joined, alone, JoinsName, TakesName, ledger_joined, ports_given, GivesPort, GivesMark}
+use Rattle.copyout.specs.Giving.{joined, alone, JoinsName, ledger_joined, ports_given, GivesPort, GivesMark}
 use Rattle.copyout.specs.Putting.{NewName, PutsPort}
 use Rattle.copyout.proofs.Gives.{joined_keeps, alone_port, put_lists}
 use Rattle.copyout.proofs.PortsGiven.{given_made, given_live, given_shows, given_changes, given_spare}
@@ -184,23 +187,6 @@ pub record Put (s : State) (o k task : ℕ) (kind : Kind) (p word : ℕ) (w' : W
       ⊎ (lookup s task word ≡ None) × (kind ≢ send_once → (n : ℕ) → lookup s task n ≢ Some (Target.port p)) × (named ≡ with_name task word (target_of (alone kind p)) s)
   pub agrees : Agrees w' (record named { ledger = given_to kind p task s ++ others })
 
-abbrev pub new_of : (names : Names) (kind : Kind) (p word : ℕ) (after : Names) → TakesName names kind p word after → NewName names kind p word after
-new_of names kind p word after x = record { unused = x.fresh.unused; lone = x.lone; rest = x.rest }
-
-abbrev pub gives_puts : (w : WorldView) (task : ℕ) (kind : Kind) (p word : ℕ) (w' : WorldView) → GivesPort w task kind p word w' → PutsPort w task kind p word w'
-gives_puts w task kind p word w' g = record {
-  space = g.space;
-  there = g.there;
-  after = g.after;
-  room = g.room;
-  ledger = g.ledger;
-  given = elim g.given [
-    | inl h ↦ inl h
-    | inr h ↦ inr (new_of g.space.names kind p word g.after h.0, h.1, h.2)
-  ];
-  rest = g.rest;
-}
-
 module _ (w : WorldView) (s : State) (a : Agrees w s) (o k : ℕ) (l : IsMoving s o k) (task : ℕ) (kind : Kind) (p word : ℕ) (w' : WorldView) (some : 0 < lying s kind p (in_message o k)) where
   pub lives : s.live_port p ≡ true
   lives = grind (arith, lying_le_of)
@@ -293,7 +279,10 @@ module _ (w : WorldView) (s : State) (a : Agrees w s) (o k : ℕ) (l : IsMoving 
             spaces = ap (λ (x : WorldView). x.spaces) g.rest;
             rest = refl;
             naming_others = λ x not. refl;
+            profile = ap (λ (x : WorldView). x.profile) g.rest;
             names = join_names;
+            given = a.counts_given task g.space g.there;
+            given_others = λ x not. refl;
             held_others = held_other_task s same_name o k task kind p moves;
             references = join_references;
             live = live_kept;
@@ -404,7 +393,10 @@ module _ (w : WorldView) (s : State) (a : Agrees w s) (o k : ℕ) (l : IsMoving 
             spaces = ap (λ (y : WorldView). y.spaces) g.rest;
             rest = refl;
             naming_others = λ y not. at_other s.naming task (map.insert (s.naming task) word target) y not;
+            profile = ap (λ (y : WorldView). y.profile) g.rest;
             names = new_names;
+            given = a.counts_given task g.space g.there;
+            given_others = λ y not. refl;
             held_others = held_other_task s new_name o k task kind p moves;
             references = new_references;
             live = live_kept;
@@ -431,25 +423,6 @@ module _ (w : WorldView) (s : State) (a : Agrees w s) (o k : ℕ) (l : IsMoving 
         agrees = new_agrees;
       }
 
-      module _ (fresh_name : IsFreshName g.space.names word) (room : map.len g.space.names < most_names) where
-        fresh : IsFresh (s.naming task) word
-        fresh = grind (arith, unused, lookup_is, same_there)
-
-        named_new : Named task word target s (with_name task word target s)
-        named_new = record { room = omega (arith, room, len_is); fresh = fresh_for s a.is_first task word fresh; rest = ap (with_name task word target) (sym (none_counted s a.is_first task word)) }
-
-        new_for : (c : Kind) → c ≡ kind → NamedFor c task word p s (with_name task word (target_of (alone c p)) s)
-        new_for receive is = grind (arith, no_name, named_new)
-        new_for send is = grind (arith, no_name, named_new)
-        new_for send_once is = subst (λ (y : Kind). Named task word (target_of (alone y p)) s (with_name task word (target_of (alone y p)) s)) (sym is) named_new
-
-        new_given : Given s o k task kind p word w'
-        new_given = record {
-          t = new_name;
-          gives = record { named_state = with_name task word target s; named = new_for kind refl; rest = refl; tokens = moves };
-          agrees = new_agrees;
-        }
-
     -- The right comes under the name, and the tables agree with the machine.
     pub port_put : Put s o k task kind p word w'
     port_put = elim g.given [
@@ -457,16 +430,41 @@ module _ (w : WorldView) (s : State) (a : Agrees w s) (o k : ℕ) (l : IsMoving 
       | inr h ↦ new_put h.0 h.1
     ]
 
-  module _ (g : GivesPort w task kind p word w') where
-    abbrev puts : PutsPort w task kind p word w'
-    puts = gives_puts w task kind p word w' g
+  -- where it is given
+  module _ (g : PutsPort w task kind p word w') (x : NewName g.space.names kind p word g.after) (e : g.ledger ≡ w.ledger) (w2 : WorldView) (counts : CountsName w' task word w2)
+      (fresh_name : IsFreshFor g.space word) (room : map.len g.space.names < most_names) where
+    abbrev named_state : State
+    named_state = with_name task word (target_of (alone kind p)) (gives task word s)
 
-    -- The right comes, and the tables agree with the machine.
-    pub port_given : Given s o k task kind p word w'
-    port_given = elim g.given [
-      | inl h ↦ join_given puts h.0 h.1
-      | inr h ↦ new_given puts (new_of g.space.names kind p word g.after h.0) h.1 h.0.fresh h.0.room
-    ]
+    named_new : Named task word (target_of (alone kind p)) s named_state
+    named_new = record { room = (let same = a.names_kept task g.space g.there in omega (arith, room, same)); fresh = fresh_for w s a task g.space g.there word fresh_name; rest = refl }
+
+    new_for : (c : Kind) → c ≡ kind → NamedFor c task word p s (with_name task word (target_of (alone c p)) (gives task word s))
+    new_for receive is = inr (no_name g x e (λ once. let f : receive ≡ send_once = is ∙ once in cc), subst (λ (y : Kind). Named task word (target_of (alone y p)) s (with_name task word (target_of (alone y p)) (gives task word s))) (sym is) named_new)
+    new_for send is = inr (no_name g x e (λ once. let f : send ≡ send_once = is ∙ once in cc), subst (λ (y : Kind). Named task word (target_of (alone y p)) s (with_name task word (target_of (alone y p)) (gives task word s))) (sym is) named_new)
+    new_for send_once is = subst (λ (y : Kind). Named task word (target_of (alone y p)) s (with_name task word (target_of (alone y p)) (gives task word s))) (sym is) named_new
+
+    new_given : Given s o k task kind p word w2
+    new_given = record {
+      t = gives task word (new_name g x e);
+      gives = record { named_state = named_state; named = new_for kind refl; rest = refl; tokens = moves };
+      agrees = counted_agrees w' w2 task word counts (new_name g x e) (new_agrees g x e);
+    }
+
+module _ (w : WorldView) (s : State) (a : Agrees w s) (o k : ℕ) (l : IsMoving s o k) (task : ℕ) (kind : Kind) (p word : ℕ) (w' : WorldView) (some : 0 < lying s kind p (in_message o k))
+    (g : GivesPort w task kind p word w') where
+  abbrev mid : WorldView
+  mid = put_world w task kind p word w' g
+
+  abbrev puts : PutsPort w task kind p word mid
+  puts = gives_puts w task kind p word w' g
+
+  -- The right comes, and the tables agree with the machine.
+  pub port_given : Given s o k task kind p word w'
+  port_given = elim g.given [
+    | inl h ↦ subst (Given s o k task kind p word) (sym (joins_only w task kind p word w' g h.3)) (join_given w s a o k l task kind p word mid some puts h.0 h.1)
+    | inr h ↦ new_given w s a o k l task kind p word mid some puts (new_of g.space kind p word g.after h.0) h.1 w' (takes_counted w task kind p word w' g h.3) h.0.fresh h.0.room
+  ]
 
 -- ---- A right that comes to a task: each port still knows who holds its receive right.
 
@@ -576,21 +574,20 @@ module _ (w : WorldView) (s : State) (a : Agrees w s) (r : RequestsStand w) (w' 
 
 -- ---- What giving one right keeps of the room for names, and of the spare slots.
 
+few_rooms : (room was : ℕ) → (room ≡ was) ⊎ (room ≡ was - 1) → room ≤ max was 1
+few_rooms room was (inl e) = omega (arith, e)
+few_rooms room was (inr e) = omega (arith, e)
+
 pub put_keeps : (w new : WorldView) (task : ℕ) (kind : Kind) (port word : ℕ) → PutsPort w task kind port word new → KeepsSpares w new
-put_keeps w new task kind port word g = keeps_space w new task g.space (record g.space { names = g.after; room = g.room }) g.there (ap (λ (x : WorldView). x.spaces) g.rest) few
-    (ap (λ (x : WorldView). x.ports.spare) g.rest ∙ given_spare task port w.ports kind)
-  where
-    few : g.room ≤ max g.space.room 1
-    few = elim g.given [
-      | inl h ↦ let e = h.2 in omega (arith, e)
-      | inr h ↦ let e = h.2 in omega (arith, e)
-    ]
+put_keeps w new task kind port word g = keeps_space w new task g.space (record g.space { names = g.after; room = g.room }) g.there (ap (λ (x : WorldView). x.spaces) g.rest)
+    (few_rooms g.room g.space.room (elim g.given [ inl h ↦ inl h.2 | inr h ↦ inr h.2 ])) (ap (λ (x : WorldView). x.ports.spare) g.rest ∙ given_spare task port w.ports kind)
 
 pub given_keeps : (w new : WorldView) (task : ℕ) (kind : Kind) (one : Mark) (word : ℕ) → GivesMark w task kind one word new → KeepsSpares w new
 given_keeps w new task kind (mark.Port p) word h = go (is_some (map.get w.ports.ports p)) _ h
   where
     go : (b : Bool) (dead : ℕ) → MatchBool b (GivesPort w task kind p word new) ((word ≡ dead) × (new ≡ w)) → KeepsSpares w new
-    go true dead g = put_keeps w new task kind p word (gives_puts w task kind p word new g)
+    go true dead g = keeps_space w new task g.space (record g.space { names = g.after; room = g.room; given = g.counts }) g.there (ap (λ (x : WorldView). x.spaces) g.rest)
+        (few_rooms g.room g.space.room (elim g.given [ inl h ↦ inl h.2 | inr h ↦ inr h.2 ])) (ap (λ (x : WorldView). x.ports.spare) g.rest ∙ given_spare task p w.ports kind)
     go false dead g = keeps_same w new g.1
 given_keeps w new task kind mark.Null word h = keeps_same w new h.1
 given_keeps w new task kind mark.Dead word h = keeps_same w new h.1

@@ -30,7 +30,7 @@ use Rattle.port.specs.Ports.{PortView}
 use Rattle.port.specs.declared.Holder.TheVariants as Holder
 use Rattle.copyin_base.specs.declared.message.Carried.{Carried}
 use Rattle.copyin_base.specs.declared.message.Mark.TheVariants as mark
-use Rattle.copyin_base.specs.Changes.{SetsHolder}
+use Rattle.copyin_base.specs.Changes.{SetsHolder, SameButNaming}
 use Rattle.copyin_base.specs.Kept.{Kept, mark_of, items_given, body_given}
 use Rattle.copyin_base.specs.Shows.{CarriersAgree, Agrees, HoldersAgree, RequestsStand}
 use Rattle.copyin_base.specs.Worlds.{WorldView, port_at, NoneLost}
@@ -39,12 +39,15 @@ use Rattle.copyin_base.proofs.Counting.{one_of}
 use Rattle.copyin_base.proofs.KeptEntries.{kept_of, rights_of, message_counted, right_of}
 use Rattle.copyin_base.proofs.Taking.{Without, take_lying}
 use Rattle.copyin_base.proofs.Told.{port_there}
-use Rattle.copyin_base.proofs.SendersNoted.{KeepsSenders, keeps_senders_refl, keeps_senders_trans}
+use Rattle.copyin_base.proofs.SendersNoted.{KeepsSenders, keeps_senders_refl, keeps_senders_trans, naming_senders}
+use Rattle.copyin_base.proofs.Roomier.{naming_holders, naming_carriers, naming_requested}
+use Rattle.copyin_base.proofs.Idle.{none_lost_room}
 use Rattle.copyin_base.specs.declared.message.Mark.{Mark}
 use Rattle.copyout.specs.Giving.{port_held, ports_given, GivesPort, GivesMark, GivesAll}
 use Rattle.copyout.specs.Putting.{PutsPort}
 use Rattle.copyout.specs.Ready.{carried_by}
-use Rattle.copyout.proofs.Given.{lives, gives_puts, port_given, port_put_holders, port_put_senders}
+use Rattle.copyout.proofs.Counted.{put_world, gives_puts, count_naming}
+use Rattle.copyout.proofs.Given.{lives, port_given, port_put_holders, port_put_senders}
 use Rattle.copyout.proofs.Gives.{port_put_requested, put_none_lost}
 use Rattle.copyout.proofs.Rights.{seconds}
 
@@ -130,11 +133,11 @@ stay_same w w' a same = subst (StaySound w) (sym same) (record { sound = a; send
 pub stay_trans : (a b c : WorldView) → StaySound a b → StaySound b c → StaySound a c
 stay_trans a b c x y = record { sound = y.sound; senders = keeps_senders_trans a b c x.senders y.senders }
 
-module _ (w : WorldView) (s : State) (a : Agrees w s) (h : AreSound w) (o k : ℕ) (l : IsMoving s o k) (outside : IsOutside s o k) (task : ℕ) (kind : Kind) (p word : ℕ) (w' : WorldView)
+module _ (w : WorldView) (s : State) (a : Agrees w s) (h : AreSound w) (o k : ℕ) (l : IsMoving s o k) (outside : IsOutside s o k) (task : ℕ) (kind : Kind) (p word : ℕ)
     (some : 0 < lying s kind p (in_message o k)) where
   -- It comes under the name.
-  pub port_put_sound : PutsPort w task kind p word w' → StaySound w w'
-  port_put_sound g = record {
+  pub port_put_sound : (w' : WorldView) → PutsPort w task kind p word w' → StaySound w w'
+  port_put_sound w' g = record {
     sound = record {
       holders = port_put_holders w s a h.holders o k l task kind p word w' some g;
       carriers = port_put_carriers w s a h.carriers o k l outside task kind p word w' some g;
@@ -144,9 +147,22 @@ module _ (w : WorldView) (s : State) (a : Agrees w s) (h : AreSound w) (o k : �
     senders = port_put_senders w s a h.requested w' task kind p word g;
   }
 
+  then_counted : (mid w' : WorldView) → PutsPort w task kind p word mid → SameButNaming mid w' → StaySound w w'
+  then_counted mid w' g same =
+      let put = port_put_sound mid g in
+      record {
+        sound = record {
+          holders = naming_holders mid w' same put.sound.holders;
+          carriers = naming_carriers mid w' same put.sound.carriers;
+          requested = naming_requested mid w' same put.sound.requested;
+          none_lost = none_lost_room mid w' put.sound.none_lost same;
+        };
+        senders = keeps_senders_trans w mid w' put.senders (naming_senders mid w' same put.sound.requested);
+      }
+
   -- It comes.
-  pub port_given_sound : GivesPort w task kind p word w' → StaySound w w'
-  port_given_sound g = port_put_sound (gives_puts w task kind p word w' g)
+  pub port_given_sound : (w' : WorldView) → GivesPort w task kind p word w' → StaySound w w'
+  port_given_sound w' g = then_counted (put_world w task kind p word w' g) w' (gives_puts w task kind p word w' g) (count_naming w task kind p word w' g)
 
 -- ---- Rights that the tables give one after the other are given so by the machine.
 
@@ -205,7 +221,7 @@ module _ (w : WorldView) (s : State) (a : Agrees w s) (o k : ℕ) (l : IsMoving 
   module _ (h : AreSound w) (outside : IsOutside s o k) where
     port_sound : (p : ℕ) (b : Bool) → is_some (port_at w p) ≡ b → (s.live_port p ≡ true → 0 < lying s kind p (in_message o k)) →
         MatchBool b (GivesPort w task kind p word w') ((word ≡ dead_word) × (w' ≡ w)) → StaySound w w'
-    port_sound p true e some g = port_given_sound w s a h o k l outside task kind p word w' (some (sym (a.live_port p) ∙ e)) g
+    port_sound p true e some g = port_given_sound w s a h o k l outside task kind p word (some (sym (a.live_port p) ∙ e)) w' g
     port_sound p false e some g = stay_same w w' h g.1
 
     pub mark_sound : (m : Mark) → ((q : ℕ) → s.live_port q ≡ true → mark_count kind q kind (mark_of m) ≤ lying s kind q (in_message o k)) →

@@ -4,20 +4,23 @@ use Rattle.std.specs.Prelude.{is_some, IfSome, IfNone, slice_set}
 use Rattle.std.specs.Option.{option_and_then, option_map}
 use Rattle.std.specs.FinMap as map
 use Rattle.std.proofs.lemmas.Bool.Decides.{eqb_tells}
+use Rattle.mach_types.specs.declared.profiles.Profile.{Profile}
 use Rattle.mach_types.specs.Numbers.{most_names}
 use Rattle.mach_types.specs.Tokens.{Kind, receive, send, send_once}
 use Rattle.rights.specs.Ledger.{LedgerView}
 use Rattle.name_space.specs.declared.Entry.{Entry}
 use Rattle.name_space.specs.declared.Entry.TheVariants as entry_of
 use Rattle.name_space.specs.Entry.{port_named, port_of, with_send}
-use Rattle.name_space.specs.Names.{Names, SpaceView, IsFreshName, HasNoOther, port_at}
+use Rattle.name_space.specs.Names.{Names, SpaceView, IsFreshFor, IsUsable, given_after, HasNoOther, port_at}
 use Rattle.name_space.specs.declared.PortName.{PortName}
 use Rattle.port.specs.Ports.{IsLive, PortsView}
 use Rattle.port_set.specs.Sets.{SetsView}
 use Rattle.copyin_base.specs.Worlds.{WorldView, entry_in, entry_at, space_at, with_space, NoneLost}
 use Rattle.copyin_base.specs.Shows.{target_of, HasCount, RequestsStand}
-use Rattle.copyin_base.specs.Changes.{IsForLive, CanPutLeft, PutsLeft, InsertsEntry, CanInsert}
+use Rattle.copyin_base.specs.Changes.{IsForLive, CanPutLeft, PutsLeft, InsertsEntry, CanInsert, CountsName}
+use Rattle.copyin_base.proofs.FreshNames.{fresh_unused, place_counted}
 use Rattle.copyin_base.proofs.Gets.{same_found, of_some}
+use Rattle.copyin_base.proofs.Spaces.{space-set_same, set-set}
 use Rattle.copyin_base.proofs.Reading.{named_port, get_read, named_kept, put_reads, reads_as}
 use Rattle.copyin_base.specs.Kept.{Kept}
 use Rattle.copyin_base.proofs.Requested.{KeepsRight, keeps_same, requested_kept, entry_own, entry_other}
@@ -124,8 +127,9 @@ module _ (w w1 w2 : WorldView) (task : ℕ) (kind : Kind) (port name : ℕ) (ent
     there = there;
     after = map.insert space.names name (joined kind entry);
     room = space.room;
+    counts = space.given;
     ledger = ledger_joined kind port entry w.ledger;
-    given = inl (record { not_once = not_once; entry = entry; found = found; named = named; rest = refl }, refl, refl);
+    given = inl (record { not_once = not_once; entry = entry; found = found; named = named; rest = refl }, refl, refl, refl);
     rest = rest-joined;
   }
 
@@ -150,6 +154,7 @@ gives-added w w1 w2 task kind port name entry sent adds dropped = record {
   there = adds.there;
   after = map.insert adds.space.names name (with_send entry);
   room = adds.space.room;
+  counts = adds.space.given;
   ledger = ledger_joined kind port entry w.ledger;
   given = inl (
     record {
@@ -161,27 +166,69 @@ gives-added w w1 w2 task kind port name entry sent adds dropped = record {
     },
     refl,
     refl,
+    refl,
   );
   rest = dropped ∙ ap (λ (x : WorldView). record x { ledger = ledger_joined kind port entry x.ledger }) adds.rest
       ∙ ap (λ (k : Kind). record (with_space w task (record adds.space { names = map.insert adds.space.names name (with_send entry) })) { ports = ports_given k task port w.ports; ledger = ledger_joined kind port entry w.ledger }) (sym sent);
 }
 
--- under a fresh name
-module _ (w w1 : WorldView) (task : ℕ) (kind : Kind) (port name : ℕ) (space : SpaceView)
-    (there : space_at w task ≡ Some space) (puts : InsertsEntry (record w { ports = ports_given kind task port w.ports }) task name (alone kind port) w1) where
-  pub rest-taken : w1 ≡ record (with_space w task (record space { names = map.insert space.names name (alone kind port); room = space.room - 1 })) { ports = ports_given kind task port w.ports; ledger = w.ledger }
-  rest-taken = grind (arith, same_found)
+-- under a name that isn't in use
+rest-alone : (w w1 : WorldView) (task : ℕ) (kind : Kind) (port name : ℕ) (space : SpaceView) → space_at w task ≡ Some space →
+    InsertsEntry (record w { ports = ports_given kind task port w.ports }) task name (alone kind port) w1 →
+    w1 ≡ record (with_space w task (record space { names = map.insert space.names name (alone kind port); room = space.room - 1 })) { ports = ports_given kind task port w.ports; ledger = w.ledger }
+rest-alone w w1 task kind port name space there puts = grind (arith, same_found)
 
-  pub gives-taken : IsFreshName space.names name → map.len space.names < most_names → (kind ≢ send_once → (n : ℕ) → port_at space.names n ≢ Some port) → GivesPort w task kind port name w1
-  gives-taken fresh room lone = record {
-    space = space;
-    there = there;
-    after = map.insert space.names name (alone kind port);
-    room = space.room - 1;
-    ledger = w.ledger;
-    given = inr (record { fresh = fresh; room = room; lone = lone; rest = refl }, refl, refl);
-    rest = rest-taken;
+-- under a fresh name
+module _ (w w1 w2 : WorldView) (task : ℕ) (kind : Kind) (port name : ℕ) (space : SpaceView) (there : space_at w task ≡ Some space) (counts : CountsName w task name w1) where
+  abbrev counted_space : SpaceView
+  counted_space = record space { given = given_after space.given name }
+
+  counted_is : w1 ≡ with_space w task counted_space
+  counted_is = counts.rest ∙ ap (λ (s : SpaceView). with_space w task (record s { given = given_after s.given name })) (same_found (space_at w task) counts.space space counts.there there)
+
+  counted_there : space_at w1 task ≡ Some counted_space
+  counted_there = ap (λ (x : WorldView). space_at x task) counted_is ∙ space-set_same w.spaces task counted_space space there
+
+  pub counted_ports : w1.ports ≡ w.ports
+  counted_ports = ap (λ (x : WorldView). x.ports) counts.rest
+
+  -- it can come there
+  pub can_take : IsUsable name → IsFreshFor space name → 0 < space.room → map.len space.names < most_names → (kind ≢ send_once → (n : ℕ) → port_at space.names n ≢ Some port) →
+      IsLive w.ports port → CanInsert w1 task name (alone kind port)
+  can_take usable fresh room few lone live = record {
+    space = counted_space;
+    there = counted_there;
+    usable = usable;
+    unused = fresh_unused space.given space name fresh;
+    few = few;
+    place = inl (place_counted space.given space name fresh room);
+    apart = no_other space.names kind port (alone kind port) refl lone;
+    lives = alone_lives w1 kind port (subst (λ (x : PortsView Kept). IsLive x port) (sym counted_ports) live);
   }
+
+  module _ (puts : InsertsEntry (record w1 { ports = ports_given kind task port w1.ports }) task name (alone kind port) w2) where
+    abbrev taken_space : SpaceView
+    taken_space = record counted_space { names = map.insert space.names name (alone kind port); room = space.room - 1 }
+
+    pub rest-taken : w2 ≡ record (with_space w task taken_space) { ports = ports_given kind task port w.ports; ledger = w.ledger }
+    rest-taken =
+        puts.rest
+        ∙ ap (λ (s : SpaceView). with_space (record w1 { ports = ports_given kind task port w1.ports }) task (record s { names = map.insert s.names name (alone kind port); room = s.room - 1 }))
+        (same_found (space_at w1 task) puts.space counted_space puts.there counted_there)
+        ∙ ap (λ (x : WorldView). with_space (record x { ports = ports_given kind task port x.ports }) task taken_space) counted_is
+        ∙ ap (λ (xs : List (Option SpaceView)). record w { spaces = xs; ports = ports_given kind task port w.ports }) (set-set w.spaces task (Some counted_space) (Some taken_space))
+
+    pub gives-taken : IsFreshFor space name → map.len space.names < most_names → (kind ≢ send_once → (n : ℕ) → port_at space.names n ≢ Some port) → GivesPort w task kind port name w2
+    gives-taken fresh room lone = record {
+      space = space;
+      there = there;
+      after = map.insert space.names name (alone kind port);
+      room = space.room - 1;
+      counts = given_after space.given name;
+      ledger = w.ledger;
+      given = inr (record { fresh = fresh; unused = fresh_unused space.given space name fresh; room = room; lone = lone; rest = refl }, refl, refl, refl);
+      rest = rest-taken;
+    }
 
 -- ---- A right that comes to a task: each request still stands on a name or a port that is there, and no port is lost.
 
@@ -248,9 +295,9 @@ with_send_for (entry_of.Set n) = refl
 for_named : (e : Entry) (port p : ℕ) → port_named e ≡ Some port → port_of (with_send e) ≡ Some p → port ≡ p
 for_named e port p named for = for_one port p (sym (named_port e port named) ∙ sym (with_send_for e) ∙ for)
 
-module _ (old : WorldView) (task port : ℕ) (space : SpaceView) (spaces : List (Option SpaceView)) (ports : PortsView Kept) (ledger : LedgerView) (sets : SetsView) (requests : RequestTablesView)
+module _ (old : WorldView) (task port : ℕ) (space : SpaceView) {profile : Profile} (spaces : List (Option SpaceView)) (ports : PortsView Kept) (ledger : LedgerView) (sets : SetsView) (requests : RequestTablesView)
     (i : ℕ) (read : Option SpaceView) (lent after : SpaceView)
-    (there : space_at old task ≡ Some space) (view : tables spaces ports ledger sets requests ≡ old) (index : i ≡ task) (is : read ≡ get_or spaces i read) (some : read ≡ Some lent) where
+    (there : space_at old task ≡ Some space) (view : tables profile spaces ports ledger sets requests ≡ old) (index : i ≡ task) (is : read ≡ get_or spaces i read) (some : read ≡ Some lent) where
   names_read : space ≡ read_space (live_in ports) lent
   names_read = lent_read old task space spaces ports ledger sets requests i read lent there view index is some
 
@@ -270,7 +317,7 @@ module _ (old : WorldView) (task port : ℕ) (space : SpaceView) (spaces : List 
 
     pub added : (o : Option PortName) → IfSome o (λ n. map.get lent.names n.name ≡ Some n.entry) → IfSome o (λ n. port_named n.entry ≡ Some port) →
         IfSome o (λ n. after ≡ record lent { names = map.insert lent.names n.name (with_send n.entry) }) →
-        IfSome o (λ n. AddsSend old task port n.name n.entry (tables (slice_set spaces i (Some after)) ports ledger sets requests))
+        IfSome o (λ n. AddsSend old task port n.name n.entry (tables profile (slice_set spaces i (Some after)) ports ledger sets requests))
     added None found named new = tt
     added (Some n) found named new = record {
       space = space;
@@ -326,5 +373,5 @@ puts-new w w1 task kind port word r unused puts =
       room = r.space.room - 1;
       ledger = w.ledger;
       given = inr (record { unused = free.unused; lone = free.lone; rest = refl }, refl, refl);
-      rest = rest-taken w w1 task kind port word r.space r.there puts;
+      rest = rest-alone w w1 task kind port word r.space r.there puts;
     }

@@ -1,3 +1,4 @@
+pub mod Counted
 pub mod Given
 pub mod Rights
 pub mod PortsGiven

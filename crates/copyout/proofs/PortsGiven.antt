@@ -180,8 +180,8 @@ after_same w mid task kind one space there e = subst (λ (x : WorldView). After 
 
 after_port : (w mid : WorldView) (task : ℕ) (kind : Kind) (port word : ℕ) → GivesPort w task kind port word mid → After w mid task kind (mark.Port port)
 after_port w mid task kind port word g = subst (λ (x : WorldView). After w x task kind (mark.Port port)) (sym g.rest) (record {
-  space = record g.space { names = g.after; room = g.room };
-  there = space-set_same w.spaces task (record g.space { names = g.after; room = g.room }) g.space g.there;
+  space = record g.space { names = g.after; room = g.room; given = g.counts };
+  there = space-set_same w.spaces task (record g.space { names = g.after; room = g.room; given = g.counts }) g.space g.there;
   live = given_live task port w.ports kind;
   entered = λ p h. elim g.given [
     | inl j ↦ subst (λ (m : LedgerView). IsEntered m p) (sym j.1) (entered-joined kind port j.0.entry w.ledger p h)

@@ -6,7 +6,8 @@ use Rattle.std.specs.FinMap as map
 use Rattle.mach_types.specs.Numbers.{kind_sent, dead_word, most_bytes, most_names}
 use Rattle.mach_types.specs.Tokens.{Kind, receive, send, send_once, Place, in_message, Token, count, is_of}
 use Rattle.mach_types.specs.Bodies.{OneFails}
-use Rattle.mach_model.specs.State.{State, Target, lookup, IsFresh}
+use Rattle.mach_model.specs.State.{State, Target, lookup}
+use Rattle.mach_model.specs.State as machine
 use Rattle.mach_model.specs.Carried.{mark_count, lying}
 use Rattle.mach_model.specs.CopyOut.{Named, NamedOnce, NamedFor, GiveRight, GiveMark}
 use Rattle.mach_model.specs.Room.{MarkLacks as MachineLacks, NeedsName, HasNoRoom}
@@ -18,7 +19,7 @@ use Rattle.rights.specs.Counts.{with_fewer}
 use Rattle.rights.specs.Ledger.{LedgerView, IsEntered, counts_of, taken}
 use Rattle.name_space.specs.declared.Entry.{Entry}
 use Rattle.name_space.specs.Entry.{port_named}
-use Rattle.name_space.specs.Names.{SpaceView, IsFreshName, port_at as port_under, Names}
+use Rattle.name_space.specs.Names.{SpaceView, IsFreshFor, given_after, port_at as port_under, Names}
 use Rattle.name_space.proofs.Keys.{put_here, put_other, equal_or_not}
 use Rattle.copyin_base.specs.declared.message.Carried.{Carried}
 use Rattle.copyin_base.specs.declared.message.Mark.{Mark}
@@ -38,7 +39,7 @@ use Rattle.copyin_base.proofs.Gets.{same_found, same_head}
 use Rattle.copyin_base.proofs.Idle.{none_lost_by}
 use Rattle.copyin_base.proofs.Spaces.{space-set_same, space-set_other}
 use Rattle.copyin_base.proofs.Told.{space_there}
-use Rattle.copyin_base.proofs.ProfileOne.{is_fresh}
+use Rattle.copyin_base.proofs.FreshNames.{is_fresh, fresh_unused}
 use Rattle.copyout.specs.Giving.{joined, alone, ledger_joined, ports_given, GivesPort, GivesMark, free_names, NoneLeft, NeedsOwn, MarkLacks, LackNames, free_room, GivesAll}
 use Rattle.copyout.proofs.Given.{port_given, option_named, same_there}
 use Rattle.copyout.proofs.GivenAll.{AreLying, mark_given, own_mark, later}
@@ -119,12 +120,8 @@ module _ (w : WorldView) (s : State) (a : Agrees w s) (task : ℕ) (space : Spac
   no_name_too : (p : ℕ) → ((n : ℕ) → lookup s task n ≢ Some (Target.port p)) → (n : ℕ) → port_under space.names n ≢ Some p
   no_name_too p none n is = none n (lookup_is n ∙ named_option (map.get space.names n) p is)
 
-  fresh_too : (word : ℕ) → IsFresh (s.naming task) word → IsFreshName space.names word
-  fresh_too word f = record {
-    unused = none_mapped (map.get space.names word) (sym (lookup_is word) ∙ f.unused);
-    not_null = f.not_null;
-    least = λ n above below. sym (ap (λ (o : Option Target). is_some o) (lookup_is n) ∙ same_there (map.get space.names n)) ∙ f.least n above below;
-  }
+  fresh_too : (word : ℕ) → machine.IsFreshFor s task word → IsFreshFor space word
+  fresh_too word = is_fresh w s a task space there word
 
   len_is : map.len space.names ≡ map.len (s.naming task)
   len_is = a.names_kept task space there
@@ -145,28 +142,32 @@ module _ (w : WorldView) (s : State) (a : Agrees w s) (task : ℕ) (space : Spac
           there = there;
           after = map.insert space.names word (joined kind x.entry);
           room = space.room;
+          counts = space.given;
           ledger = ledger_joined kind p x.entry w.ledger;
-          given = inl (record { not_once = not; entry = x.entry; found = x.found; named = x.named; rest = refl }, refl, refl);
+          given = inl (record { not_once = not; entry = x.entry; found = x.found; named = x.named; rest = refl }, refl, refl, refl);
           rest = refl;
         },
       )
 
   gives_alone : (kind : Kind) (p word : ℕ) (x : Target) (named : State) → (kind ≢ send_once → (n : ℕ) → lookup s task n ≢ Some (Target.port p)) → Named task word x s named → Gives kind p word
   gives_alone kind p word x named none n = (
-    record (with_space w task (record space { names = map.insert space.names word (alone kind p); room = space.room - 1 })) { ports = ports_given kind task p w.ports },
+    record (with_space w task (record space { names = map.insert space.names word (alone kind p); room = space.room - 1; given = given_after space.given word })) { ports = ports_given kind task p w.ports },
     record {
       space = space;
       there = there;
       after = map.insert space.names word (alone kind p);
       room = space.room - 1;
+      counts = given_after space.given word;
       ledger = w.ledger;
       given = inr (
         record {
-          fresh = fresh_too word (is_fresh s a.is_first task word n.fresh);
+          fresh = fresh_too word n.fresh;
+          unused = fresh_unused space.given space word (fresh_too word n.fresh);
           room = let b = n.room in let e = len_is in omega (arith, b, e);
           lone = λ not. no_name_too p (none not);
           rest = refl;
         },
+        refl,
         refl,
         refl,
       );

@@ -4,10 +4,11 @@ use Rattle.std.specs.FinMap as map
 use Rattle.mach_types.specs.Numbers.{kind_sent, null_word, dead_word, most_names, most_references}
 use Rattle.mach_types.specs.Tokens.{Kind, receive, send, send_once}
 use Rattle.mach_types.specs.Bodies.{Through, OneFails}
+use Rattle.tagged_names.specs.Names.{Given}
 use Rattle.name_space.specs.declared.Entry.{Entry}
 use Rattle.name_space.specs.declared.Entry.TheVariants as entry
 use Rattle.name_space.specs.Entry.{port_named, send_references, with_send}
-use Rattle.name_space.specs.Names.{Names, SpaceView, IsFreshName, port_at}
+use Rattle.name_space.specs.Names.{Names, SpaceView, IsFreshFor, given_after, port_at}
 use Rattle.port.specs.declared.Holder.TheVariants as Holder
 use Rattle.port.specs.Ports.{PortView, PortsView, with_port}
 use Rattle.rights.specs.Ledger.{LedgerView, taken}
@@ -41,11 +42,12 @@ pub record JoinsName (names : Names) (kind : Kind) (port word : ℕ) (after : Na
   pub rest : after ≡ map.insert names word (joined kind entry)
 
 -- A right comes under a fresh name: a send-once right always, another where the task has no name for the port.
-pub record TakesName (names : Names) (kind : Kind) (port word : ℕ) (after : Names) : Type 0 where
-  pub fresh : IsFreshName names word
-  pub room : map.len names < most_names
-  pub lone : kind ≢ send_once → (name : ℕ) → port_at names name ≢ Some port
-  pub rest : after ≡ map.insert names word (alone kind port)
+pub record TakesName (space : SpaceView) (kind : Kind) (port word : ℕ) (after : Names) : Type 0 where
+  pub fresh : IsFreshFor space word
+  pub unused : map.get space.names word ≡ None
+  pub room : map.len space.names < most_names
+  pub lone : kind ≢ send_once → (name : ℕ) → port_at space.names name ≢ Some port
+  pub rest : after ≡ map.insert space.names word (alone kind port)
 
 -- a send right that comes to as many references as there may be goes
 abbrev pub ledger_joined : Kind → (port : ℕ) → Entry → LedgerView → LedgerView
@@ -70,16 +72,17 @@ pub record AddsSend (old : WorldView) (task port name : ℕ) (entry : Entry) (ne
   pub named : port_named entry ≡ Some port
   pub rest : new ≡ with_space old task (record space { names = map.insert space.names name (with_send entry) })
 
--- The right for a port that is there comes to the task under this name.
+-- The right for a port that is there comes to the task under this name; a fresh one is counted.
 pub record GivesPort (old : WorldView) (task : ℕ) (kind : Kind) (port word : ℕ) (new : WorldView) : Type 0 where
   pub space : SpaceView
   pub there : space_at old task ≡ Some space
   pub after : Names
   pub room : ℕ
+  pub counts : Option Given
   pub ledger : LedgerView
-  pub given : ((j : JoinsName space.names kind port word after) × (ledger ≡ ledger_joined kind port j.entry old.ledger) × (room ≡ space.room))
-      ⊎ (TakesName space.names kind port word after × (ledger ≡ old.ledger) × (room ≡ space.room - 1))
-  pub rest : new ≡ record (with_space old task (record space { names = after; room = room })) { ports = ports_given kind task port old.ports; ledger = ledger }
+  pub given : ((j : JoinsName space.names kind port word after) × (ledger ≡ ledger_joined kind port j.entry old.ledger) × (room ≡ space.room) × (counts ≡ space.given))
+      ⊎ (TakesName space kind port word after × (ledger ≡ old.ledger) × (room ≡ space.room - 1) × (counts ≡ given_after space.given word))
+  pub rest : new ≡ record (with_space old task (record space { names = after; room = room; given = counts })) { ports = ports_given kind task port old.ports; ledger = ledger }
 
 -- A right whose port isn't there any more is dead.
 abbrev pub GivesMark : WorldView → (task : ℕ) → Kind → Mark → (word : ℕ) → WorldView → Type 0

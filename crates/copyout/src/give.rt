@@ -5,7 +5,7 @@ ghost use Rattle.mach_types.specs.Numbers.{kind_sent, most_names, most_reference
 ghost use Rattle.mach_types.specs.Tokens.{receive, send, send_once};
 ghost use Rattle.name_space.specs.declared.Entry.{Entry as AnyEntry};
 ghost use Rattle.name_space.specs.Entry.{port_named, send_references};
-ghost use Rattle.name_space.specs.Names.{SpaceView, port_at, IsFreshName, IsUsable, HasNoOther};
+ghost use Rattle.name_space.specs.Names.{SpaceView, port_at, IsUsable, HasNoOther};
 ghost use Rattle.port.specs.Ports.{IsLive};
 ghost use Rattle.rights.specs.declared.RightKind.TheVariants as right;
 ghost use Rattle.rights.specs.Ledger.{IsEntered, counts_of, taken};
@@ -151,12 +151,13 @@ pub(crate) fn put_alone(
     world.insert_entry(task, name, alone(given, port));
 }
 
-/// The right comes under a fresh name.
+/// The right comes under a fresh name, which is counted.
 pub(crate) fn take_name(world: &mut World, task: TaskId, given: Disposition, port: PortId) -> Name
     requires { CanTakeName world.old task (kind_sent given) port }
     ensures { GivesPort world.old task (kind_sent given) port result world.new }
 {
     let name = world.space(task).fresh();
+    world.count_name(task, name);
     put_alone(world, task, given, port, name);
     name
 }

@@ -193,7 +193,7 @@ module _ (now : ℕ) (mid : State) (e : Ending) (port : ℕ) (s : State) (f : Is
 
   pub buried_agrees : AgreesOf (lives_after mid e) after next
   buried_agrees = record {
-    spaces = spaces_left live w.spaces s.live_task s.tasks_made s.naming s.profile (λ task q. held s task send q) a.spaces as_read;
+    spaces = spaces_left live w.spaces s.live_task s.tasks_made s.naming w.profile s.profile s.given (λ task q. held s task send q) a.spaces as_read;
     rights = rights_left live w.spaces s.ledger next.ledger a.rights (λ task kind p lives. count_else port (is_held task kind p)
         (λ x is. ap (λ (b : Bool). b && is_in_task task x.place) (of_other kind p port (live_other p lives) x is)) s.ledger);
     live_port = live_is;

@@ -8,6 +8,7 @@ use Rattle.std.specs.Option.{option_map}
 use Rattle.std.proofs.lemmas.Bool.{eq-eqb, lt-ltb, ltb-true}
 use Rattle.std.specs.FinMap.{len-insert}
 use Rattle.std.specs.Cmp.{nat_cmp_total}
+use Rattle.mach_types.specs.declared.profiles.Profile.{Profile}
 use Rattle.mach_types.specs.Numbers.{most_references}
 use Rattle.mach_types.specs.Tokens.{send, Request, Token, no_senders, port_destroyed, dead_name}
 use Rattle.mach_model.proofs.Names.{removed_own, alike, at_own, at_other, get_own, get_other}
@@ -89,14 +90,14 @@ senders_absent w p none = ap (λ m. record w { requests = record w.requests { no
 pub saving_absent : (w : WorldView) (p : ℕ) → map.get w.requests.port_destroyed.map p ≡ None → saving_less w p ≡ w
 saving_absent w p none = ap (λ m. record w { requests = record w.requests { port_destroyed = record w.requests.port_destroyed { map = m } } }) (absent_stays w.requests.port_destroyed.map p none)
 
-module _ (old : WorldView) (spaces : List (Option SpaceView)) (ports : PortsView Kept) (ledger : LedgerView) (sets : SetsView) (names : RequestsView) (senders saving : MapView ℕ)
-    (view : tables spaces ports ledger sets (record { names = names; no_senders = senders; port_destroyed = saving }) ≡ old) (k p : ℕ) (key : k ≡ p) (new : MapView ℕ) where
-  pub senders_taken : new ≡ record senders { map = map.remove senders.map k } → tables spaces ports ledger sets (record { names = names; no_senders = new; port_destroyed = saving }) ≡ no_senders_less old p
-  senders_taken is = ap (λ (x : MapView ℕ). tables spaces ports ledger sets (record { names = names; no_senders = x; port_destroyed = saving })) is
+module _ (old : WorldView) {profile : Profile} (spaces : List (Option SpaceView)) (ports : PortsView Kept) (ledger : LedgerView) (sets : SetsView) (names : RequestsView) (senders saving : MapView ℕ)
+    (view : tables profile spaces ports ledger sets (record { names = names; no_senders = senders; port_destroyed = saving }) ≡ old) (k p : ℕ) (key : k ≡ p) (new : MapView ℕ) where
+  pub senders_taken : new ≡ record senders { map = map.remove senders.map k } → tables profile spaces ports ledger sets (record { names = names; no_senders = new; port_destroyed = saving }) ≡ no_senders_less old p
+  senders_taken is = ap (λ (x : MapView ℕ). tables profile spaces ports ledger sets (record { names = names; no_senders = x; port_destroyed = saving })) is
       ∙ ap (λ (w : WorldView). no_senders_less w k) view ∙ ap (no_senders_less old) key
 
-  pub saving_taken : new ≡ record saving { map = map.remove saving.map k } → tables spaces ports ledger sets (record { names = names; no_senders = senders; port_destroyed = new }) ≡ saving_less old p
-  saving_taken is = ap (λ (x : MapView ℕ). tables spaces ports ledger sets (record { names = names; no_senders = senders; port_destroyed = x })) is
+  pub saving_taken : new ≡ record saving { map = map.remove saving.map k } → tables profile spaces ports ledger sets (record { names = names; no_senders = senders; port_destroyed = new }) ≡ saving_less old p
+  saving_taken is = ap (λ (x : MapView ℕ). tables profile spaces ports ledger sets (record { names = names; no_senders = senders; port_destroyed = x })) is
       ∙ ap (λ (w : WorldView). saving_less w k) view ∙ ap (saving_less old) key
 
   pub senders_found : (o : Option ℕ) → o ≡ map.get senders.map k → o ≡ map.get old.requests.no_senders.map p
@@ -314,8 +315,8 @@ module _ (now : ℕ) (tables : WorldView) (old mid : State) (owed : Owed) (e : E
 -- ---- What ending a request on a name of a doomed port asks of the tables, and what it promises.
 
 -- the request was taken out of the tables
-module _ (old : WorldView) (spaces : List (Option SpaceView)) (ports : PortsView Kept) (ledger : LedgerView) (sets : SetsView) (names : RequestsView) (senders saving : MapView ℕ)
-    (view : tables spaces ports ledger sets (record { names = names; no_senders = senders; port_destroyed = saving }) ≡ old) (q : NameRequest) (is_kept : map.get old.requests.names.requests (key_of q) ≡ Some q) (new : RequestsView)
+module _ (old : WorldView) {profile : Profile} (spaces : List (Option SpaceView)) (ports : PortsView Kept) (ledger : LedgerView) (sets : SetsView) (names : RequestsView) (senders saving : MapView ℕ)
+    (view : tables profile spaces ports ledger sets (record { names = names; no_senders = senders; port_destroyed = saving }) ≡ old) (q : NameRequest) (is_kept : map.get old.requests.names.requests (key_of q) ≡ Some q) (new : RequestsView)
     (o : Option NameRequest) (kept : o ≡ map.get names.requests (key_of q)) (some : IfSome o (λ r. new ≡ taken_out names r)) where
   found_named : o ≡ Some q
   found_named = kept ∙ ap (λ (w : WorldView). map.get w.requests.names.requests (key_of q)) view ∙ is_kept
@@ -323,8 +324,8 @@ module _ (old : WorldView) (spaces : List (Option SpaceView)) (ports : PortsView
   is : new ≡ taken_out names q
   is = subst (λ (x : Option NameRequest). IfSome x (λ r. new ≡ taken_out names r)) found_named some
 
-  pub name_taken : tables spaces ports ledger sets (record { names = new; no_senders = senders; port_destroyed = saving }) ≡ name_less old q
-  name_taken = ap (λ (x : RequestsView). tables spaces ports ledger sets (record { names = x; no_senders = senders; port_destroyed = saving })) is ∙ ap (λ (w : WorldView). name_less w q) view
+  pub name_taken : tables profile spaces ports ledger sets (record { names = new; no_senders = senders; port_destroyed = saving }) ≡ name_less old q
+  name_taken = ap (λ (x : RequestsView). tables profile spaces ports ledger sets (record { names = x; no_senders = senders; port_destroyed = saving })) is ∙ ap (λ (w : WorldView). name_less w q) view
 
 -- a map that has a key has more
 some_fewer : (m : map.FinMap nat_cmp NameRequest) (k : ℕ) (v : NameRequest) → map.get m k ≡ Some v → map.len (map.remove m k) < map.len m
@@ -624,7 +625,7 @@ spaces_twice live live2 fewer (x ∷ xs) = let h = one x in let t = spaces_twice
     one None = refl
     one (Some y) = ap (λ m. Some (record y { names = m })) (alike _ _ (λ n. get_read live2 (read_names live y.names) n ∙ ap (option_map (reading live2)) (get_read live y.names n) ∙ each (map.get y.names n) ∙ sym (get_read live2 y.names n)))
 
-module _ (old : WorldView) (spaces : List (Option SpaceView)) (ports : PortsView Kept) (ledger : LedgerView) (sets : SetsView) (requests : RequestTablesView) (view : tables spaces ports ledger sets requests ≡ old)
+module _ (old : WorldView) {profile : Profile} (spaces : List (Option SpaceView)) (ports : PortsView Kept) (ledger : LedgerView) (sets : SetsView) (requests : RequestTablesView) (view : tables profile spaces ports ledger sets requests ≡ old)
     (port : ℕ) (new : PortsView Kept) (doomed : List ℕ) (is : new ≡ without_port ports port doomed) where
   fewer : (p : ℕ) → live_in new p ≡ true → live_in ports p ≡ true
   fewer p h = grind (arith, removed_own, get_removed)
@@ -635,13 +636,13 @@ module _ (old : WorldView) (spaces : List (Option SpaceView)) (ports : PortsView
     there = λ p lives. let h = g.there p (fewer p lives) in let m : new.made ≡ ports.made = ap (λ (x : PortsView Kept). x.made) is in omega (arith, h, m);
   }
 
-  pub port_left : (counts : LedgerView) → counts ≡ left ledger port → tables spaces new counts sets requests ≡ buried old port doomed
+  pub port_left : (counts : LedgerView) → counts ≡ left ledger port → tables profile spaces new counts sets requests ≡ buried old port doomed
   port_left counts e =
-      (λ i. record { spaces = sym (spaces_twice (live_in ports) (live_in new) fewer spaces) i; ports = new; ledger = e i; sets = sets; requests = requests })
-      ∙ (λ i. record { spaces = read_spaces (live_in (is i)) (read_spaces (live_in ports) spaces); ports = is i; ledger = left ledger port; sets = sets; requests = requests })
+      (λ i. record { spaces = sym (spaces_twice (live_in ports) (live_in new) fewer spaces) i; ports = new; ledger = e i; sets = sets; requests = requests; profile = profile })
+      ∙ (λ i. record { spaces = read_spaces (live_in (is i)) (read_spaces (live_in ports) spaces); ports = is i; ledger = left ledger port; sets = sets; requests = requests; profile = profile })
       ∙ ap (λ (w : WorldView). buried w port doomed) view
 
 -- the ports that are left, where none was lost or noted
-pub left_ports : (w : WorldView) (spaces : List (Option SpaceView)) (ports : PortsView Kept) (ledger : LedgerView) (sets : SetsView) (requests : RequestTablesView) → tables spaces ports ledger sets requests ≡ w → (port : ℕ) → IsNextToBury port w →
+pub left_ports : (w : WorldView) {profile : Profile} (spaces : List (Option SpaceView)) (ports : PortsView Kept) (ledger : LedgerView) (sets : SetsView) (requests : RequestTablesView) → tables profile spaces ports ledger sets requests ≡ w → (port : ℕ) → IsNextToBury port w →
     (new : PortsView Kept) → new ≡ record ports { ports = map.remove ports.ports port; lost = without port ports.lost; doomed = without port ports.doomed; noted = without port ports.noted } → new ≡ without_port ports port (without port ports.doomed)
-left_ports w spaces ports ledger sets requests view port i new is = grind arith
+left_ports w {profile} spaces ports ledger sets requests view port i new is = grind arith

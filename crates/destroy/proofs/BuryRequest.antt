@@ -152,9 +152,9 @@ module _ (lives : ℕ → Bool) (w : WorldView) (s : State) (a : AgreesOf lives 
 
   pub name_died_agrees : AgreesOf lives with_dead state_dead
   name_died_agrees = record {
-    spaces = spaces_agree w.spaces task space dead_space there s.live_task s.tasks_made s.naming state_dead.naming a.spaces
+    spaces = spaces_agree w.spaces task space dead_space there s.live_task s.tasks_made s.naming state_dead.naming s.given s.given a.spaces
         (subst (NamesAgree dead_space.names) (sym (at_own s.naming task (map.insert (s.naming task) name (Target.dead references)))) (put_names space.names (s.naming task) own_names name (Some (DeadName references)) (λ y is. dead_count y is)))
-        (λ u other. at_other s.naming task (map.insert (s.naming task) name (Target.dead references)) u other);
+        (a.spaces.counts_given task space there) (λ u other. at_other s.naming task (map.insert (s.naming task) name (Target.dead references)) u other) (λ u other. refl);
     rights = references_agree w.spaces task space dead_space there s.ledger s.ledger a.rights
         (put_rights space.names task s.ledger own_rights name (Some (DeadName references)) (λ y p is named. absurd (unnamed y p is named))) (λ u other kind q. refl);
     live_port = a.live_port;

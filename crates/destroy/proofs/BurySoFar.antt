@@ -27,7 +27,7 @@ use Rattle.name_space.specs.Entry.{port_of, port_named, has_receive, send_refere
 use Rattle.name_space.specs.Names.{SpaceView}
 use Rattle.port_set.specs.Sets.{SetsView}
 use Rattle.copyin_base.specs.Reading.{reading, read_space, read_spaces}
-use Rattle.copyin_base.specs.Shows.{target_of, HasCount, SpacesAgree, ReferencesAgree, SetsAgree}
+use Rattle.copyin_base.specs.Shows.{target_of, HasCount, GivenAgrees, SpacesAgree, ReferencesAgree, SetsAgree}
 use Rattle.copyin_base.specs.Worlds.{space_in, entry_in}
 use Rattle.copyin_base.proofs.Reading.{read_lives, reads_as, named_port, len_read, space_read_in, entry_read_in, length_read, kept_there}
 use Rattle.notifications.proofs.NoticePosted.{filter_weigh}
@@ -149,7 +149,7 @@ module _ (live : ℕ → Bool) (spaces : List (Option SpaceView)) where
   some_same f (Some x) = refl
   some_same f None = refl
 
-  module _ (live_task : ℕ → Bool) (number : ℕ) (names : ℕ → Names) (profile : Profile) (references : ℕ → ℕ → ℕ) (a : SpacesAgree spaces live_task number names profile)
+  module _ (live_task : ℕ → Bool) (number : ℕ) (names : ℕ → Names) (own profile : Profile) (given : ℕ → ℕ → ℕ) (references : ℕ → ℕ → ℕ) (a : SpacesAgree own spaces live_task number names profile given)
       (as_read : (task n : ℕ) (e : Entry) → entry_in (space_in spaces task) n ≡ Some e → left_target live (references task) (target_of e) ≡ target_of (reading live e)) where
     naming : (task n : ℕ) → map.get (mapped (left_target live (references task)) (names task)) n ≡ option_map target_of (entry_in (space_in (read_spaces live spaces) task) n)
     naming task n =
@@ -162,7 +162,7 @@ module _ (live : ℕ → Bool) (spaces : List (Option SpaceView)) where
         go None at = refl
         go (Some e) at = ap Some (as_read task n e at)
 
-    pub spaces_left : SpacesAgree (read_spaces live spaces) live_task number (λ task. mapped (left_target live (references task)) (names task)) profile
+    pub spaces_left : SpacesAgree own (read_spaces live spaces) live_task number (λ task. mapped (left_target live (references task)) (names task)) profile given
     spaces_left = record {
       live_task = λ task. ap is_some (space_read_in live spaces task) ∙ some_same (read_space live) (space_in spaces task) ∙ a.live_task task;
       tasks_made = length_read live spaces ∙ a.tasks_made;
@@ -171,7 +171,11 @@ module _ (live : ℕ → Bool) (spaces : List (Option SpaceView)) where
           let k = kept_there live spaces task space is in
           ap (λ (x : SpaceView). map.len x.names) k.2 ∙ len_read live k.0.names ∙ a.names_kept task k.0 k.1 ∙ sym (mapped_len (left_target live (references task)) (names task));
       counted = λ task n e is. let k = read_from task n e is in subst HasCount (sym k.2) (counted_read live k.0 (a.counted task n k.0 k.1));
-      is_first = a.is_first;
+      profiles = a.profiles;
+      counts_given = λ task space is.
+          let k = kept_there live spaces task space is in
+          subst (λ (x : SpaceView). GivenAgrees profile x.given (given task)) (sym k.2) (a.counts_given task k.0 k.1);
+      none_given = a.none_given;
     }
 
   -- the tasks' rights for ports that are there are as many as before

@@ -299,7 +299,7 @@ module _ (now : ℕ) (old mid : State) (owed : Owed) (e : Ending) (l : MidLawful
 
     pub end_agrees : Agrees w new
     end_agrees = record {
-      spaces = subst (λ (n : ℕ → Names). SpacesAgree w.spaces mid.live_task mid.tasks_made n mid.profile) naming_same (subst (λ (x : State). SpacesAgree w.spaces x.live_task x.tasks_made s.naming x.profile) f.rest a.spaces);
+      spaces = subst (λ (n : ℕ → Names). SpacesAgree w.profile w.spaces mid.live_task mid.tasks_made n mid.profile mid.given) naming_same (subst (λ (x : State). SpacesAgree w.profile w.spaces x.live_task x.tasks_made s.naming x.profile x.given) f.rest a.spaces);
       rights = record {
         references = λ task name x p is named. let b = a.rights.references task name x p is named in (
           sym (weights (λ y. if is_held task Kind.receive p y then 1 else 0)) ∙ b.0,

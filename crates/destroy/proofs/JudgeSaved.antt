@@ -6,6 +6,7 @@ use Rattle.std.specs.FinMap as map
 use Rattle.std.proofs.lemmas.Bool.Decides.{eqb_tells}
 use Rattle.std.proofs.lemmas.List.{length-append, length-map, append-nil, append_assoc}
 use Rattle.std.proofs.lemmas.List.Elements.{All-head, All-tail}
+use Rattle.mach_types.specs.declared.profiles.Profile.{Profile}
 use Rattle.mach_types.specs.Tokens.{Kind, receive, send_once, port_destroyed, in_task, in_message, in_request, Token, token, count, is_of, weigh, same_kind, Request, no_senders, dead_name, Place, is_held, is_in_task}
 use Rattle.mach_types.specs.Numbers.{most_rights}
 use Rattle.mach_types.specs.Messages.{Entry}
@@ -57,8 +58,8 @@ none_told : (n : ℕ) (b : Bool) → (IsTrue b ↔ (0 < n)) → b ≡ false → 
 none_told zero b told not = refl
 none_told (suc n) b told not = absurd (both_ways b not (told.1 (omega arith)))
 
-module _ (old : WorldView) (spaces : List (Option SpaceView)) (ports : PortsView Kept) (ledger : LedgerView) (sets : SetsView) (requests : RequestTablesView)
-    (view : tables spaces ports ledger sets requests ≡ old) (p : ℕ) (v v2 : PortView Kept) (new : PortsView Kept) (there : map.get old.ports.ports p ≡ Some v)
+module _ (old : WorldView) {profile : Profile} (spaces : List (Option SpaceView)) (ports : PortsView Kept) (ledger : LedgerView) (sets : SetsView) (requests : RequestTablesView)
+    (view : tables profile spaces ports ledger sets requests ≡ old) (p : ℕ) (v v2 : PortView Kept) (new : PortsView Kept) (there : map.get old.ports.ports p ≡ Some v)
     (lost doomed : List ℕ) (is : map.get ports.ports p ≡ Some v → new ≡ with_waiting ports p v2 lost doomed) where
   pub here : map.get ports.ports p ≡ Some v
   here = ap (λ (w : WorldView). map.get w.ports.ports p) view ∙ there
@@ -69,11 +70,11 @@ module _ (old : WorldView) (spaces : List (Option SpaceView)) (ports : PortsView
   pub waiting_given : AreGiven spaces ports → AreGiven spaces new
   waiting_given = same_given spaces ports new same
 
-  pub waiting_written : tables spaces new ledger sets requests ≡ record old { ports = with_waiting old.ports p v2 lost doomed }
+  pub waiting_written : tables profile spaces new ledger sets requests ≡ record old { ports = with_waiting old.ports p v2 lost doomed }
   waiting_written = ports_written old spaces ports ledger sets requests view new same ∙ ap (λ (x : PortsView Kept). record old { ports = x }) (is here ∙ ap (λ (w : WorldView). with_waiting w.ports p v2 lost doomed) view)
 
   -- ... whichever they are
-  pub waiting_somewhere : tables spaces new ledger sets requests ≡ record old { ports = with_waiting old.ports p v2 new.lost new.doomed }
+  pub waiting_somewhere : tables profile spaces new ledger sets requests ≡ record old { ports = with_waiting old.ports p v2 new.lost new.doomed }
   waiting_somewhere = waiting_written ∙ (λ i. record old { ports = with_waiting old.ports p v2 (sym (ap (λ (x : PortsView Kept). x.lost) (is here)) i) (sym (ap (λ (x : PortsView Kept). x.doomed) (is here)) i) })
 
   -- it has no messages, where it is told that the given port has none
@@ -83,8 +84,8 @@ module _ (old : WorldView) (spaces : List (Option SpaceView)) (ports : PortsView
       ap (λ (x : PortView Kept). length x.queue) (sym given) ∙ none_told (length v2.queue) b (told here) not
 
 -- The front message of a port was destroyed.
-module _ (old : WorldView) (spaces : List (Option SpaceView)) (ports : PortsView Kept) (ledger : LedgerView) (sets : SetsView) (requests : RequestTablesView)
-    (view : tables spaces ports ledger sets requests ≡ old) (p : ℕ) (new : PortsView Kept) where
+module _ (old : WorldView) {profile : Profile} (spaces : List (Option SpaceView)) (ports : PortsView Kept) (ledger : LedgerView) (sets : SetsView) (requests : RequestTablesView)
+    (view : tables profile spaces ports ledger sets requests ≡ old) (p : ℕ) (new : PortsView Kept) where
   now : ports ≡ old.ports
   now = ap (λ (w : WorldView). w.ports) view
 
@@ -96,9 +97,9 @@ module _ (old : WorldView) (spaces : List (Option SpaceView)) (ports : PortsView
   next_given false d g = subst (AreGiven spaces) (sym d.1) g
 
   pub next_destroyed : (b : Bool) → MatchBool b (DestroysFirst ports p new) (NoneQueued ports p × (new ≡ ports)) →
-      MatchBool b (DestroysNext old p (tables spaces new ledger sets requests)) (NoneQueued old.ports p × (tables spaces new ledger sets requests ≡ old))
+      MatchBool b (DestroysNext old p (tables profile spaces new ledger sets requests)) (NoneQueued old.ports p × (tables profile spaces new ledger sets requests ≡ old))
   next_destroyed true d = record { first = subst (λ (x : PortsView Kept). DestroysFirst x p new) now d; rest = ports_written old spaces ports ledger sets requests view new (first_same d) }
-  next_destroyed false d = (subst (λ (x : PortsView Kept). NoneQueued x p) now d.0, ap (λ (x : PortsView Kept). tables spaces x ledger sets requests) d.1 ∙ view)
+  next_destroyed false d = (subst (λ (x : PortsView Kept). NoneQueued x p) now d.0, ap (λ (x : PortsView Kept). tables profile spaces x ledger sets requests) d.1 ∙ view)
 
 -- ---- A port that nobody holds, and whose request names a port that a task has, is to be sent away: that is a turn.
 

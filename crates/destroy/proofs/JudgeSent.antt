@@ -487,6 +487,7 @@ module _ (w : WorldView) (p n : ℕ) (c : CanSend w p n) (w1 : WorldView) (posts
   -- The tables are those of before, but for these.
   pub after_is : w5 ≡ after c.at.now c.at.tables c.at.old c.at.mid c.at.owed c.at.ending w c.at.between p n c.lost c.goes w5.ports.ports w5.ports.ready w5.ports.lost w5.ports.doomed own_after told_after others_after
   after_is = λ i. record {
+    profile = (same_field (λ x. x.profile) refl (ap (λ (x : WorldView). x.profile) holds.rest) (ap (λ (x : WorldView). x.profile) resets.rest) (ap (λ (x : WorldView). x.profile) ends.rest) ∙ ap (λ (x : WorldView). x.profile) posts.rest) i;
     spaces = (same_field (λ x. x.spaces) refl (ap (λ (x : WorldView). x.spaces) holds.rest) (ap (λ (x : WorldView). x.spaces) resets.rest) (ap (λ (x : WorldView). x.spaces) ends.rest) ∙ ap (λ (x : WorldView). x.spaces) posts.rest) i;
     ports = record {
       ports = w5.ports.ports;

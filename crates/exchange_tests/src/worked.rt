@@ -1,7 +1,9 @@
 //! Worked exchanges: scripts whose replies are known, by `perform` and by whole runs.
+ghost use Rattle.mach_run_base.specs.Jobs.{HasKernel};
+
 use kernel_core::run;
 use mach_run_base::{Job, perform};
-use mach_types::{Event, Reply};
+use mach_types::{Event, Profile, Reply};
 use std::alloc::Global;
 use std::fmt::Write;
 use std::sync::Wait;
@@ -395,7 +397,9 @@ fn printed<R: AllocGlobal + Threads + Wait + Sync>(
     rt: &R,
     job: Job,
     mut text: &[u8],
-) -> Option<Vec<u8>> {
+) -> Option<Vec<u8>>
+    requires { HasKernel job }
+{
     let alloc = rt.alloc();
     let (mut out, mut err) = (Vec::new(alloc), Vec::new(alloc));
     let status = perform(rt, alloc, job, "it", &mut text, &mut out, &mut err);
@@ -408,7 +412,8 @@ fn printed<R: AllocGlobal + Threads + Wait + Sync>(
 
 /// Whether the program prints these replies to the script, and nothing else.
 fn prints<R: AllocGlobal + Threads + Wait + Sync>(rt: &R, script: &str, replies: &str) -> bool {
-    match printed(rt, Job::Run, script.as_bytes()) {
+    let profile = Profile::One;
+    match printed(rt, Job::Run { profile }, script.as_bytes()) {
         Some(out) => out.as_slice() == replies.as_bytes(),
         None => false,
     }
@@ -419,7 +424,8 @@ pub(crate) fn is_traced_legally<R: AllocGlobal + Threads + Wait + Sync>(
     rt: &R,
     script: &str,
 ) -> bool {
-    match printed(rt, Job::Trace { warn: false }, script.as_bytes()) {
+    let (profile, warn) = (Profile::One, false);
+    match printed(rt, Job::Trace { profile, warn }, script.as_bytes()) {
         Some(history) => printed(rt, Job::Check, history.as_slice()).is_some(),
         None => false,
     }

@@ -7,14 +7,15 @@ use Rattle.mach_types.specs.declared.codes.KernReturn.{KernReturn}
 use Rattle.mach_types.specs.declared.codes.MsgReturn.{MsgReturn}
 use Rattle.mach_types.specs.declared.codes.KernReturn.TheVariants as kern
 use Rattle.mach_types.specs.declared.codes.MsgReturn.TheVariants as msg
+use Rattle.mach_types.specs.declared.profiles.Profile.{Profile}
 use Rattle.mach_types.specs.Numbers.{kind_sent}
 use Rattle.mach_types.specs.Codes.{kern_number, msg_number}
 use Rattle.mach_types.specs.Guards.{Guards, FirstIs}
 use Rattle.mach_types.specs.Tokens.{Kind, Place, in_task}
 use Rattle.mach_types.specs.Grammar.{Header, WireBody}
 use Rattle.mach_types.specs.TextGuards.{ItemRefuses, item_guards}
-use Rattle.mach_model.specs.State.{State}
-use Rattle.mach_model.specs.Machine.{opening, Step}
+use Rattle.mach_model.specs.State.{State, opening_in}
+use Rattle.mach_model.specs.Machine.{Step}
 use Rattle.mach_model.specs.Send.{place_at}
 use Rattle.mach_model.specs.SendRefusals.{SendRefuses, RightsRefuse, WholeRefuses, sent_guards}
 use Rattle.mach_model.specs.Notices.{Owed}
@@ -232,5 +233,5 @@ answer_fits old event reply new stands answers = let a = answers 0 stands.state 
 pub answer_stands : (old : WorldView) (event : Event) (reply : Reply) (new : WorldView) → Stands old → Answers old event reply new → Stands new
 answer_stands old event reply new stands answers = let a = answers 0 stands.state stands.shown in record { state = a.0; shown = a.2 }
 
-pub opening_stands : (w : WorldView) → Shows w opening → Stands w
-opening_stands w shown = record { state = opening; shown = shown }
+pub opening_stands : (profile : Profile) (w : WorldView) → Shows w (opening_in profile) → Stands w
+opening_stands profile w shown = record { state = opening_in profile; shown = shown }

@@ -1,15 +1,15 @@
 //! A kernel with a call for each call of a task.
-ghost use Rattle.std.specs.Prelude.{◌≡◌, ◌≤◌, ℕ, IfOk, IfErr};
+ghost use Rattle.std.specs.Prelude.{◌≡◌, ◌≢◌, ◌≤◌, ℕ, IfOk, IfErr};
 ghost use Rattle.mach_types.specs.declared.calls.Event.TheVariants as AnyEvent;
 ghost use Rattle.mach_types.specs.declared.calls.Reply.{Reply as OneReply};
 ghost use Rattle.mach_types.specs.declared.calls.Reply.TheVariants as AnyReply;
 ghost use Rattle.mach_types.specs.Numbers.{right_number, most_bytes};
 ghost use Rattle.mach_types.specs.Rights.{disposition_number};
-ghost use Rattle.mach_model.specs.State.{State};
-ghost use Rattle.mach_model.specs.Machine.{opening, Run, Step};
+ghost use Rattle.mach_model.specs.State.{State, opening_in};
+ghost use Rattle.mach_model.specs.Machine.{opening, Run, RunIn, Step};
 ghost use Rattle.mach_laws.specs.Headline.{Headline};
 ghost use Rattle.mach_laws.specs.JudgedPaths.{JudgedPath};
-ghost use Rattle.mach_types.specs.declared.profiles.Profile.TheVariants.{One};
+ghost use Rattle.mach_types.specs.declared.profiles.Profile.TheVariants.{One, Three};
 ghost use Rattle.mach_laws.specs.Queued.{SlotsWithin, unused_onces};
 ghost use Rattle.copyin_base.specs.Shows.{Shows};
 ghost use Rattle.kernel_core.specs.Bounds.{most_told, IsWithin};
@@ -21,8 +21,8 @@ use crate::notification::NotificationRequest;
 use crate::results::{self, ExtractedRight, Receipt, SendError};
 use copyin_base::Code;
 use mach_types::{
-    Bytes, Disposition, Event, KernReturn, Name, NameList, NameTypes, Reply, Right, Status, TaskId,
-    Waited,
+    Bytes, Disposition, Event, KernReturn, Name, NameList, NameTypes, Profile, Reply, Right,
+    Status, TaskId, Waited,
 };
 use message_codec::PortRight;
 use std::alloc::{AllocError, Global};
@@ -55,34 +55,63 @@ impl Model for Kernel {
     ghost invariant = { λ k. Stands k.kernel.tables };
 }
 
-/// Makes these calls on a new kernel, one after another, and gives the kernel that they leave with their
-/// answers in order. They are a run of the machine, to a state that the kernel shows, of which all is true that
-/// `mach_laws`' `Headline` says, and whose stages are judged right. Its spare message slots are as many as its
-/// unused send-once rights at least, and with its queued messages no more than there ever were of both
-/// (`SlotsWithin`).
+/// Makes these calls on a new kernel of the first profile: [`run_with`].
 ///
 /// # Errors
-/// Memory for the list of answers was refused. Where a step is refused memory, that is its answer, and the
-/// run goes on.
+/// As of [`run_with`].
 pub fn run(alloc: Global, events: Vec<Event>) -> Result<(Kernel, Vec<Reply>), AllocError>
     ensures { IfOk result (λ made. (s : State) × Run events.items made.1.items s × Shows made.0.tables s
         × (h : Headline One events.items made.1.items s) × JudgedPath One h.stages s
         × SlotsWithin made.0.tables.ports.spare h.stages s
         × (unused_onces s ≤ made.0.tables.ports.spare)) }
 {
-    let (kernel, replies) = kernel_core::run(alloc, events)?;
+    run_with(alloc, Profile::One, events)
+}
+
+/// Makes these calls on a new kernel of this profile, one after another, and gives the kernel that they leave with
+/// their answers in order. They are a run of the machine by the profile, to a state that the kernel shows, of which
+/// all is true that `mach_laws`' `Headline` says, and whose stages are judged right. Its spare message slots are as
+/// many as its unused send-once rights at least, and with its queued messages no more than there ever were of both
+/// (`SlotsWithin`). The profile is the first or the second.
+///
+/// # Errors
+/// Memory for the list of answers was refused. Where a step is refused memory, that is its answer, and the
+/// run goes on.
+pub fn run_with(
+    alloc: Global,
+    profile: Profile,
+    events: Vec<Event>,
+) -> Result<(Kernel, Vec<Reply>), AllocError>
+    requires one_set { profile ≢ Three }
+    ensures { IfOk result (λ made. (s : State) × RunIn profile events.items made.1.items s × Shows made.0.tables s
+        × (h : Headline profile events.items made.1.items s) × JudgedPath profile h.stages s
+        × SlotsWithin made.0.tables.ports.spare h.stages s
+        × (unused_onces s ≤ made.0.tables.ports.spare)) }
+{
+    let (kernel, replies) = kernel_core::run_with(alloc, profile, events)?;
     Ok((Kernel { kernel }, replies))
 }
 
 impl Kernel {
-    /// A kernel in which nothing was made yet. Takes no memory.
+    /// A kernel of the first profile, in which nothing was made yet. Takes no memory.
     pub fn new(alloc: Global) -> Kernel
         ensures shows { Shows result.tables opening }
         ensures none { result.tables.ports.spare ≡ 0 }
         ensures turns { result.turns ≡ 0 }
     {
+        Kernel::with_profile(alloc, Profile::One)
+    }
+
+    /// A kernel of this profile, the first or the second, in which nothing was made yet. In the second a fresh name
+    /// has a generation, so that a name that was given up doesn't come back at once as another right. Takes no memory.
+    pub fn with_profile(alloc: Global, profile: Profile) -> Kernel
+        requires one_set { profile ≢ Three }
+        ensures shows { Shows result.tables (opening_in profile) }
+        ensures none { result.tables.ports.spare ≡ 0 }
+        ensures turns { result.turns ≡ 0 }
+    {
         Kernel {
-            kernel: kernel_core::Kernel::new(alloc),
+            kernel: kernel_core::Kernel::with_profile(alloc, profile),
         }
     }
 
@@ -138,7 +167,7 @@ impl Kernel {
     }
 
     /// `mach_port_allocate` (Port Manipulation Interface): makes a port, of which the task has the receive
-    /// right, an empty set or a dead name of one reference, under the least unused name from 1.
+    /// right, an empty set or a dead name of one reference, under a fresh name.
     ///
     /// # Errors
     /// `InvalidValue`: another right; `NoSpace`: a limit of names, rights or identities;

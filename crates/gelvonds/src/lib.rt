@@ -19,11 +19,18 @@
 //!
 //! The crate `embedding` of this repository is that program, whole, and `docs/EMBEDDING.md` goes over it.
 //!
+//! # Profiles
+//! [`Kernel::new`] and [`run`] make a kernel of [`Profile::One`]: a fresh name is the least number, from 1, that the
+//! task doesn't use. [`Kernel::with_profile`], [`run_with`] and `Shared::with_profile` of [`threads`] take the profile.
+//! In [`Profile::Two`] a fresh name is the least unused index from 1, times 256, plus in its low 8 bits how many fresh
+//! names the task was given at this index before, modulo 256. So a name that was given up doesn't come back at once as
+//! another right. No kernel has [`Profile::Three`] yet.
+//!
 //! # What is promised
 //! Each method makes one step of the machine of `mach_model`, on the event of its arguments, and its result
 //! is the reply of that step: `specs/Results` says which reply each `Ok` and each `Err` stands for, and
 //! `specs/Steps` what a step promises. An `Err` is a code by which the machine refuses the call, never that
-//! of success, and leaves the state. No reply of another kind can come. [`run`] makes a list of calls, of
+//! of success, and leaves the state. No reply of another kind can come. [`run_with`] makes a list of calls, of
 //! which all is true that `mach_laws`' `Headline` says.
 //!
 //! # Threads
@@ -43,10 +50,10 @@ mod results;
 pub mod threads;
 
 pub use copyin_base::Code;
-pub use kernel::{Kernel, run};
+pub use kernel::{Kernel, run, run_with};
 pub use mach_types::{
-    Bytes, Disposition, Event, KernReturn, MsgReturn, Name, NameList, NameTypes, PortId, Reply,
-    Right, SetId, Status, TaskId, Waited, limits,
+    Bytes, Disposition, Event, KernReturn, MsgReturn, Name, NameList, NameTypes, PortId, Profile,
+    Reply, Right, SetId, Status, TaskId, Waited, limits,
 };
 pub use message_codec::PortRight;
 pub use notification::{Notification, NotificationRequest};

@@ -5,7 +5,9 @@
 //! answered as a code. `specs/Held` says what a handle owns, `specs/Calls` what a call by one does.
 #![tactic(auto)]
 
-ghost use Rattle.std.specs.Prelude.{◌≡◌, None};
+ghost use Rattle.std.specs.Prelude.{◌≡◌, ◌≢◌, None, Some};
+ghost use Rattle.mach_types.specs.declared.profiles.Profile.TheVariants.{One, Three};
+ghost use Rattle.gelvonds_c.specs.Making.{Makes, profile_numbered};
 
 mod call;
 mod codes;
@@ -21,23 +23,27 @@ mod transfers;
 use crate::codes::{IN_USE, SUCCESS};
 use crate::handle::Handle;
 use kernel_core::Kernel;
-use mach_types::KernReturn;
+use mach_types::{KernReturn, Profile};
 use std::alloc::Global;
 
-/// Makes a kernel in which nothing was made yet, where the handle holds none.
+/// Makes a kernel of the first profile in which nothing was made yet, where the handle holds none.
 #[unsafe(no_mangle)]
-pub extern "C" fn gelvonds_make(alloc: Global, handle: &mut Handle) -> i32 {
-    if let Some(kernel) = handle.take(alloc) {
-        *handle = Handle::of(kernel);
-        return IN_USE;
-    }
-    match Box::new(alloc, Kernel::new(alloc)) {
-        Ok(kernel) => {
-            *handle = Handle::of(kernel);
-            SUCCESS
-        }
-        Err(_) => KernReturn::ResourceShortage.number().cast_signed(),
-    }
+pub extern "C" fn gelvonds_make(alloc: Global, handle: &mut Handle) -> i32
+    ensures { Makes (Some One) handle.old.kernel result handle.new.kernel }
+{
+    make(alloc, handle, Some(Profile::One))
+}
+
+/// Makes a kernel of the profile of this number, 1 or 2, in which nothing was made yet, where the handle holds none.
+#[unsafe(no_mangle)]
+pub extern "C" fn gelvonds_make_with_profile(
+    alloc: Global,
+    handle: &mut Handle,
+    profile: u32,
+) -> i32
+    ensures { Makes (profile_numbered profile) handle.old.kernel result handle.new.kernel }
+{
+    make(alloc, handle, profile_of(profile))
 }
 
 /// Ends the kernel, if there is one: its memory is given back, and the handle holds none.
@@ -46,4 +52,37 @@ pub extern "C" fn gelvonds_free(alloc: Global, handle: &mut Handle)
     ensures { handle.new.kernel ≡ None }
 {
     drop(handle.take(alloc));
+}
+
+/// Makes a kernel, and answers the code for C; where the handle holds one that stays, and `None` makes none.
+fn make(alloc: Global, handle: &mut Handle, profile: Option<Profile>) -> i32
+    requires one_set { profile ≢ Some Three }
+    ensures { Makes profile handle.old.kernel result handle.new.kernel }
+{
+    if let Some(kernel) = handle.take(alloc) {
+        *handle = Handle::of(kernel);
+        return IN_USE;
+    }
+    let Some(profile) = profile else {
+        return KernReturn::InvalidArgument.number().cast_signed();
+    };
+    match Box::new(alloc, Kernel::with_profile(alloc, profile)) {
+        Ok(kernel) => {
+            *handle = Handle::of(kernel);
+            SUCCESS
+        }
+        Err(_) => KernReturn::ResourceShortage.number().cast_signed(),
+    }
+}
+
+/// The profile that a kernel can have of this number.
+fn profile_of(number: u32) -> Option<Profile>
+    ensures numbered { result ≡ profile_numbered number }
+    ensures one_set { result ≢ Some Three }
+{
+    match number {
+        1 => Some(Profile::One),
+        2 => Some(Profile::Two),
+        _ => None,
+    }
 }

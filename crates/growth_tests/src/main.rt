@@ -57,8 +57,8 @@ fn refuse_row<R: AllocGlobal + Wait, W: Write>(
 ) -> io::Result<()> {
     match rows::row(rt.alloc(), name, text) {
         Ok(row) => {
-            let stepped = sweep(rt, Side::Step, row.as_slice());
-            let locked = sweep(rt, Side::Locked, row.as_slice());
+            let stepped = sweep(rt, Side::Step, &row);
+            let locked = sweep(rt, Side::Locked, &row);
             write!(out, " {name} {stepped} {locked},")
         }
         Err(fault) => write!(out, " {name}!{fault:?},"),

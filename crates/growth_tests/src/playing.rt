@@ -1,10 +1,11 @@
 //! Rows, played on a kernel by itself or on one behind its lock.
-ghost use Rattle.std.specs.Prelude.{◌≡◌};
+ghost use Rattle.std.specs.Prelude.{◌≡◌, ◌≢◌};
+ghost use Rattle.mach_types.specs.declared.profiles.Profile.TheVariants.{Three};
 
 use crate::judging::Fault;
 use kernel_core::Kernel;
 use kernel_lock::{Entry, Pass, Shared, Watch};
-use mach_types::{Event, Reply};
+use mach_types::{Event, Profile, Reply};
 use std::alloc::{AllocError, Global};
 use std::sync::Wait;
 
@@ -29,14 +30,20 @@ pub struct Tried {
 }
 
 impl Tried {
-    /// Kernels in which nothing was made yet.
-    pub fn new<R: AllocGlobal + Wait>(rt: &R, side: Side) -> Result<Tried, AllocError> {
-        let shared = Shared::new(rt.alloc())?;
+    /// Kernels of this profile, in which nothing was made yet.
+    pub fn new<R: AllocGlobal + Wait>(
+        rt: &R,
+        side: Side,
+        profile: Profile,
+    ) -> Result<Tried, AllocError>
+        requires { profile ≢ Three }
+    {
+        let shared = Shared::with_profile(rt.alloc(), profile)?;
         let pass = shared.pass(rt)?;
         let watch = shared.watch(rt);
         Ok(Tried {
             side,
-            kernel: Kernel::new(rt.alloc()),
+            kernel: Kernel::with_profile(rt.alloc(), profile),
             shared,
             pass,
             watch,

@@ -1,7 +1,7 @@
 //! The texts of the rows: calls and replies that are known beforehand.
 
 /// The rows, each with its name and its text; of one that is too long to stand here, its first lines.
-pub const ROWS: [(&str, &str); 19] = [
+pub const ROWS: [(&str, &str); 21] = [
     ("each_call", EACH_CALL),
     ("message", MESSAGE),
     ("lengths", ONE_PORT),
@@ -21,6 +21,8 @@ pub const ROWS: [(&str, &str); 19] = [
     ("member", MEMBER),
     ("dead_name", DEAD_NAME),
     ("full_task", ONE_PORT),
+    ("generations", GENERATIONS),
+    ("next_names", NEXT_NAMES),
 ];
 
 /// How the long rows begin.
@@ -201,3 +203,22 @@ const DEAD_NAME: &str = "\
     0 extract 1 1 20 0 -> right 1 17\n0 alloc 0 1 -> name 2\n0 notify 0 1 72 0 2 21 -> previous 0\n\
     0 type 0 1 -> type 80010000\n0 destroy 1 1 -> code 00000000\n0 refs 0 1 4 -> refs 2\n\
     0 recv 0 2 32 0 -> message 0012000020000000000000000200000000000000480000000f20011001000000\n";
+
+// Names with a generation: an index comes again, and a chosen name keeps its index from being given.
+const GENERATIONS: &str = "\
+    mach-history 2\n0 task -> task 0\n0 alloc 0 1 -> name 256\n0 alloc 0 4 -> name 512\n\
+    0 dealloc 0 512 -> code 00000000\n0 alloc 0 4 -> name 513\n0 allocname 0 4 700 -> name 700\n\
+    0 dealloc 0 513 -> code 00000000\n0 alloc 0 4 -> name 768\n0 dealloc 0 700 -> code 00000000\n\
+    0 alloc 0 4 -> name 514\n\
+    0 send 0 140000001800000000010000000000000000000007000000 -> code 00000000\n\
+    0 recv 0 256 24 0 -> message 001100001800000000000000000100000000000007000000\n";
+
+// Calls that take memory, and give a name at an index that was given before: a refused one isn't counted there.
+const NEXT_NAMES: &str = "\
+    mach-history 2\n0 task -> task 0\n0 task -> task 1\n0 alloc 0 4 -> name 256\n\
+    0 dealloc 0 256 -> code 00000000\n0 alloc 0 1 -> name 257\n0 alloc 0 4 -> name 512\n\
+    0 dealloc 0 512 -> code 00000000\n0 alloc 0 3 -> name 513\n0 alloc 1 4 -> name 256\n\
+    0 dealloc 1 256 -> code 00000000\n0 extract 0 257 20 1 -> right 257 17\n\
+    0 alloc 0 4 -> name 768\n0 dealloc 0 768 -> code 00000000\n\
+    0 send 0 1400008020000000010100000000000000000000080000001520011001010000 -> code 00000000\n\
+    0 recv 0 257 32 0 -> message 0011008020000000000000000101000000000000080000001220011001030000\n";

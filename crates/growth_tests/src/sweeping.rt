@@ -6,6 +6,7 @@ use crate::refusing::{count, is_asked, refuse};
 use kernel_lock::Entry;
 use mach_types::{Event, KernReturn, MsgReturn, Reply};
 use std::sync::Wait;
+use tracer::History;
 
 /// Of a row with more growths than twice this many, only the first so many and the last are refused.
 const EACH_END: usize = 100;
@@ -14,12 +15,12 @@ const EACH_END: usize = 100;
 #[derive(Drop)]
 struct Swept<'a> {
     side: Side,
-    row: &'a [Entry],
+    row: &'a History,
     total: usize,
 }
 
 /// Refuses each growth of the row in turn, in a new kernel each.
-pub fn sweep<R: AllocGlobal + Wait>(rt: &R, side: Side, row: &[Entry]) -> Verdict {
+pub fn sweep<R: AllocGlobal + Wait>(rt: &R, side: Side, row: &History) -> Verdict {
     match count_all(rt, side, row) {
         Ok(total) => refuse_each(rt, &Swept { side, row, total }),
         Err(fault) => Verdict::failed(0, fault),
@@ -42,9 +43,9 @@ fn refuse_each<R: AllocGlobal + Wait>(rt: &R, swept: &Swept<'_>) -> Verdict {
 }
 
 /// Plays the row with memory, and counts the growths that it asks for.
-fn count_all<R: AllocGlobal + Wait>(rt: &R, side: Side, row: &[Entry]) -> Result<usize, Fault> {
-    let mut kernel = Tried::new(rt, side)?;
-    count_on(rt, &mut kernel, side, row)
+fn count_all<R: AllocGlobal + Wait>(rt: &R, side: Side, row: &History) -> Result<usize, Fault> {
+    let mut kernel = Tried::new(rt, side, row.profile())?;
+    count_on(rt, &mut kernel, side, row.entries())
 }
 
 /// The same, on this kernel.
@@ -66,7 +67,7 @@ fn count_on<R: AllocGlobal + Wait>(
 /// Refuses growth number `at` of the row. Where the call tells of it, nothing has changed, and the same call and those
 /// behind it are answered as in the row; else each reply is the row's.
 fn refuse_one<R: AllocGlobal + Wait>(rt: &R, swept: &Swept<'_>, at: usize) -> Result<(), Fault> {
-    let mut kernel = Tried::new(rt, swept.side)?;
+    let mut kernel = Tried::new(rt, swept.side, swept.row.profile())?;
     refuse_on(rt, &mut kernel, swept, at)
 }
 
@@ -77,7 +78,7 @@ fn refuse_on<R: AllocGlobal + Wait>(
     swept: &Swept<'_>,
     at: usize,
 ) -> Result<(), Fault> {
-    let entries = copies(rt.alloc(), swept.row)?;
+    let entries = copies(rt.alloc(), swept.row.entries())?;
     refuse(rt.alloc(), at);
     let played = play(rt, kernel, entries);
     let asked = is_asked(rt.alloc(), at);
@@ -85,7 +86,7 @@ fn refuse_on<R: AllocGlobal + Wait>(
     if !asked {
         return Err(Fault::NotAsked);
     }
-    match (&played.other, swept.row.get(played.made)) {
+    match (&played.other, swept.row.entries().get(played.made)) {
         (Some(reply), Some(entry)) => {
             judge_reply(swept.side, &entry.event, reply, true)?;
             judge_length(rt, kernel, played.made, reply)?;
@@ -105,8 +106,8 @@ fn judge_rest<R: AllocGlobal + Wait>(
     at: usize,
 ) -> Result<(), Fault> {
     let before = judge_state(rt, kernel, swept, place)?;
-    let after = go_on(rt, kernel, swept.row, place)?;
-    match (swept.side, swept.row.get(place)) {
+    let after = go_on(rt, kernel, swept.row.entries(), place)?;
+    match (swept.side, swept.row.entries().get(place)) {
         (Side::Step, Some(entry)) => {
             let without = swept.total.saturating_sub(before);
             judge_growths(&entry.event, without, after, at.saturating_sub(before))
@@ -176,8 +177,8 @@ fn judge_state<R: AllocGlobal + Wait>(
     swept: &Swept<'_>,
     place: usize,
 ) -> Result<usize, Fault> {
-    let mut other = Tried::new(rt, swept.side)?;
-    let before = play_before(rt, &mut other, swept.row, place)?;
+    let mut other = Tried::new(rt, swept.side, swept.row.profile())?;
+    let before = play_before(rt, &mut other, swept.row.entries(), place)?;
     compare(rt, kernel, &mut other)?;
     Ok(before)
 }

@@ -6,6 +6,7 @@ use crate::scripts::ROWS;
 use crate::sweeping::memory_code;
 use kernel_core::Kernel;
 use kernel_lock::Entry;
+use mach_types::{Event, Reply};
 use std::alloc::Global;
 
 /// Plays each row, with all memory refused at each call that takes none. Counts these calls.
@@ -23,9 +24,9 @@ pub fn play_all(alloc: Global) -> Verdict {
 /// The same of one row.
 fn play_row(alloc: Global, name: &str, text: &str) -> Result<usize, Fault> {
     let row = row(alloc, name, text)?;
-    let mut kernel = Kernel::new(alloc);
+    let mut kernel = Kernel::with_profile(alloc, row.profile());
     let mut made = 0usize;
-    for entry in &row {
+    for entry in row.entries() {
         let takes_none = memory_code(&entry.event).is_none();
         make(alloc, &mut kernel, entry, takes_none)?;
         made = made.saturating_add(usize::from(takes_none));
@@ -35,12 +36,11 @@ fn play_row(alloc: Global, name: &str, text: &str) -> Result<usize, Fault> {
 
 /// Makes one call, where all memory is refused if it takes none: it is to be answered as its entry says.
 fn make(alloc: Global, kernel: &mut Kernel, entry: &Entry, takes_none: bool) -> Result<(), Fault> {
-    if takes_none {
-        refuse_all(alloc);
-    }
-    let reply = kernel.step(&entry.event);
-    let asks = takes_none && is_asked(alloc, 1);
-    refuse(alloc, 0);
+    let (reply, asks) = if takes_none {
+        step_without(alloc, kernel, &entry.event)
+    } else {
+        (kernel.step(&entry.event), false)
+    };
     if reply != entry.reply {
         Err(Fault::OtherReply)
     } else if asks {
@@ -48,4 +48,13 @@ fn make(alloc: Global, kernel: &mut Kernel, entry: &Entry, takes_none: bool) -> 
     } else {
         Ok(())
     }
+}
+
+/// Makes one call where all memory is refused. Returns its reply, and whether it asked for memory.
+fn step_without(alloc: Global, kernel: &mut Kernel, event: &Event) -> (Reply, bool) {
+    refuse_all(alloc);
+    let reply = kernel.step(event);
+    let asks = is_asked(alloc, 1);
+    refuse(alloc, 0);
+    (reply, asks)
 }

@@ -1,5 +1,5 @@
--- A kernel goes by the first profile, in which a port is in one set at most: the two calls for more are refused.
-use Rattle.std.proofs.Common.{ℕ, refl, subst, inl}
+-- A kernel goes by a profile in which a port is in one set at most: the two calls for more are refused.
+use Rattle.std.proofs.Common.{ℕ, refl, inl}
 use Rattle.mach_types.specs.declared.calls.Event.{Event}
 use Rattle.mach_types.specs.declared.codes.KernReturn.TheVariants.{InvalidArgument}
 use Rattle.mach_types.specs.Codes.{kern_number}
@@ -15,7 +15,7 @@ use Rattle.kernel_core.proofs.Lacking.{never_guarded}
 
 module _ (w : WorldView) (task member set : ℕ) where
   not_several : (s : State) → Shows w s → ¬ (HasSeveral s.profile)
-  not_several s sh = subst HasSeveral sh.agrees.is_first
+  not_several s sh = sh.agrees.one_set
 
   pub insert_declined : HasTask w task → Declines w (Event.InsertMember task member set) (kern_number InvalidArgument) w
   insert_declined there =

@@ -1,14 +1,15 @@
 -- A step: a call's own part, and what settles after it; or a refusal. And the opening.
 use Rattle.std.proofs.Common.{◌≡◌, ℕ, ◌≤◌, ◌-◌, ◌^◌, Bool, true, false, Option, Some, None, refl, sym, ap, ◌∙◌, arith, inl, inr}
-use Rattle.std.specs.Prelude.{is_some, if◌then◌else◌, nat_lt, min}
+use Rattle.std.specs.Prelude.{◌≢◌, is_some, if◌then◌else◌, nat_lt, min}
 use Rattle.std.specs.FinMap as map
 use Rattle.std.specs.Option.{option_map}
 use Rattle.std.specs.Ordering.{nat_cmp}
 use Rattle.mach_types.specs.declared.calls.Event.{Event}
 use Rattle.mach_types.specs.declared.calls.Reply.{Reply}
 use Rattle.mach_types.specs.Tokens.{Request, no_senders, port_destroyed, dead_name}
-use Rattle.mach_model.specs.State.{State}
-use Rattle.mach_model.specs.Machine.{opening, Done}
+use Rattle.mach_model.specs.State.{State, opening_in}
+use Rattle.mach_model.specs.NameGuards.{HasSeveral}
+use Rattle.mach_model.specs.Machine.{Done}
 use Rattle.mach_model.specs.Lawful.{IsLawful}
 use Rattle.mach_model.specs.Work.{deaths, IsBounded}
 use Rattle.mach_model.proofs.StepLawful.{opening-lawful}
@@ -33,7 +34,8 @@ use Rattle.destroy.specs.Stages.{SettlesIn}
 use Rattle.kernel_core.specs.Answers.{Answers}
 use Rattle.kernel_core.specs.Kernels.{EndsInTurns, TakesTurns}
 use Rattle.mach_laws.proofs.Working.{few_turns, same_deaths, few_deaths}
-use Rattle.mach_types.specs.declared.profiles.Profile.TheVariants.{One}
+use Rattle.mach_types.specs.declared.profiles.Profile.{Profile}
+use Rattle.mach_types.specs.declared.profiles.Profile.TheVariants.{One, Two, Three}
 
 -- What was done is settled: a step that is done.
 pub acted : (old mid new : WorldView) (event : Event) (reply : Reply) (turns : ℕ) → Completes old event reply mid → SettlesIn mid turns new → Answers old event reply new
@@ -72,10 +74,12 @@ still_stands old new event reply stands answers = let x = answers 0 stands.state
 
 -- ---- nothing was made yet
 
-pub opening_agrees : Agrees no_world opening
-opening_agrees = record {
+pub opening_agrees : (profile : Profile) → (HasSeveral profile → ⊥) → Agrees (no_world profile) (opening_in profile)
+opening_agrees profile one_set = record {
   spaces = record {
-    is_first = refl;
+    profiles = record { same_profile = refl; one_set = one_set };
+    counts_given = λ task space e. absurd (let e' : None ≡ Some space = e in cc);
+    none_given = λ task index unmade. refl;
     live_task = λ task. refl;
     tasks_made = refl;
     naming = λ task name. map.get-empty nat_cmp name;
@@ -97,11 +101,11 @@ opening_agrees = record {
   in_sets = record {
     set_owner = λ set. sym (ap (option_map (λ (r : SetRecord). r.owner)) (map.get-empty {X = SetRecord} nat_cmp set));
     sets_made = refl;
-    set_named = λ set r e. absurd (let n : map.get no_world.sets.sets set ≡ None = map.get-empty {X = SetRecord} nat_cmp set in cc);
+    set_named = λ set r e. absurd (let n : map.get (no_world profile).sets.sets set ≡ None = map.get-empty {X = SetRecord} nat_cmp set in cc);
   };
   of_requests = record {
     standing = λ r. sym (ap is_some (nothing r));
-    kept = λ r kind q. let none = ap (λ (o : Option ℕ). rights_kept opening.live_port o kind q) (nothing r) in omega (arith, none);
+    kept = λ r kind q. let none = ap (λ (o : Option ℕ). rights_kept (opening_in profile).live_port o kind q) (nothing r) in omega (arith, none);
     given = λ r q is. absurd (let e : None ≡ Some q = sym (nothing r) ∙ is in cc);
     given_went = tt;
     ended_went = tt;
@@ -117,19 +121,25 @@ opening_agrees = record {
         named true = ap (option_map (λ (r : NameRequest). r.notify)) (map.get-empty nat_cmp (name_key task name))
         named false = refl
 
-    no_port : (p : ℕ) (v : PortView Kept) → map.get no_world.ports.ports p ≡ Some v → ⊥
-    no_port p v e = let n : map.get no_world.ports.ports p ≡ None = map.get-empty {X = PortView Kept} nat_cmp p in cc
+    no_port : (p : ℕ) (v : PortView Kept) → map.get (no_world profile).ports.ports p ≡ Some v → ⊥
+    no_port p v e = let n : map.get (no_world profile).ports.ports p ≡ None = map.get-empty {X = PortView Kept} nat_cmp p in cc
 
-pub opening_shows : Shows no_world opening
-opening_shows = record {
-  agrees = opening_agrees;
-  holders = holders_none;
-  carriers = carriers_none;
-  slots = slots_none;
-  requested = requested_none;
-  idle = idle_none;
-  lawful = opening-lawful One;
+pub opening_shows : (profile : Profile) → (HasSeveral profile → ⊥) → Shows (no_world profile) (opening_in profile)
+opening_shows profile one_set = record {
+  agrees = opening_agrees profile one_set;
+  holders = holders_none profile;
+  carriers = carriers_none profile;
+  slots = slots_none profile;
+  requested = requested_none profile;
+  idle = idle_none profile;
+  lawful = opening-lawful profile;
 }
 
-pub opening_stands : Stands no_world
-opening_stands = record { state = opening; shown = opening_shows }
+pub opening_stands : (profile : Profile) → (HasSeveral profile → ⊥) → Stands (no_world profile)
+opening_stands profile one_set = record { state = opening_in profile; shown = opening_shows profile one_set }
+
+-- in a profile that isn't the third a port is in one set at most
+pub one_set_in : (profile : Profile) → profile ≢ Three → HasSeveral profile → ⊥
+one_set_in One not h = h
+one_set_in Two not h = h
+one_set_in Three not h = not refl

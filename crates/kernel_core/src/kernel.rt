@@ -1,10 +1,11 @@
 //! A kernel, and its steps.
-ghost use Rattle.std.specs.Prelude.{◌≡◌, ◌≤◌, ℕ, Err, IfOk, IfErr, OnErr, MatchBool};
+ghost use Rattle.std.specs.Prelude.{◌≡◌, ◌≢◌, ◌≤◌, ℕ, Err, IfOk, IfErr, OnErr, MatchBool};
 ghost use Rattle.mach_types.specs.declared.codes.KernReturn.TheVariants as kern;
+ghost use Rattle.mach_types.specs.declared.profiles.Profile.TheVariants.{Three};
 ghost use Rattle.mach_types.specs.Numbers.{most_bytes};
 ghost use Rattle.mach_types.specs.Codes.{kern_number};
 ghost use Rattle.mach_types.specs.declared.calls.Reply.{Reply as AnyReply};
-ghost use Rattle.mach_model.specs.State.{State};
+ghost use Rattle.mach_model.specs.State.{State, opening_in};
 ghost use Rattle.mach_model.specs.Machine.{opening, Step};
 ghost use Rattle.mach_laws.specs.Judging.{IsBySet};
 ghost use Rattle.mach_laws.specs.Queued.{unused_onces};
@@ -34,7 +35,7 @@ use kernel_core_base::{
     move_member, name_type, receive_status, rename, set_mscount, set_qlimit, set_seqno, set_status,
     terminate_task,
 };
-use mach_types::{Event, KernReturn, Name, Reply, TaskId};
+use mach_types::{Event, KernReturn, Name, Profile, Reply, TaskId};
 use notifications::{Asked, request_notification};
 use std::alloc::{AllocError, Global};
 use std::marker::Model;
@@ -64,13 +65,14 @@ impl Model for Kernel {
     ghost use Rattle.copyin_base.specs.Kept.{kept_code};
     ghost use Rattle.copyin_base.specs.Requests.{request_tables_code};
     ghost use Rattle.copyin_base.specs.contracts.message.Carried as carried;
+    ghost use Rattle.mach_types.specs.contracts.profiles.Profile as profile_of;
     ghost use Rattle.copyin_base.specs.Worlds.{world_code};
     ghost use Rattle.copyin_base.specs.Stands.{Stands};
     ghost use Rattle.kernel_core.specs.Kernels.{KernelView, kernel_code};
 
     ghost Value = { KernelView };
 
-    ghost coded = { kernel_code (world_code (space_code entry.the_row.coded) (ports_code (kept_code carried.the_row.coded) attributes.the_row.coded) (ledger_code counts.the_row.coded) (sets_code set_record.the_row.coded) (request_tables_code request.the_row.coded port_id.the_row.coded)) };
+    ghost coded = { kernel_code (world_code (space_code entry.the_row.coded) (ports_code (kept_code carried.the_row.coded) attributes.the_row.coded) (ledger_code counts.the_row.coded) (sets_code set_record.the_row.coded) (request_tables_code request.the_row.coded port_id.the_row.coded) profile_of.the_row.coded) };
 
     ghost view = { λ k. record { tables = k.world; turns = k.turns } };
 
@@ -78,15 +80,26 @@ impl Model for Kernel {
 }
 
 impl Kernel {
-    /// A kernel in which nothing was made yet. Takes no memory.
+    /// A kernel of the first profile, in which nothing was made yet. Takes no memory.
     pub fn new(alloc: Global) -> Kernel
         ensures shows { Shows result.tables opening }
         ensures none { result.tables.ports.spare ≡ 0 }
         ensures turns { result.turns ≡ 0 }
     {
+        Kernel::with_profile(alloc, Profile::One)
+    }
+
+    /// A kernel of this profile, in which nothing was made yet: in the second fresh names have a
+    /// generation. Takes no memory.
+    pub fn with_profile(alloc: Global, profile: Profile) -> Kernel
+        requires one_set { profile ≢ Three }
+        ensures shows { Shows result.tables (opening_in profile) }
+        ensures none { result.tables.ports.spare ≡ 0 }
+        ensures turns { result.turns ≡ 0 }
+    {
         Kernel {
             alloc,
-            world: World::new(alloc),
+            world: World::new(alloc, profile),
             turns: 0,
         }
     }

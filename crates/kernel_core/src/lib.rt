@@ -17,4 +17,4 @@ mod runs;
 mod send;
 
 pub use kernel::Kernel;
-pub use runs::run;
+pub use runs::{run, run_with};

@@ -7,7 +7,7 @@ use Rattle.std.specs.Ordering.{nat_cmp}
 use Rattle.mach_types.specs.declared.calls.Event.{Event}
 use Rattle.mach_types.specs.declared.calls.Reply.{Reply}
 use Rattle.mach_types.specs.Numbers.{most_names, most_rights, most_identities}
-use Rattle.mach_model.specs.State.{State, Target, with_name, IsFresh}
+use Rattle.mach_model.specs.State.{State, Target, with_name, gives}
 use Rattle.mach_model.specs.Names.{Makes, with_set}
 use Rattle.mach_model.specs.Refusals.{IsNoMaking, call_guards}
 use Rattle.mach_model.specs.Room.{IsFull}
@@ -23,10 +23,10 @@ use Rattle.rights.specs.Counts.{no_rights, with_more}
 use Rattle.name_space.specs.declared.Entry.{Entry}
 use Rattle.name_space.specs.declared.Entry.TheVariants as entry
 use Rattle.name_space.specs.Entry.{port_named}
-use Rattle.name_space.specs.Names.{Names, SpaceView, IsFreshName, IsUsable, HasPlace, HasNoOther}
+use Rattle.name_space.specs.Names.{Names, SpaceView, IsFreshFor, IsUsable, HasPlace, HasNoOther}
 use Rattle.port.specs.Ports.{PortsView, IsLive}
 use Rattle.copyin_base.specs.Serving.{Completes, IsAllowed}
-use Rattle.copyin_base.specs.Changes.{MakesRoom, KeepsPlace, SameButRoom, IsForLive, CanInsert, InsertsEntry}
+use Rattle.copyin_base.specs.Changes.{MakesRoom, KeepsPlace, CanCountName, CountsName, SameButNaming, SameButRoom, IsForLive, CanInsert, InsertsEntry}
 use Rattle.copyin_base.specs.Kept.{Kept}
 use Rattle.copyin_base.specs.Worlds.{WorldView, entry_in, entry_at, space_at, HasTask, space_in}
 use Rattle.copyin_base.specs.Shows.{Agrees, HoldersAgree, Shows}
@@ -36,11 +36,12 @@ use Rattle.copyin_base.proofs.Agreeing.{own_names}
 use Rattle.copyin_base.proofs.Gets.{same_found, of_some}
 use Rattle.copyin_base.proofs.Holders.{ReceivesAt, KeepHolders, same_holders, holders_added, holders_made}
 use Rattle.copyin_base.proofs.NamesChanged.{added_agrees}
-use Rattle.copyin_base.proofs.Roomier.{room_made, place_kept, room_entry, room_agrees, room_shows}
-use Rattle.copyin_base.proofs.SendersNoted.{senders_same, senders_kept}
+use Rattle.copyin_base.proofs.Roomier.{room_made, place_kept, room_refl, room_entry, room_agrees, room_shows, naming_holders, naming_carriers, naming_slots, naming_requested, counted_naming, counted_agrees}
+use Rattle.copyin_base.proofs.SendersNoted.{senders_same, senders_kept, naming_senders}
 use Rattle.copyin_base.proofs.Spaces.{space-set_same}
 use Rattle.copyin_base.proofs.Putting.{each_put, put_other, put_own}
-use Rattle.copyin_base.proofs.ProfileOne.{fresh_for, none_counted}
+use Rattle.copyin_base.proofs.FreshNames.{fresh_for, fresh_unused, fresh_has_room, can_count_then}
+use Rattle.copyin_base.proofs.Idle.{none_lost_room}
 use Rattle.kernel_core_base.specs.declared.names.NewRight.{NewRight}
 use Rattle.kernel_core_base.specs.declared.names.NewRight.TheVariants as new_right
 use Rattle.kernel_core_base.specs.Names.{first_port, right_made, entry_made, HasRoomFor, IsFullFor, HasRoomOf, IsFullOf, CanAdd, Adds, with_made, MakesRight}
@@ -127,17 +128,34 @@ stands_still : (w w1 : WorldView) → SameButRoom w w1 → Stands w → Stands w
 stands_still w w1 same stands = record { state = stands.state; shown = room_shows w w1 stands.state same stands.shown }
 
 pub can_add_fresh : (w w1 : WorldView) → Stands w → (task : ℕ) (r : NewRight) (name : ℕ) → HasRoomOf w task r → MakesRoom w task 1 w1 → (space : SpaceView) → space_at w1 task ≡ Some space →
-    IsFreshName space.names name → name ≤ most_names + 1 → CanAdd w1 task r name
+    IsFreshFor space name → IsUsable name → CanAdd w1 task r name
 unfolding has_still
-can_add_fresh w w1 stands task r name has m space there fresh small =
-    let some = fresh.not_null in
+can_add_fresh w w1 stands task r name has m space there fresh usable =
     let roomy : SpaceView = record m.space { room = max m.space.room 1 } in
     let still : HasRoomOf w1 task r = has_still w w1 task r has m.space roomy m.there refl m.rest in
     let same : space ≡ roomy = same_found (space_at w1 task) space roomy there still.there in
-    can_add w1 (stands_still w w1 (room_made w w1 task 1 m) stands) task r name still
-    record { not_null = λ e. omega (arith, some, e); not_dead = λ e. omega (arith, small, e) }
-    (ap (λ (o : Option SpaceView). entry_in o name) there ∙ fresh.unused)
-    (inl (subst (λ (x : SpaceView). IsFreshName x.names name) same fresh, omega arith))
+    can_add w1 (stands_still w w1 (room_made w w1 task 1 m) stands) task r name still usable
+    (ap (λ (o : Option SpaceView). entry_in o name) there ∙ fresh_unused space.given space name fresh)
+    (inl (fresh_has_room roomy.given roomy name (subst (λ (x : SpaceView). IsFreshFor x name) same fresh) (omega arith)))
+
+-- there is room for the names that a right needs
+pub not_full_roomy : (w w1 : WorldView) (task : ℕ) (r : NewRight) → HasRoomOf w task r → MakesRoom w task 1 w1 → (space : SpaceView) → space_at w1 task ≡ Some space → map.len space.names < most_names
+unfolding has_still
+not_full_roomy w w1 task r has m space there =
+    let roomy : SpaceView = record m.space { room = max m.space.room 1 } in
+    let still : HasRoomOf w1 task r = has_still w w1 task r has m.space roomy m.there refl m.rest in
+    subst (λ (x : SpaceView). map.len x.names < most_names) (same_found (space_at w1 task) still.space space still.there there) still.room
+
+-- what was added under a fresh name can be counted
+pub can_count_added : (w v : WorldView) (task : ℕ) (r : NewRight) (name : ℕ) → Adds w task r name v → (space : SpaceView) → space_at w task ≡ Some space → IsFreshFor space name → name < 16777216 → CanCountName v task name
+can_count_added w v task r name adds space there fresh small =
+    let same : space ≡ adds.space = same_found (space_at w task) space adds.space there adds.there in
+    let own : SpaceView = record adds.space { names = map.insert adds.space.names name (entry_made w r); room = adds.space.room - 1 } in
+    record {
+      space = own;
+      there = ap (λ (x : WorldView). space_at x task) adds.rest ∙ space-set_same w.spaces task own adds.space adds.there;
+      can = can_count_then adds.space.given adds.space name (adds.space.room - 1) (entry_made w r) (subst (λ (x : SpaceView). IsFreshFor x name) same fresh) small;
+    }
 
 pub can_add_kept : (w w1 : WorldView) → Stands w → (task : ℕ) (r : NewRight) (name : ℕ) → HasRoomOf w task r → KeepsPlace w task name w1 → IsUsable name → entry_at w task name ≡ None → CanAdd w1 task r name
 unfolding has_still
@@ -152,6 +170,12 @@ abbrev pub with_right : NewRight → State → (task name : ℕ) → State
 with_right new_right.Port s task name = allocated s task name
 with_right new_right.Set s task name = with_set task name s
 with_right new_right.DeadName s task name = with_name task name (Target.dead 1) s
+
+-- to count the name changes nothing of what is made
+given_right : (r : NewRight) (s : State) (task name : ℕ) → with_right r (gives task name s) task name ≡ gives task name (with_right r s task name)
+given_right new_right.Port s task name = refl
+given_right new_right.Set s task name = refl
+given_right new_right.DeadName s task name = refl
 
 pub makes : (r : NewRight) (s : State) (task name : ℕ) → Makes task (right_made r) name s (with_right r s task name)
 makes new_right.Port s task name = inl (refl, allocates s task name)
@@ -205,50 +229,54 @@ module _ (w v : WorldView) (s : State) (a : Agrees w s) (l : IsLawful s) (task n
   made_holders new_right.Set adds h = grind (arith, holders_added, same_ports)
   made_holders new_right.DeadName adds h = grind (arith, holders_added, same_ports)
 
--- a fresh name in the tables is one in the machine
-pub fresh : (w : WorldView) (s : State) → Agrees w s → (task : ℕ) (space : SpaceView) → space_at w task ≡ Some space → (name : ℕ) → IsFreshName space.names name → IsFresh (s.naming task) name
-fresh w s a task space there name f = grind (arith, own_names)
-
 -- ---- what Allocate and AllocateName promise
 
 module _ (w w1 v : WorldView) (same : SameButRoom w w1) (task number name : ℕ) (r : NewRight) (below : HasTask w task) (is : right_made r ≡ number) where
   makes_number : (s : State) → Makes task number name s (with_right r s task name)
   makes_number s = subst (λ (n : ℕ). Makes task n name s (with_right r s task name)) is (makes r s task name)
 
-  -- it is made once room was
-  makes_so : (event : Event) (now : ℕ) (s : State) → Shows w s → entry_at w1 task name ≡ None → Adds w1 task r name v →
-      (does : Does now s event (Reply.Name name) (with_right r s task name) []) → Judged now s event (Reply.Name name) (with_right r s task name) [] does → LosesNone s event (Reply.Name name) → Does-so w event (Reply.Name name) v now s
-  makes_so event now s sh unused adds does judged none =
-      let here = room_shows w w1 s same sh in record {
-        mid = with_right r s task name;
-        owed = [];
-        does = does;
-        judged = judged;
-        loses_none = none;
-        none_owed = refl;
-        agrees = made_agrees w1 v s here.agrees here.lawful task name unused r adds;
-        holders = made_holders w1 v s here.agrees here.lawful task name unused r adds here.holders;
-        carriers = made_carriers w1 v task name r adds here.carriers;
-        slots = made_slots w1 v here.slots task name r adds;
-        requested = made_requested w1 v task name here.requested r adds unused;
-        notes = senders_kept w w1 v (senders_kept w w w1 (senders_same w sh.idle.noted) (room_senders w w1 same sh.requested))
-            (made_senders w1 v task name here.requested r adds (unknown w1 s here.agrees here.lawful));
-        none_lost = made_none_lost w1 v task name r adds here.idle.none_lost;
-      }
+  -- it is made once room was, and its name may be counted then
+  module _ (event : Event) (now : ℕ) (s : State) (sh : Shows w s) (unused : entry_at w1 task name ≡ None) (adds : Adds w1 task r name v) where
+    abbrev here : Shows w1 s
+    here = room_shows w w1 s same sh
 
-  pub allocate_done : IsAllowed w (λ s. call_guards s (Event.Allocate task number)) → (space : SpaceView) → space_at w1 task ≡ Some space → IsFreshName space.names name → Adds w1 task r name v →
-      Completes w (Event.Allocate task number) (Reply.Name name) v
-  allocate_done good space there f adds = done w (Event.Allocate task number) (Reply.Name name) v below good
-      (λ now s sh. makes_so (Event.Allocate task number) now s sh (ap (λ (o : Option SpaceView). entry_in o name) there ∙ f.unused) adds (
-        fresh_for s sh.agrees.is_first task name (fresh w1 s (room_agrees w w1 s same sh.agrees) task space there name f),
-        subst (λ (x : State). Makes task number name x (with_right r s task name)) (sym (none_counted s sh.agrees.is_first task name)) (makes_number s),
-        refl,
-      ) tt tt)
+    pub added_agrees_now : Agrees v (with_right r s task name)
+    added_agrees_now = made_agrees w1 v s here.agrees here.lawful task name unused r adds
+
+    pub makes_so : (v2 : WorldView) → SameButNaming v v2 → (mid : State) → Agrees v2 mid → (does : Does now s event (Reply.Name name) mid []) → Judged now s event (Reply.Name name) mid [] does →
+        LosesNone s event (Reply.Name name) → Does-so w event (Reply.Name name) v2 now s
+    makes_so v2 counted mid agrees does judged none =
+        let requested = made_requested w1 v task name here.requested r adds unused in record {
+          mid = mid;
+          owed = [];
+          does = does;
+          judged = judged;
+          loses_none = none;
+          none_owed = refl;
+          agrees = agrees;
+          holders = naming_holders v v2 counted (made_holders w1 v s here.agrees here.lawful task name unused r adds here.holders);
+          carriers = naming_carriers v v2 counted (made_carriers w1 v task name r adds here.carriers);
+          slots = naming_slots v v2 counted (made_slots w1 v here.slots task name r adds);
+          requested = naming_requested v v2 counted requested;
+          notes = senders_kept w v v2 (senders_kept w w1 v (senders_kept w w w1 (senders_same w sh.idle.noted) (room_senders w w1 same sh.requested))
+              (made_senders w1 v task name here.requested r adds (unknown w1 s here.agrees here.lawful))) (naming_senders v v2 counted requested);
+          none_lost = none_lost_room v v2 (made_none_lost w1 v task name r adds here.idle.none_lost) counted;
+        }
+
+  pub allocate_done : IsAllowed w (λ s. call_guards s (Event.Allocate task number)) → (space : SpaceView) → space_at w1 task ≡ Some space → IsFreshFor space name → Adds w1 task r name v →
+      (v2 : WorldView) → CountsName v task name v2 → Completes w (Event.Allocate task number) (Reply.Name name) v2
+  allocate_done good space there f adds v2 counts = done w (Event.Allocate task number) (Reply.Name name) v2 below good
+      (λ now s sh.
+      let unused = ap (λ (o : Option SpaceView). entry_in o name) there ∙ fresh_unused space.given space name f in
+      makes_so (Event.Allocate task number) now s sh unused adds v2 (counted_naming v v2 task name counts) (gives task name (with_right r s task name))
+      (counted_agrees v v2 task name counts (with_right r s task name) (added_agrees_now (Event.Allocate task number) now s sh unused adds))
+      (fresh_for w1 s (room_agrees w w1 s same sh.agrees) task space there name f, subst (Makes task number name (gives task name s)) (given_right r s task name) (makes_number (gives task name s)), refl) tt tt)
 
   pub allocate_name_done : IsAllowed w (λ s. call_guards s (Event.AllocateName task number name)) → entry_at w task name ≡ None → Adds w1 task r name v →
       Completes w (Event.AllocateName task number name) (Reply.Name name) v
   allocate_name_done good unused adds = done w (Event.AllocateName task number name) (Reply.Name name) v below good
-      (λ now s sh. makes_so (Event.AllocateName task number name) now s sh (room_entry w w1 same task name ∙ unused) adds (refl, makes_number s, refl) tt tt)
+      (λ now s sh. let free = room_entry w w1 same task name ∙ unused in
+      makes_so (Event.AllocateName task number name) now s sh free adds v (room_refl v).naming (with_right r s task name) (added_agrees_now (Event.AllocateName task number name) now s sh free adds) (refl, makes_number s, refl) tt tt)
 
 -- ---- A ledger that a port came to with its receive right, and left again.
 

@@ -18,7 +18,7 @@ use Rattle.copyin_base.specs.Worlds.{WorldView, NoneLost, entry_at, space_at, wi
 use Rattle.copyin_base.proofs.Carriers.{carriers_same, carriers_made}
 use Rattle.copyin_base.proofs.Idle.{none_lost_by, none_lost_same}
 use Rattle.copyin_base.proofs.Requested.{requested_inserted, requested_kept, requested_ports, requested_put}
-use Rattle.copyin_base.proofs.SendersNoted.{KeepsSends, counts_other, sends_made, KeepsSenders, keeps_senders, keeps_senders_same}
+use Rattle.copyin_base.proofs.SendersNoted.{KeepsSends, counts_other, sends_made, KeepsSenders, keeps_senders, keeps_senders_same, naming_senders}
 use Rattle.copyin_base.proofs.Spaces.{space-push_other, space-end}
 use Rattle.kernel_core_base.specs.declared.names.NewRight.{NewRight}
 use Rattle.kernel_core_base.specs.declared.names.NewRight.TheVariants as new_right
@@ -75,13 +75,13 @@ module _ (w v : WorldView) (task name : ℕ) where
 
 -- places that were made leave the ports without senders as they were
 pub room_senders : (w v : WorldView) → SameButRoom w v → RequestsStand w → KeepsSenders w v
-room_senders w v same requested = grind (arith, keeps_senders_same)
+room_senders w v same requested = naming_senders w v same.naming requested
 
 -- ---- a task
 
 module _ (w : WorldView) where
   abbrev pub with_new_task : WorldView
-  with_new_task = record w { spaces = w.spaces ++ Some no_names ∷ [] }
+  with_new_task = record w { spaces = w.spaces ++ Some (no_names w.profile) ∷ [] }
 
   no_entry : (e : Entry) → None ≡ Some e → ⊥
   no_entry e f = cc

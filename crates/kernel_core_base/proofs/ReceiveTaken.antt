@@ -254,6 +254,7 @@ module _ (w : WorldView) (task name : ℕ) (l : Loss) (can : CanKill w task name
           requests = λ r c q. same_weight (λ x. if is_of c q x && same_place (in_request r) x.place then 1 else 0)
               (both_test (is_of c q right_gone) false (inr refl)) (both_test (is_of c q send_gone) false (inr refl));
           no_set = named_no_set can.e l.port named_taken;
+          given = refl;
         }
 
     abbrev pub Becomes : WorldView → Type 0

@@ -187,6 +187,7 @@ module _ (w : WorldView) (s : State) (sh : Shows w s) (task name : ℕ) (space :
           stands = same;
           requests = λ r c q. same_weight (λ x. if is_of c q x && same_place (in_request r) x.place then 1 else 0) (both_test (is_of c q (token send p (in_task task))) false (inr refl));
           no_set = named_no_set entry p named;
+          given = refl;
         }
 
     abbrev Sets : Option Entry → Type 0

@@ -6,6 +6,7 @@ use Rattle.std.specs.Option.{option_map}
 use Rattle.std.specs.FinMap as map
 use Rattle.std.specs.Ordering.{nat_cmp}
 use Rattle.std.proofs.lemmas.Bool.Decides.{eqb_tells}
+use Rattle.mach_types.specs.declared.profiles.Profile.{Profile}
 use Rattle.mach_types.specs.Tokens.{Kind, Request, no_senders, port_destroyed, dead_name, Place, in_task, in_message, in_request, Token, weigh, count, is_of, is_held, is_in_task}
 use Rattle.mach_types.specs.declared.calls.Event.{Event}
 use Rattle.mach_types.specs.declared.calls.Reply.{Reply}
@@ -401,9 +402,9 @@ space_of None name e is = absurd (cc)
 kept_entry : (live_moved : ℕ → Bool) (m : Names) (n : ℕ) (e : Entry) → map.get (read_names live_moved m) n ≡ Some e → (k : Entry) × (map.get m n ≡ Some k) × (reading live_moved k ≡ e)
 kept_entry live_moved m n e is = grind (arith, get_read, same_found)
 
-module _ (old : WorldView) (task : ℕ) (space : SpaceView) (spaces : List (Option SpaceView)) (ports : PortsView Kept) (ledger : LedgerView) (sets : SetsView) (requests : RequestTablesView)
+module _ (old : WorldView) (task : ℕ) (space : SpaceView) {profile : Profile} (spaces : List (Option SpaceView)) (ports : PortsView Kept) (ledger : LedgerView) (sets : SetsView) (requests : RequestTablesView)
     (i : ℕ) (read : Option SpaceView) (lent : SpaceView)
-    (there : space_at old task ≡ Some space) (view : tables spaces ports ledger sets requests ≡ old) (index : i ≡ task) (is : read ≡ get_or spaces i read) (some : read ≡ Some lent) where
+    (there : space_at old task ≡ Some space) (view : tables profile spaces ports ledger sets requests ≡ old) (index : i ≡ task) (is : read ≡ get_or spaces i read) (some : read ≡ Some lent) where
   abbrev live_moved : ℕ → Bool
   live_moved = live_in ports
 
@@ -449,7 +450,7 @@ module _ (old : WorldView) (task : ℕ) (space : SpaceView) (spaces : List (Opti
         ∙ ap (λ (m : Names). put m to (Some (reading live_moved was.0))) (read_put live_moved lent.names from None)
         ∙ ap (λ (x : Entry). put (put (read_names live_moved lent.names) from None) to (Some x)) was.2
 
-    pub moved_entry : (after : SpaceView) → Becomes after → MovesEntry old task from to e (tables (slice_set spaces i (Some after)) ports ledger sets requests)
+    pub moved_entry : (after : SpaceView) → Becomes after → MovesEntry old task from to e (tables profile (slice_set spaces i (Some after)) ports ledger sets requests)
     moved_entry after b = record {
       space = space;
       there = there;

@@ -1,13 +1,16 @@
 -- A task, a port and a set that are made.
-use Rattle.std.proofs.Common.{◌≡◌, ℕ, ◌+◌, ◌<◌, List, [], ◌∷◌, ◌++◌, Option, Some, None, refl, sym, ap, subst, ◌∙◌, arith, Bool, true, false, inl, inr, length}
+use Rattle.std.proofs.Common.{◌≡◌, ℕ, ◌+◌, ◌<◌, ◌≤◌, List, [], ◌∷◌, ◌++◌, Option, Some, None, refl, sym, ap, subst, ◌∙◌, arith, Bool, true, false, inl, inr, length}
 use Rattle.std.specs.Prelude.{is_some, if◌then◌else◌, ◌≢◌, slice_set, ◌==◌}
 use Rattle.std.specs.Option.{option_map}
 use Rattle.std.specs.FinMap as map
 use Rattle.std.specs.Ordering.{nat_cmp}
 use Rattle.std.proofs.lemmas.List.{length-append}
 use Rattle.std.proofs.lemmas.Bool.{eq-eqb, ne_eqb}
+use Rattle.std.proofs.lemmas.Bool.Decides.{eqb_tells}
 use Rattle.mach_types.specs.declared.calls.Event.{Event}
 use Rattle.mach_types.specs.declared.calls.Reply.{Reply}
+use Rattle.mach_types.specs.declared.profiles.Profile.{Profile}
+use Rattle.mach_types.specs.declared.profiles.Profile.TheVariants.{One}
 use Rattle.mach_types.specs.Numbers.{most_tasks}
 use Rattle.mach_types.specs.Tokens.{receive, send, Kind, send_once, in_task, in_request, Request, token, count, is_of, is_held}
 use Rattle.mach_model.specs.State.{State, Target, Names, held, at}
@@ -23,7 +26,7 @@ use Rattle.rights.specs.Counts.{no_rights}
 use Rattle.rights.specs.Ledger.{LedgerView, entered, made}
 use Rattle.name_space.specs.declared.Entry.{Entry}
 use Rattle.name_space.specs.Entry.{port_named, has_receive, send_references}
-use Rattle.name_space.specs.Names.{SpaceView}
+use Rattle.name_space.specs.Names.{SpaceView, first_given}
 use Rattle.name_space.specs.declared.Entry.TheVariants as entry
 use Rattle.port.specs.Ports.{PortsView}
 use Rattle.port_set.specs.declared.SetRecord.{SetRecord}
@@ -31,10 +34,11 @@ use Rattle.port_set.specs.Sets.{SetsView}
 use Rattle.copyin_base.specs.Serving.{Completes}
 use Rattle.copyin_base.specs.Kept.{Kept}
 use Rattle.copyin_base.specs.Reading.{AreGiven}
-use Rattle.copyin_base.specs.Worlds.{WorldView, entry_in, space_at, space_in}
-use Rattle.copyin_base.specs.Shows.{Agrees, HoldersAgree, target_of, HasCount, onces_queued, CountsAgree, ShowsPort, SetsAgree}
+use Rattle.copyin_base.specs.Worlds.{WorldView, has_generations, entry_in, space_at, space_in}
+use Rattle.copyin_base.specs.Shows.{GivenAgrees, Agrees, HoldersAgree, target_of, HasCount, onces_queued, CountsAgree, ShowsPort, SetsAgree}
 use Rattle.copyin_base.proofs.Acting.{done}
 use Rattle.copyin_base.proofs.Agreeing.{sets_stay, NamesAgree, CountRights, own_names, own_rights, put_names, put_rights, spaces_agree, references_agree, ports_put}
+use Rattle.copyin_base.proofs.FreshNames.{first_agrees}
 use Rattle.copyin_base.proofs.Gets.{same_found, of_some}
 use Rattle.copyin_base.proofs.Holders.{same_holders, holders_pushed}
 use Rattle.copyin_base.proofs.Reading.{given_pushed}
@@ -53,15 +57,15 @@ use Rattle.kernel_core_base.specs.Names.{first_port}
 
 -- ---- A task that is made: the tables agree with the state after.
 
-none_under : (n : ℕ) (e : Entry) → map.get no_names.names n ≡ Some e → ⊥
-none_under n e is = let none : map.get no_names.names n ≡ None = map.get-empty {X = Entry} nat_cmp n in cc
+none_under : (profile : Profile) (n : ℕ) (e : Entry) → map.get (no_names profile).names n ≡ Some e → ⊥
+none_under profile n e is = let none : map.get (no_names profile).names n ≡ None = map.get-empty {X = Entry} nat_cmp n in cc
 
 module _ (w : WorldView) (s : State) (a : Agrees w s) where
   abbrev task : ℕ
   task = length w.spaces
 
   abbrev pub more_spaces : List (Option SpaceView)
-  more_spaces = w.spaces ++ Some no_names ∷ []
+  more_spaces = w.spaces ++ Some (no_names w.profile) ∷ []
 
   abbrev pub with_task : State
   with_task = record s { live_task = at s.live_task task true; tasks_made = task + 1; naming = at s.naming task map.empty }
@@ -70,11 +74,23 @@ module _ (w : WorldView) (s : State) (a : Agrees w s) where
   creates = record { task_is = a.tasks_made; rest = refl }
 
   -- what holds of the new task, and of each other, holds of all
-  each : (P : ℕ → Option SpaceView → Names → Type 0) → P task (Some no_names) map.empty → ((u : ℕ) → P u (space_at w u) (s.naming u)) → (u : ℕ) → P u (space_in more_spaces u) (with_task.naming u)
+  each : (P : ℕ → Option SpaceView → Names → Type 0) → P task (Some (no_names w.profile)) map.empty → ((u : ℕ) → P u (space_at w u) (s.naming u)) → (u : ℕ) → P u (space_in more_spaces u) (with_task.naming u)
   each P own others u = grind (arith, space-push_same, space-push_other)
 
   live_task : (u : ℕ) → is_some (space_in more_spaces u) ≡ with_task.live_task u
   live_task u = grind (arith, space-push_same, space-push_other)
+
+  own_counts : GivenAgrees s.profile (no_names w.profile).given (s.given task)
+  own_counts = subst (λ (p : Profile). GivenAgrees s.profile (first_given (has_generations p)) (s.given task)) (sym a.same_profile)
+      (first_agrees s.profile (s.given task) (λ index. let made = a.tasks_made in a.none_given task index (omega (arith, made))))
+
+  counts_given : (u : ℕ) (x : SpaceView) → space_in more_spaces u ≡ Some x → GivenAgrees s.profile x.given (s.given u)
+  counts_given u x is = elim (eqb_tells u task) [
+    | inl h ↦ subst (λ (k : ℕ). GivenAgrees s.profile x.given (s.given k)) (sym h.1)
+        (subst (λ (y : SpaceView). GivenAgrees s.profile y.given (s.given task))
+        (same_found (space_in more_spaces task) (no_names w.profile) x (space-push_same w.spaces (no_names w.profile)) (subst (λ (k : ℕ). space_in more_spaces k ≡ Some x) h.1 is)) own_counts)
+    | inr h ↦ a.counts_given u x (sym (space-push_other w.spaces (no_names w.profile) u h.1) ∙ is)
+  ]
 
   -- no name stood for anything
   nothing : (n : ℕ) → map.get (s.naming task) n ≡ None
@@ -84,15 +100,17 @@ module _ (w : WorldView) (s : State) (a : Agrees w s) where
   task_agrees = record {
     spaces = record {
       live_task = live_task;
-      tasks_made = length-append w.spaces (Some no_names ∷ []) ∙ omega arith;
+      tasks_made = length-append w.spaces (Some (no_names w.profile) ∷ []) ∙ omega arith;
       naming = λ u n. each (λ _ o m. map.get m n ≡ option_map target_of (entry_in o n)) (map.get-empty nat_cmp n ∙ sym (ap (option_map target_of) (map.get-empty nat_cmp n))) (λ u. a.naming u n) u;
       names_kept = each (λ _ o m. (x : SpaceView) → o ≡ Some x → map.len x.names ≡ map.len m)
-          (λ x is. ap (λ (y : SpaceView). map.len y.names) (same_found (Some no_names) x no_names is refl) ∙ map.len-empty nat_cmp Entry ∙ sym (map.len-empty nat_cmp Target)) a.names_kept;
-      counted = each (λ _ o m. (n : ℕ) (e : Entry) → entry_in o n ≡ Some e → HasCount e) (λ n e is. absurd (none_under n e is)) a.counted;
-      is_first = a.is_first;
+          (λ x is. ap (λ (y : SpaceView). map.len y.names) (same_found (Some (no_names w.profile)) x (no_names w.profile) is refl) ∙ map.len-empty nat_cmp Entry ∙ sym (map.len-empty nat_cmp Target)) a.names_kept;
+      counted = each (λ _ o m. (n : ℕ) (e : Entry) → entry_in o n ≡ Some e → HasCount e) (λ n e is. absurd (none_under w.profile n e is)) a.counted;
+      profiles = a.profiles;
+      counts_given = counts_given;
+      none_given = λ u index unmade. let made = a.tasks_made in a.none_given u index (omega (arith, unmade, made));
     };
     rights = record {
-      references = each (λ u o m. (n : ℕ) (e : Entry) (p : ℕ) → entry_in o n ≡ Some e → port_named e ≡ Some p → (held s u receive p ≡ one_if (has_receive e)) × (held s u send p ≡ send_references e)) (λ n e p is. absurd (none_under n e is)) a.references;
+      references = each (λ u o m. (n : ℕ) (e : Entry) (p : ℕ) → entry_in o n ≡ Some e → port_named e ≡ Some p → (held s u receive p ≡ one_if (has_receive e)) × (held s u send p ≡ send_references e)) (λ n e p is. absurd (none_under w.profile n e is)) a.references;
     };
     live_port = a.live_port;
     ports_made = a.ports_made;
@@ -108,15 +126,15 @@ pub pushed_or_not : (spaces after : List (Option SpaceView)) (ports : PortsView 
     (came : Bool) → after ≡ (if came then spaces ++ Some new ∷ [] else spaces) → AreGiven after ports
 pushed_or_not spaces after ports g new none true is =
     subst (λ (xs : List (Option SpaceView)). AreGiven xs ports) (sym is)
-    (given_pushed spaces ports g new (λ name e p found. absurd (none_under name e (ap (λ m. map.get m name) (sym none) ∙ found))))
+    (given_pushed spaces ports g new (λ name e p found. absurd (none_under One name e (ap (λ m. map.get m name) (sym none) ∙ found))))
 pushed_or_not spaces after ports g new none false is = subst (λ (xs : List (Option SpaceView)). AreGiven xs ports) (sym is) g
 
 -- the new task has no receive right
-task_holders : (w : WorldView) → HoldersAgree w → HoldersAgree (record w { spaces = w.spaces ++ Some no_names ∷ [] })
-task_holders w h = holders_pushed w (record w { spaces = w.spaces ++ Some no_names ∷ [] }) h no_names refl (λ n. map.get-empty {X = Entry} nat_cmp n) (same_holders w.ports.ports)
+task_holders : (w : WorldView) → HoldersAgree w → HoldersAgree (record w { spaces = w.spaces ++ Some (no_names w.profile) ∷ [] })
+task_holders w h = holders_pushed w (record w { spaces = w.spaces ++ Some (no_names w.profile) ∷ [] }) h (no_names w.profile) refl (λ n. map.get-empty {X = Entry} nat_cmp n) (same_holders w.ports.ports)
 
-pub task_created : (w : WorldView) (task : ℕ) (new : WorldView) → length w.spaces < most_tasks → task ≡ length w.spaces → new ≡ record w { spaces = w.spaces ++ Some no_names ∷ [] } → Completes w Event.TaskCreate (Reply.Task task) new
-task_created w task new few is made = rw (is, made) (done w Event.TaskCreate (Reply.Task (length w.spaces)) (record w { spaces = w.spaces ++ Some no_names ∷ [] }) tt
+pub task_created : (w : WorldView) (task : ℕ) (new : WorldView) → length w.spaces < most_tasks → task ≡ length w.spaces → new ≡ record w { spaces = w.spaces ++ Some (no_names w.profile) ∷ [] } → Completes w Event.TaskCreate (Reply.Task task) new
+task_created w task new few is made = rw (is, made) (done w Event.TaskCreate (Reply.Task (length w.spaces)) (record w { spaces = w.spaces ++ Some (no_names w.profile) ∷ [] }) tt
     record { allowed = λ s sh. ((λ many. let m = sh.agrees.tasks_made in omega (arith, many, m, few)), tt) }
     (λ now s sh. record {
       mid = with_task w s sh.agrees;
@@ -230,9 +248,9 @@ module _ (w : WorldView) (s : State) (a : Agrees w s) (l : IsLawful s) where
 
     pub allocated_agrees : Agrees (record w { spaces = slice_set w.spaces task (Some own); ports = more_ports; ledger = more_counts }) t
     allocated_agrees = record {
-      spaces = spaces_agree w.spaces task space own there s.live_task s.tasks_made s.naming t.naming a.spaces
+      spaces = spaces_agree w.spaces task space own there s.live_task s.tasks_made s.naming t.naming s.given s.given a.spaces
           (subst (NamesAgree own.names) (sym (at_own s.naming task _)) (put_names space.names (s.naming task) (own_names w s a task space there) name (Some right) (of_some right HasCount tt)))
-          (at_other s.naming task _);
+          (a.counts_given task space there) (at_other s.naming task _) (λ u not. refl);
       rights = references_agree w.spaces task space own there s.ledger t.ledger a.rights (put_rights space.names task t.ledger old_rights name (Some right) new_rights) others_hold;
       live_port = each_put w.ports.ports new (Some (first_port task)) (λ q o. is_some o ≡ t.live_port q) (sym (at_own s.live_port new true)) (λ q not. a.live_port q ∙ sym (at_other s.live_port new true q not));
       ports_made = ap (λ (n : ℕ). n + 1) a.ports_made;

@@ -65,6 +65,7 @@ pub fn allocate(world: &mut World, task: TaskId, right: u32) -> Result<Reply, Co
     world.reserve_names(task, 1)?;
     let name = world.space(task).fresh();
     add_right(world, task, made, name)?;
+    world.count_name(task, name);
     Ok(Reply::Name(name))
 }
 

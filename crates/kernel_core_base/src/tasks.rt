@@ -49,10 +49,11 @@ pub fn check_create_task(world: &World) -> Result<(), KernReturn>
 
 // One task more, with no names.
 fn push_task(world: &mut World, alloc: Global) -> Result<(), KernReturn>
-    ensures ok { OnOk result (world.new ≡ record world.old { spaces = world.old.spaces ++ Some no_names ∷ [] }) }
+    ensures ok { OnOk result (world.new ≡ record world.old { spaces = world.old.spaces ++ Some (no_names world.old.profile) ∷ [] }) }
     ensures err { IfErr result (λ code. (code ≡ kern.ResourceShortage) × (world.new ≡ world.old)) }
 {
-    match world.spaces.push(Some(Space::new(alloc))) {
+    let space = Space::new(alloc, world.has_generations());
+    match world.spaces.push(Some(space)) {
         Ok(()) => Ok(()),
         Err(_) => Err(KernReturn::ResourceShortage),
     }

@@ -6,6 +6,7 @@ use lib.ListN.{get_elem?}
 use Rattle.atomic_table.specs.Seated.{TableId}
 use Rattle.std.proofs.Common.{eq-eqb, ne_eqb}
 use Rattle.kernel_lock.specs.declared.entry.Entry.{Entry}
+use Rattle.mach_types.specs.declared.profiles.Profile.{Profile}
 use Rattle.mach_types.specs.declared.calls.Event.{Event}
 use Rattle.mach_types.specs.declared.calls.Reply.{Reply}
 use Rattle.kernel_lock.specs.History.{Legal, StartsWith, keep_if, calls_by, CountsFit, Known, Extends, Recorded, Stepped, Called, entry}
@@ -121,10 +122,11 @@ called_of before after v w event (Reply.TooLarge a) made = made.extends
 called_of before after v w event Reply.NoRecord made = made.pass
 
 -- what a pass has seen goes on to the whole history, and then its call
-pub extends : (table : TableId) (log seen now : List Entry) (caller : ℕ) (e : Entry) → e.caller ≡ caller → StartsWith log seen → calls_by caller log ≡ calls_by caller seen → now ≡ log ++ e ∷ [] → Legal now
-    → Extends (record { table = table; caller = caller; seen = seen }) e (record { table = table; caller = caller; seen = now })
-extends table log seen now caller e own begun mine is legal = record {
+pub extends : (table : TableId) (log seen now : List Entry) (profile : Profile) (caller : ℕ) (e : Entry) → e.caller ≡ caller → StartsWith log seen → calls_by caller log ≡ calls_by caller seen → now ≡ log ++ e ∷ [] → Legal profile now
+    → Extends (record { table = table; profile = profile; caller = caller; seen = seen }) e (record { table = table; profile = profile; caller = caller; seen = now })
+extends table log seen now profile caller e own begun mine is legal = record {
   table = refl;
+  profile = refl;
   caller = refl;
   between = begun.0;
   seen = is ∙ ap (λ l. l ++ e ∷ []) begun.1;

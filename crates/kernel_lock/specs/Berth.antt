@@ -5,9 +5,10 @@ use mathlib.Core.Option.{some}
 use Rattle.atomic_table.specs.Table.{State}
 use Rattle.kernel_lock.specs.Replays.{Stored}
 
--- the kernel k is tied to the board that the first one was tied to, and keeps entries where that one did
+-- the kernel k is tied to the board that the first one was tied to, goes by its profile, and keeps entries where that one did
 pub record IsLike (first k : Stored) : Type 0 where
   pub table : k.table ≡ first.table
+  pub profile : k.profile ≡ first.profile
   pub keeps : k.keeps ≡ first.keeps
 
 module _ {K : Type 0} where

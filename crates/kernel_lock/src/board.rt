@@ -5,6 +5,7 @@ ghost use Rattle.kernel_lock.specs.Views.{desk_view, pass_view};
 
 use crate::entry::Entry;
 use atomic_table::{Join, Play, Seat, Split, Table, TableRule};
+use mach_types::Profile;
 use std::alloc::{AllocError, Global};
 use std::collections::LinkedList;
 use std::marker::Model;
@@ -18,18 +19,21 @@ pub struct View {
     pub mine: LinkedList<Entry>,
     pub seen: LinkedList<Entry>,
     pub told: LinkedList<Entry>,
+    pub knows: bool,
+    pub profile: Profile,
+    pub told_profile: Profile,
 }
 
 pub struct Law;
 
-impl TableRule<Entry, View, ()> for Law {
+impl TableRule<Entry, View, Profile> for Law {
     ghost use Rattle.std.specs.Prelude.{[]};
     ghost use Rattle.kernel_lock.specs.Views.{desk_view};
     ghost use Rattle.kernel_lock.specs.Table.{Kept};
 
-    ghost holds = { λ _ s. Kept s };
+    ghost holds = { Kept };
 
-    ghost first = { λ _. desk_view [] 0 };
+    ghost first = { λ profile. desk_view profile [] 0 };
 }
 
 pub struct Look;
@@ -104,11 +108,11 @@ impl Split<View> for NewPass {
 pub struct NewWatch;
 
 impl Split<View> for NewWatch {
-    ghost use Rattle.kernel_lock.specs.Views.{nobody};
+    ghost use Rattle.kernel_lock.specs.Views.{new_watch};
 
     ghost left = { λ v. v };
 
-    ghost right = { λ v. nobody };
+    ghost right = { new_watch };
 }
 
 /// A copy of what a seat has seen, and a watch that is told of it.
@@ -130,7 +134,7 @@ impl Join<View> for Tell {
     ghost spent = { nobody };
 }
 
-pub type Row = Table<Entry, View, (), Law, Global>;
+pub type Row = Table<Entry, View, Profile, Law, Global>;
 
 pub type Place = Seat<Entry, View>;
 
@@ -155,7 +159,7 @@ impl Model for Board {
 
 /// A reader of the history's length, which has seen a beginning of the history.
 ///
-/// To contracts it is its board and what it has seen.
+/// To contracts it is its board, the profile of the history, and what it has seen.
 #[derive(Drop)]
 pub struct Watch {
     pub(crate) seat: Place,
@@ -168,28 +172,31 @@ impl Model for Watch {
 
     ghost Value = { Watched };
 
-    ghost view = { λ w. record { table = w.seat.table_id; log = w.seat.me.0.seen } };
+    ghost view = { λ w. record { table = w.seat.table_id; profile = w.seat.me.0.profile; log = w.seat.me.0.seen } };
 
-    ghost invariant = { λ w. w.seat.me ≡ (watch_view w.seat.me.0.seen [], []) };
+    ghost invariant = { λ w. w.seat.me ≡ (watch_view w.seat.me.0.profile w.seat.me.0.seen, []) };
 }
 
 impl Board {
-    pub(crate) fn open(alloc: Global) -> Result<(Board, Place), AllocError>
-        ensures { IfOk result (λ r. (r.1.table_id ≡ r.0) × (r.1.me ≡ (desk_view [] 0, []))) }
+    // The board of a kernel of this profile, and the lock's seat.
+    pub(crate) fn open(alloc: Global, profile: Profile) -> Result<(Board, Place), AllocError>
+        ensures { IfOk result (λ r. (r.1.table_id ≡ r.0) × (r.1.me ≡ (desk_view profile [] 0, []))) }
     {
-        let (table, desk) = Row::of_words(alloc, &[0], &())?;
+        let (table, desk) = Row::of_words(alloc, &[0], &profile)?;
         Ok((Board { table }, desk))
     }
 
     // The lock's seat takes the pass in, publishes its call and gives it back.
     pub(crate) fn publish(&self, desk: &mut Place, pass: &mut Place, count: u64, entry: &Entry)
-        requires desk { (desk.old.table_id ≡ self.now) × (desk.old.me ≡ (desk_view desk.old.me.0.seen desk.old.me.0.made, [])) }
-        requires pass { (pass.old.table_id ≡ self.now) × (pass.old.me ≡ (pass_view entry.now.caller pass.old.me.0.mine pass.old.me.0.seen, [])) }
+        requires desk { (desk.old.table_id ≡ self.now) × (desk.old.me ≡ (desk_view desk.old.me.0.profile desk.old.me.0.seen desk.old.me.0.made, [])) }
+        requires pass { (pass.old.table_id ≡ self.now) × (pass.old.me ≡ (pass_view pass.old.me.0.profile entry.now.caller pass.old.me.0.mine pass.old.me.0.seen, [])) }
         requires count { length desk.old.me.0.seen ≡ count }
         requires room { count < 2 ^ 63 }
-        requires legal { Legal (desk.old.me.0.seen ++ entry.now ∷ []) }
-        ensures desk { (desk.new.table_id ≡ self.now) × (desk.new.me ≡ (desk_view (desk.old.me.0.seen ++ entry.now ∷ []) desk.old.me.0.made, [])) }
-        ensures pass { (pass.new.table_id ≡ self.now) × (pass.new.me ≡ (pass_view entry.now.caller (pass.old.me.0.mine ++ entry.now ∷ []) (desk.old.me.0.seen ++ entry.now ∷ []), [])) }
+        requires legal { Legal desk.old.me.0.profile (desk.old.me.0.seen ++ entry.now ∷ []) }
+        ensures desk { (desk.new.table_id ≡ self.now) × (desk.new.me ≡ (desk_view desk.old.me.0.profile (desk.old.me.0.seen ++ entry.now ∷ []) desk.old.me.0.made, [])) }
+        ensures pass { (pass.new.table_id ≡ self.now)
+            × (pass.new.me ≡ (pass_view pass.old.me.0.profile entry.now.caller (pass.old.me.0.mine ++ entry.now ∷ []) (desk.old.me.0.seen ++ entry.now ∷ []), [])) }
+        ensures profile { pass.old.me.0.profile ≡ desk.old.me.0.profile }
         ensures seen { StartsWith desk.old.me.0.seen pass.old.me.0.seen }
         ensures mine { calls_by entry.now.caller desk.old.me.0.seen ≡ pass.old.me.0.mine }
         ensures made { entry.now.caller < desk.old.me.0.made }
@@ -204,10 +211,11 @@ impl Board {
 
     // The lock's seat takes the pass in, looks, and gives it back: the pass has then seen the whole history.
     pub(crate) fn show(&self, desk: &mut Place, pass: &mut Place)
-        requires desk { (desk.old.table_id ≡ self.now) × (desk.old.me ≡ (desk_view desk.old.me.0.seen desk.old.me.0.made, [])) }
-        requires pass { (pass.old.table_id ≡ self.now) × (pass.old.me ≡ (pass_view pass.old.me.0.caller pass.old.me.0.mine pass.old.me.0.seen, [])) }
+        requires desk { (desk.old.table_id ≡ self.now) × (desk.old.me ≡ (desk_view desk.old.me.0.profile desk.old.me.0.seen desk.old.me.0.made, [])) }
+        requires pass { (pass.old.table_id ≡ self.now) × (pass.old.me ≡ (pass_view pass.old.me.0.profile pass.old.me.0.caller pass.old.me.0.mine pass.old.me.0.seen, [])) }
         ensures desk { (desk.new.table_id ≡ self.now) × (desk.new.me ≡ desk.old.me) }
-        ensures pass { (pass.new.table_id ≡ self.now) × (pass.new.me ≡ (pass_view pass.old.me.0.caller pass.old.me.0.mine desk.old.me.0.seen, [])) }
+        ensures pass { (pass.new.table_id ≡ self.now) × (pass.new.me ≡ (pass_view pass.old.me.0.profile pass.old.me.0.caller pass.old.me.0.mine desk.old.me.0.seen, [])) }
+        ensures profile { pass.old.me.0.profile ≡ desk.old.me.0.profile }
         ensures seen { StartsWith desk.old.me.0.seen pass.old.me.0.seen }
         ensures mine { calls_by pass.old.me.0.caller desk.old.me.0.seen ≡ pass.old.me.0.mine }
     {
@@ -223,8 +231,9 @@ impl Board {
     pub fn events(&self, watch: &mut Watch) -> u64
         requires { watch.old.table ≡ self.now }
         ensures table { watch.new.table ≡ self.now }
+        ensures profile { watch.new.profile ≡ watch.old.profile }
         ensures length { result ≡ length watch.new.log }
-        ensures legal { Legal watch.new.log }
+        ensures legal { Legal watch.new.profile watch.new.log }
         ensures begins { StartsWith watch.new.log watch.old.log }
     {
         self.table.shared.load::<Look>(&mut watch.seat, 0)

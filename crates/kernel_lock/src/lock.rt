@@ -1,11 +1,12 @@
 //! The kernel behind its lock, with its history.
 ghost use Rattle.std.specs.Prelude.{◌≡◌, ◌≢◌, ◌+◌, ◌<◌, ◌≤◌, ◌^◌, ℕ, true, false, [], ◌∷◌, length, None, IfOk, IfErr, slice_index_or, slice_set};
 ghost use Rattle.mach_types.specs.declared.calls.Reply.{Reply as AnyReply};
-ghost use Rattle.mach_model.specs.Machine.{opening};
+ghost use Rattle.mach_types.specs.declared.profiles.Profile.TheVariants.{One, Three};
+ghost use Rattle.mach_model.specs.State.{opening_in};
 ghost use Rattle.copyin_base.specs.Shows.{Shows};
 ghost use Rattle.kernel_lock.specs.History.{Legal, StartsWith, Stepped, Called, calls_by};
 ghost use Rattle.kernel_lock.specs.Berth.{IsLike};
-ghost use Rattle.kernel_lock.specs.Replays.{Replays, kept_of};
+ghost use Rattle.kernel_lock.specs.Replays.{Replays, IsSameButPasses, IsNewPass, kept_of};
 ghost use Rattle.kernel_lock.specs.Views.{desk_view};
 
 use crate::berth::{Berth, Hand};
@@ -13,7 +14,7 @@ use crate::board::{Board, Look, NewPass, NewWatch, Place, Tell, Watch};
 use crate::entries::Entries;
 use crate::entry::Entry;
 use kernel_core::Kernel;
-use mach_types::{Event, Reply};
+use mach_types::{Event, Profile, Reply};
 use std::alloc::{AllocError, Global};
 use std::marker::Model;
 use std::sync::{Mutex, MutexGuard, Wait};
@@ -26,7 +27,7 @@ const MOST_CALLS: u64 = 1 << 63;
 /// A caller: its number, how many of its calls were recorded, and what it has seen of the history.
 ///
 /// It is used with the [`Shared`] that made it and with that one's board: `requires` ask for it. To contracts
-/// it is its board, its number and what it has seen.
+/// it is its board, the profile of the history, its number and what it has seen.
 #[derive(Drop)]
 pub struct Pass {
     caller: u64,
@@ -41,17 +42,18 @@ impl Model for Pass {
 
     ghost Value = { Known };
 
-    ghost view = { λ p. record { table = p.seat.table_id; caller = p.caller; seen = p.seat.me.0.seen } };
+    ghost view = { λ p. record { table = p.seat.table_id; profile = p.seat.me.0.profile; caller = p.caller; seen = p.seat.me.0.seen } };
 
-    ghost invariant = { λ p. (p.seat.me ≡ (pass_view p.caller (calls_by p.caller p.seat.me.0.seen) p.seat.me.0.seen, [])) × (p.count ≡ length (calls_by p.caller p.seat.me.0.seen)) };
+    ghost invariant = { λ p. (p.seat.me ≡ (pass_view p.seat.me.0.profile p.caller (calls_by p.caller p.seat.me.0.seen) p.seat.me.0.seen, []))
+        × (p.count ≡ length (calls_by p.caller p.seat.me.0.seen)) };
 }
 
 /// The kernel, with the history that led to it, and with the count of each caller's calls.
 ///
-/// The type keeps that the history's events and replies are a run of the machine to a state that this
-/// kernel shows, and that each count is that of the caller's entries. The entries themselves are kept, or they
-/// aren't, from the first call on. To contracts it is its board, the history, whether its entries are kept, how many
-/// passes were made, and the kernel's tables and turns.
+/// The type keeps that the history's events and replies are a run of the machine by the kernel's profile, to a state
+/// that this kernel shows, and that each count is that of the caller's entries. The entries themselves are kept, or
+/// they aren't, from the first call on. To contracts it is its board, the profile, the history, whether its entries are
+/// kept, how many passes were made, and the kernel's tables and turns.
 #[derive(Drop)]
 pub struct LockedKernel {
     alloc: Global,
@@ -67,33 +69,37 @@ impl Model for LockedKernel {
     ghost use Rattle.kernel_lock.specs.History.{CountsFit};
     ghost use Rattle.kernel_lock.specs.Replays.{Stored, stored_code, Replays, kept_of};
     ghost use Rattle.atomic_table.specs.Seated.{table_id_coded};
+    ghost use Rattle.mach_types.specs.contracts.profiles.Profile as profile_of;
     ghost use Rattle.kernel_lock.specs.contracts.entry.Entry as entry;
     ghost use Rattle.kernel_core.specs.contracts.kernel.Kernel as machine;
     ghost use Rattle.kernel_lock.specs.Views.{desk_view};
 
     ghost Value = { Stored };
 
-    ghost coded = { stored_code table_id_coded entry.the_row.coded machine.the_row.coded };
+    ghost coded = { stored_code table_id_coded profile_of.the_row.coded entry.the_row.coded machine.the_row.coded };
 
-    ghost view = { λ k. record { table = k.seat.table_id; log = k.seat.me.0.seen; keeps = k.entries.keeps; passes = length k.counts.items; kernel = k.kernel } };
+    ghost view = { λ k. record { table = k.seat.table_id; profile = k.seat.me.0.profile; log = k.seat.me.0.seen; keeps = k.entries.keeps; passes = length k.counts.items; kernel = k.kernel } };
 
-    ghost invariant = { λ k. Replays k.seat.me.0.seen k.kernel × CountsFit k.counts.items k.seat.me.0.seen × (k.seat.me ≡ (desk_view k.seat.me.0.seen (length k.counts.items), []))
+    ghost invariant = { λ k. Replays k.seat.me.0.profile k.seat.me.0.seen k.kernel × CountsFit k.counts.items k.seat.me.0.seen
+        × (k.seat.me ≡ (desk_view k.seat.me.0.profile k.seat.me.0.seen (length k.counts.items), []))
         × (k.events ≡ length k.seat.me.0.seen) × (k.entries.list.items ≡ kept_of k.entries.keeps k.seat.me.0.seen) };
 }
 
 impl LockedKernel {
-    // A kernel in which nothing was made yet, with the empty history and no callers. Takes no memory.
-    fn new(alloc: Global, seat: Place, keeps: bool) -> LockedKernel
-        requires { seat.me ≡ (desk_view [] 0, []) }
+    // A kernel of this profile in which nothing was made yet, with the empty history and no callers. Takes no memory.
+    fn new(alloc: Global, seat: Place, profile: Profile, keeps: bool) -> LockedKernel
+        requires one_set { profile ≢ Three }
+        requires seat { seat.me ≡ (desk_view profile [] 0, []) }
         ensures tied { result.table ≡ seat.table_id }
+        ensures of_profile { result.profile ≡ profile }
         ensures keeps { result.keeps ≡ keeps }
         ensures empty { result.log ≡ [] }
         ensures none { result.passes ≡ 0 }
-        ensures opening { Shows result.kernel.tables opening }
+        ensures opening { Shows result.kernel.tables (opening_in profile) }
     {
         LockedKernel {
             alloc,
-            kernel: Kernel::new(alloc),
+            kernel: Kernel::with_profile(alloc, profile),
             entries: Entries::new(alloc, keeps),
             events: 0,
             counts: Vec::new(alloc),
@@ -101,11 +107,11 @@ impl LockedKernel {
         }
     }
 
-    /// The history's entries, oldest first; none where they aren't kept. The history is a run to a state that the
-    /// kernel shows. Constant time.
+    /// The history's entries, oldest first; none where they aren't kept. The history is a run by the kernel's profile,
+    /// to a state that the kernel shows. Constant time.
     pub fn entries(&self) -> &[Entry]
         ensures stored { result.now ≡ kept_of self.now.keeps self.now.log }
-        ensures replays { Replays self.now.log self.now.kernel }
+        ensures replays { Replays self.now.profile self.now.log self.now.kernel }
     {
         self.entries.as_slice()
     }
@@ -136,6 +142,7 @@ impl LockedKernel {
         ensures tied { (self.new.table ≡ board.now) × (pass.new.table ≡ board.now) }
         ensures step { Stepped self.old.log self.new.log pass.old pass.new event result }
         ensures same { self.new.keeps ≡ self.old.keeps }
+        ensures profile { (self.new.profile ≡ self.old.profile) × (result ≢ AnyReply.NoRecord → pass.old.profile ≡ self.old.profile) }
         ensures passes { self.new.passes ≡ self.old.passes }
         ensures unmade { result ≡ AnyReply.NoRecord → self.new ≡ self.old }
         ensures recorded { self.old.keeps ≡ false → length self.old.log < 2 ^ 63 → result ≢ AnyReply.NoRecord }
@@ -163,8 +170,8 @@ impl LockedKernel {
 
     fn new_pass(&mut self, board: &Board) -> Result<Pass, AllocError>
         requires { self.old.table ≡ board.now }
-        ensures same { (self.new.table ≡ self.old.table) × (self.new.log ≡ self.old.log) × (self.new.keeps ≡ self.old.keeps) × (self.new.kernel ≡ self.old.kernel) }
-        ensures new { IfOk result (λ p. (p.table ≡ board.now) × (p.caller ≡ self.old.passes) × (p.seen ≡ []) × (self.new.passes ≡ self.old.passes + 1)) }
+        ensures same { IsSameButPasses self.old self.new }
+        ensures new { IfOk result (λ p. IsNewPass self.old p × (self.new.passes ≡ self.old.passes + 1)) }
         ensures none { IfErr result (λ _. self.new.passes ≡ self.old.passes) }
     {
         let caller = self.counts.len() as u64;
@@ -183,6 +190,7 @@ impl LockedKernel {
         requires { (self.old.table ≡ board.now) × (pass.old.table ≡ board.now) }
         ensures same { self.new ≡ self.old }
         ensures tied { pass.new.table ≡ board.now }
+        ensures profile { (pass.new.profile ≡ self.old.profile) × (pass.old.profile ≡ self.old.profile) }
         ensures caller { pass.new.caller ≡ pass.old.caller }
         ensures whole { pass.new.seen ≡ self.old.log }
         ensures begins { StartsWith self.old.log pass.old.seen }
@@ -194,7 +202,7 @@ impl LockedKernel {
     fn new_watch(&mut self, board: &Board) -> Watch
         requires { self.old.table ≡ board.now }
         ensures same { self.new ≡ self.old }
-        ensures new { (result.table ≡ board.now) × (result.log ≡ []) }
+        ensures new { (result.table ≡ board.now) × (result.profile ≡ self.old.profile) × (result.log ≡ []) }
     {
         let seat = board.table.shared.split_seat::<NewWatch>(&mut self.seat);
         Watch { seat }
@@ -203,7 +211,7 @@ impl LockedKernel {
 
 /// A kernel behind its lock, for many threads, and the board beside it.
 ///
-/// To contracts it is which board that is, and whether the history's entries are kept.
+/// To contracts it is which board that is, the kernel's profile, and whether the history's entries are kept.
 #[derive(Drop)]
 pub struct Shared {
     gate: Mutex<()>,
@@ -217,7 +225,7 @@ impl Model for Shared {
 
     ghost Value = { SharedView };
 
-    ghost view = { λ s. record { table = s.board; keeps = s.berth.table.shared.key.value.keeps } };
+    ghost view = { λ s. record { table = s.board; profile = s.berth.table.shared.key.value.profile; keeps = s.berth.table.shared.key.value.keeps } };
 
     ghost invariant = { λ s. s.berth.table.shared.key.value.table ≡ s.board };
 }
@@ -251,7 +259,7 @@ impl<'a> Held<'a> {
     /// The history's entries, as [`LockedKernel::entries`] gives them: all of them where its [`Shared`] keeps them.
     pub fn entries(&self) -> &[Entry]
         ensures stored { result.now ≡ kept_of self.now.kernel.keeps self.now.kernel.log }
-        ensures replays { Replays self.now.kernel.log self.now.kernel.kernel }
+        ensures replays { Replays self.now.kernel.profile self.now.kernel.log self.now.kernel.kernel }
     {
         self.kernel.entries()
     }
@@ -277,6 +285,7 @@ impl<'a> Held<'a> {
         ensures tied { (self.new.kernel.table ≡ board.now) × (pass.new.table ≡ board.now) }
         ensures step { Stepped self.old.kernel.log self.new.kernel.log pass.old pass.new event result }
         ensures same { self.new.kernel.keeps ≡ self.old.kernel.keeps }
+        ensures profile { (self.new.kernel.profile ≡ self.old.kernel.profile) × (result ≢ AnyReply.NoRecord → pass.old.profile ≡ self.old.kernel.profile) }
         ensures passes { self.new.kernel.passes ≡ self.old.kernel.passes }
         ensures unmade { result ≡ AnyReply.NoRecord → self.new.kernel ≡ self.old.kernel }
         ensures recorded { self.old.kernel.keeps ≡ false → length self.old.kernel.log < 2 ^ 63 → result ≢ AnyReply.NoRecord }
@@ -289,9 +298,8 @@ impl<'a> Held<'a> {
     /// for its count was refused, and there is no new caller.
     pub fn pass(&mut self, board: &Board) -> Result<Pass, AllocError>
         requires { self.old.kernel.table ≡ board.now }
-        ensures same { (self.new.kernel.table ≡ self.old.kernel.table) × (self.new.kernel.log ≡ self.old.kernel.log) × (self.new.kernel.keeps ≡ self.old.kernel.keeps)
-            × (self.new.kernel.kernel ≡ self.old.kernel.kernel) }
-        ensures new { IfOk result (λ p. (p.table ≡ board.now) × (p.caller ≡ self.old.kernel.passes) × (p.seen ≡ []) × (self.new.kernel.passes ≡ self.old.kernel.passes + 1)) }
+        ensures same { IsSameButPasses self.old.kernel self.new.kernel }
+        ensures new { IfOk result (λ p. IsNewPass self.old.kernel p × (self.new.kernel.passes ≡ self.old.kernel.passes + 1)) }
         ensures none { IfErr result (λ _. self.new.kernel.passes ≡ self.old.kernel.passes) }
     {
         self.kernel.new_pass(board)
@@ -302,6 +310,7 @@ impl<'a> Held<'a> {
         requires { (self.old.kernel.table ≡ board.now) × (pass.old.table ≡ board.now) }
         ensures same { self.new.kernel ≡ self.old.kernel }
         ensures tied { pass.new.table ≡ board.now }
+        ensures profile { (pass.new.profile ≡ self.old.kernel.profile) × (pass.old.profile ≡ self.old.kernel.profile) }
         ensures caller { pass.new.caller ≡ pass.old.caller }
         ensures whole { pass.new.seen ≡ self.old.kernel.log }
         ensures begins { StartsWith self.old.kernel.log pass.old.seen }
@@ -313,34 +322,54 @@ impl<'a> Held<'a> {
     fn new_watch(&mut self, board: &Board) -> Watch
         requires { self.old.kernel.table ≡ board.now }
         ensures same { self.new.kernel ≡ self.old.kernel }
-        ensures new { (result.table ≡ board.now) × (result.log ≡ []) }
+        ensures new { (result.table ≡ board.now) × (result.profile ≡ self.old.kernel.profile) × (result.log ≡ []) }
     {
         self.kernel.new_watch(board)
     }
 }
 
 impl Shared {
-    /// A kernel in which nothing was made yet, with the empty history, whose entries will be kept. An error means
-    /// that memory for its board or its place was refused.
+    /// A kernel of the first profile: [`Shared::with_profile`].
     pub fn new(alloc: Global) -> Result<Shared, AllocError>
-        ensures { IfOk result (λ s. s.keeps ≡ true) }
+        ensures { IfOk result (λ s. (s.profile ≡ One) × (s.keeps ≡ true)) }
     {
-        Shared::keeping(alloc, true)
+        Shared::with_profile(alloc, Profile::One)
+    }
+
+    /// A kernel of the first profile, whose entries won't be kept: [`Shared::with_profile_without_entries`].
+    pub fn without_entries(alloc: Global) -> Result<Shared, AllocError>
+        ensures { IfOk result (λ s. (s.profile ≡ One) × (s.keeps ≡ false)) }
+    {
+        Shared::with_profile_without_entries(alloc, Profile::One)
+    }
+
+    /// A kernel of this profile in which nothing was made yet, with the empty history, whose entries will be kept. An
+    /// error means that memory for its board or its place was refused.
+    pub fn with_profile(alloc: Global, profile: Profile) -> Result<Shared, AllocError>
+        requires one_set { profile ≢ Three }
+        ensures { IfOk result (λ s. (s.profile ≡ profile) × (s.keeps ≡ true)) }
+    {
+        Shared::keeping(alloc, profile, true)
     }
 
     /// The same, but that the history's entries won't be kept: [`Held::entries`] is empty, and a call takes no memory
     /// for its entry. [`Held::events`], [`Board::events`] and [`Pass::tell`] work as for any kernel.
-    pub fn without_entries(alloc: Global) -> Result<Shared, AllocError>
-        ensures { IfOk result (λ s. s.keeps ≡ false) }
+    pub fn with_profile_without_entries(
+        alloc: Global,
+        profile: Profile,
+    ) -> Result<Shared, AllocError>
+        requires one_set { profile ≢ Three }
+        ensures { IfOk result (λ s. (s.profile ≡ profile) × (s.keeps ≡ false)) }
     {
-        Shared::keeping(alloc, false)
+        Shared::keeping(alloc, profile, false)
     }
 
-    fn keeping(alloc: Global, keeps: bool) -> Result<Shared, AllocError>
-        ensures { IfOk result (λ s. s.keeps ≡ keeps) }
+    fn keeping(alloc: Global, profile: Profile, keeps: bool) -> Result<Shared, AllocError>
+        requires one_set { profile ≢ Three }
+        ensures { IfOk result (λ s. (s.profile ≡ profile) × (s.keeps ≡ keeps)) }
     {
-        let (board, desk) = Board::open(alloc)?;
-        let berth = Berth::new(alloc, LockedKernel::new(alloc, desk, keeps))?;
+        let (board, desk) = Board::open(alloc, profile)?;
+        let berth = Berth::new(alloc, LockedKernel::new(alloc, desk, profile, keeps))?;
         Ok(Shared {
             gate: Mutex::new(()),
             berth,
@@ -351,6 +380,7 @@ impl Shared {
     /// The kernel, as soon as no other thread has it. May wait; takes no memory.
     pub fn lock<R: Wait>(&self, rt: &R) -> Held<'_>
         ensures tied { result.kernel.table ≡ self.entry.now.table }
+        ensures profile { result.kernel.profile ≡ self.entry.now.profile }
         ensures keeps { result.kernel.keeps ≡ self.entry.now.keeps }
     {
         let gate = self.gate.lock(rt);
@@ -371,6 +401,7 @@ impl Shared {
     /// The same, as soon as the history has a place for one more call. Waits for ever where it has 2^63 of them.
     fn lock_to_call<R: Wait>(&self, rt: &R) -> Held<'_>
         ensures tied { result.kernel.table ≡ self.entry.now.table }
+        ensures profile { result.kernel.profile ≡ self.entry.now.profile }
         ensures keeps { result.kernel.keeps ≡ self.entry.now.keeps }
         ensures place { length result.kernel.log < 2 ^ 63 }
     {
@@ -395,14 +426,14 @@ impl Shared {
     /// A new caller, which has seen nothing; callers are numbered from 0. May wait. An error means that
     /// memory for its count was refused, and there is no new caller.
     pub fn pass<R: Wait>(&self, rt: &R) -> Result<Pass, AllocError>
-        ensures { IfOk result (λ p. (p.table ≡ self.now.table) × (p.seen ≡ [])) }
+        ensures { IfOk result (λ p. (p.table ≡ self.now.table) × (p.profile ≡ self.now.profile) × (p.seen ≡ [])) }
     {
         self.lock(rt).pass(&self.board)
     }
 
     /// A new watch, which has seen nothing. May wait; takes no memory.
     pub fn watch<R: Wait>(&self, rt: &R) -> Watch
-        ensures { (result.table ≡ self.now.table) × (result.log ≡ []) }
+        ensures { (result.table ≡ self.now.table) × (result.profile ≡ self.now.profile) × (result.log ≡ []) }
     {
         self.lock(rt).new_watch(&self.board)
     }
@@ -426,9 +457,10 @@ impl Pass {
         requires { (self.old.table ≡ board.now) × (watch.old.table ≡ board.now) }
         ensures same { self.new ≡ self.old }
         ensures tied { watch.new.table ≡ board.now }
+        ensures profile { (watch.new.profile ≡ watch.old.profile) × (self.old.profile ≡ watch.old.profile) }
         ensures told { StartsWith watch.new.log self.old.seen }
         ensures begins { StartsWith watch.new.log watch.old.log }
-        ensures legal { Legal watch.new.log }
+        ensures legal { Legal watch.new.profile watch.new.log }
     {
         let shared = &board.table.shared;
         let copy = shared.split_seat::<Tell>(&mut self.seat);

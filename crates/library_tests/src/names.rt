@@ -153,7 +153,7 @@ fn come_and_go(space: &mut Space, alloc: Global) -> bool {
 
 #[test]
 fn names_come_and_go(rt: HostRuntime) {
-    let mut space = Space::new(rt.alloc());
+    let mut space = Space::new(rt.alloc(), false);
     assert!(rt; come_and_go(&mut space, rt.alloc()));
 }
 
@@ -179,6 +179,35 @@ fn is_found_renamed(space: &mut Space) -> bool {
 
 #[test]
 fn a_port_is_found_by_its_name(rt: HostRuntime) {
-    let mut space = Space::new(rt.alloc());
+    let mut space = Space::new(rt.alloc(), false);
     assert!(rt; is_found(&mut space) && is_found_renamed(&mut space));
+}
+
+/// Gives a fresh name, counts it, and puts a dead name under it, in room that was made.
+fn give(space: &mut Space) -> u32 {
+    if space.room() == 0 || space.is_full() {
+        return 0;
+    }
+    let name = space.fresh();
+    space.count(name);
+    space.insert(name, Entry::DeadName(UserRefs::one()));
+    name.number()
+}
+
+/// Whether a name that was removed doesn't come back at once, though its index does.
+fn generations_follow(space: &mut Space) -> bool {
+    space.reserve(4).is_ok()
+        && give(space) == 256
+        && give(space) == 512
+        && remove(space, 256) == Some(0x0010_0000)
+        && give(space) == 257
+        && type_of(space, 256).is_none()
+        && give(space) == 768
+        && next_name(space, 258) == Some(512)
+}
+
+#[test]
+fn a_name_of_a_generation_does_not_come_back_at_once(rt: HostRuntime) {
+    let mut space = Space::new(rt.alloc(), true);
+    assert!(rt; generations_follow(&mut space));
 }

@@ -1,7 +1,7 @@
 //! The words of the command line.
 use crate::perform::{Job, Run};
 use crate::soak::Soak;
-use mach_bench_base::{World, all_worlds};
+use mach_bench_base::{Naming, World, all_worlds};
 use mach_bench_workloads::{Workload, all_workloads};
 use std::io::Write;
 use std::time::Duration;
@@ -11,13 +11,14 @@ pub const USAGE: &str = "Workloads of Mach 3 port IPC, to measure
 
 Usage: mach_bench list
        mach_bench check
-       mach_bench run NAME [--world W] [--times N]
+       mach_bench run NAME [--world W] [--times N] [--profile P]
        mach_bench soak THREADS CALLS SECONDS SEED
        mach_bench help
 
 list   prints the workloads and the worlds
-check  makes each workload once, and the first in each world
-run    makes the cycle of one workload N times (1) in one world (small), by the clock
+check  makes each workload once in each profile, and the first in each world
+run    makes the cycle of one workload N times (1) in one world (small), by the clock,
+       on a kernel of profile P (1), 1 or 2: in 2 fresh names have a generation
 soak   makes calls drawn by the seed in so many threads (1 to 64) on one kernel, until
        there are so many or it took so long; then replays their history
 ";
@@ -107,6 +108,8 @@ enum Value {
     World,
     /// How many times.
     Times,
+    /// The profile's number.
+    Profile,
 }
 
 /// What the words after `run` say.
@@ -115,6 +118,7 @@ struct Named<'a> {
     workload: &'a str,
     world: &'a str,
     times: u32,
+    naming: Naming,
     next: Value,
 }
 
@@ -130,6 +134,11 @@ impl<'a> Named<'a> {
             }),
             Value::Times => Some(Named {
                 times: word.parse::<u32>().ok()?,
+                next: Value::Nothing,
+                ..self
+            }),
+            Value::Profile => Some(Named {
+                naming: naming_of(word)?,
                 next: Value::Nothing,
                 ..self
             }),
@@ -162,7 +171,21 @@ impl<'a> Named<'a> {
         let Some(world) = world_named(self.world) else {
             return Err(Refusal::NoWorld(self.world));
         };
-        Ok(Job::Run(Run { workload, world }, self.times))
+        let run = Run {
+            workload,
+            world,
+            naming: self.naming,
+        };
+        Ok(Job::Run(run, self.times))
+    }
+}
+
+/// How fresh names are made in the profile of this number.
+fn naming_of(profile: &str) -> Option<Naming> {
+    match profile {
+        "1" => Some(Naming::Plain),
+        "2" => Some(Naming::Tagged),
+        _ => None,
     }
 }
 
@@ -171,6 +194,7 @@ fn value_after(word: &str) -> Value {
     match word {
         "--world" => Value::World,
         "--times" => Value::Times,
+        "--profile" => Value::Profile,
         _ => Value::Nothing,
     }
 }
@@ -181,6 +205,7 @@ fn read_run<'a>(words: &'a [String]) -> Result<Job, Refusal<'a>> {
         workload: "",
         world: "small",
         times: 1,
+        naming: Naming::Plain,
         next: Value::Nothing,
     };
     for word in words {

@@ -1,5 +1,5 @@
 //! Calls drawn at random, most of which can be done.
-use mach_bench_base::{Body, Label, Message, Round};
+use mach_bench_base::{Body, Label, Message, Naming, Round};
 use mach_types::{Bytes, Event, Name, TaskId};
 use std::alloc::{AllocError, Global};
 
@@ -151,7 +151,7 @@ impl Draw {
             reply,
             body,
         };
-        message.bytes(alloc, Round::first())
+        message.bytes(alloc, Round::first(Naming::Plain))
     }
 
     /// What stands behind the header.

@@ -3,7 +3,7 @@ ghost use Rattle.std.specs.Prelude.{◌≤◌, ◌≡◌};
 
 use crate::command_line::USAGE;
 use crate::soak::{Soak, Soaked, make_soak};
-use mach_bench_base::{Bench, OPENING, SMALL, Stop, World, all_worlds};
+use mach_bench_base::{Bench, Naming, OPENING, SMALL, Stop, World, all_worlds};
 use mach_bench_workloads::{SEND_RECEIVE, Workload, all_workloads};
 use mach_msg_threads::RunFault;
 use std::alloc::{AllocError, AllocFailed};
@@ -21,7 +21,7 @@ pub enum Job {
     Help,
     /// Prints the names of the workloads and the worlds.
     List,
-    /// Makes each workload once in the small world, and the first in each world.
+    /// Makes each workload once in each profile in the small world, and the first in each world in profile 1.
     Check,
     /// Makes one workload in one world, so many times, by the clock.
     Run(Run, u32),
@@ -36,6 +36,16 @@ pub enum Cycles {
     Once,
     /// So many, by the clock.
     Timed(u32),
+}
+
+impl Cycles {
+    /// How many they are.
+    fn count(self) -> u32 {
+        match self {
+            Cycles::Once => 1,
+            Cycles::Timed(times) => times,
+        }
+    }
 }
 
 /// What came of cycles.
@@ -54,11 +64,17 @@ pub struct Run {
     pub workload: &'static Workload,
     /// The world.
     pub world: &'static World,
+    /// How the kernel makes fresh names, as its profile says.
+    pub naming: Naming,
 }
 
 impl fmt::Display for Run {
     fn fmt<W: fmt::Write>(&self, f: &mut fmt::Formatter<W>) -> fmt::Result {
-        write!(f, "{} in {}", self.workload.name, self.world.name)
+        write!(f, "{} in {}", self.workload.name, self.world.name)?;
+        match self.naming {
+            Naming::Plain => Ok(()),
+            Naming::Tagged => f.write_str(", profile 2"),
+        }
     }
 }
 
@@ -199,16 +215,26 @@ fn tell_name<W: Write>(before: &str, name: &str, out: &mut W) -> Result<(), Faul
     written(writeln!(out, "{before}{name}"))
 }
 
-/// Makes each workload once in the small world, and the first in each other; no time is told.
+/// Makes each workload once in each profile in the small world, and the first in each other world in profile 1; no
+/// time is told.
 fn check<R: Clock + AllocGlobal, W: Write>(rt: &R, out: &mut W) -> Result<(), Fault> {
-    check_workloads(rt, out)?;
-    check_worlds(rt, out)
+    check_workloads(rt, Naming::Plain, out)?;
+    check_worlds(rt, out)?;
+    check_workloads(rt, Naming::Tagged, out)
 }
 
-fn check_workloads<R: Clock + AllocGlobal, W: Write>(rt: &R, out: &mut W) -> Result<(), Fault> {
+fn check_workloads<R: Clock + AllocGlobal, W: Write>(
+    rt: &R,
+    naming: Naming,
+    out: &mut W,
+) -> Result<(), Fault> {
     for workload in all_workloads() {
-        let world = &SMALL;
-        check_one(rt, Run { workload, world }, out)?;
+        let run = Run {
+            workload,
+            world: &SMALL,
+            naming,
+        };
+        check_one(rt, run, out)?;
     }
     Ok(())
 }
@@ -216,8 +242,12 @@ fn check_workloads<R: Clock + AllocGlobal, W: Write>(rt: &R, out: &mut W) -> Res
 fn check_worlds<R: Clock + AllocGlobal, W: Write>(rt: &R, out: &mut W) -> Result<(), Fault> {
     for world in all_worlds() {
         if world.name != SMALL.name {
-            let workload = &SEND_RECEIVE;
-            check_one(rt, Run { workload, world }, out)?;
+            let run = Run {
+                workload: &SEND_RECEIVE,
+                world,
+                naming: Naming::Plain,
+            };
+            check_one(rt, run, out)?;
         }
     }
     Ok(())
@@ -282,7 +312,7 @@ fn nanoseconds_each(took: Duration, operations: u64) -> u128 {
 ///
 /// It does nothing else: each statement of a function that owns a kernel is dear to prove.
 fn make<R: Clock + AllocGlobal>(rt: &R, run: Run, cycles: Cycles) -> Result<Made, Fault> {
-    let mut bench = Bench::new(rt.alloc());
+    let mut bench = Bench::new(rt.alloc(), run.naming);
     make_on(rt, &mut bench, run, cycles)
 }
 
@@ -293,7 +323,7 @@ fn make_on<C: Clock>(
     run: Run,
     cycles: Cycles,
 ) -> Result<Made, Fault> {
-    done(prepare(bench, run), run)?;
+    done(prepare(bench, run, cycles.count()), run)?;
     let took = match cycles {
         Cycles::Once => untimed(bench, run)?,
         Cycles::Timed(times) => timed(clock, bench, run, times)?,
@@ -304,8 +334,18 @@ fn make_on<C: Clock>(
     })
 }
 
+/// Makes the kernel ready for so many cycles, and rehearses them where that is needed.
+fn prepare(bench: &mut Bench, run: Run, times: u32) -> Result<(), Stop> {
+    take_steps(bench, run)?;
+    if bench.follows_names() {
+        bench.rehearse(times)?;
+        take_steps(bench, run)?;
+    }
+    Ok(())
+}
+
 /// Makes the world and what the workload needs.
-fn prepare(bench: &mut Bench, run: Run) -> Result<(), Stop> {
+fn take_steps(bench: &mut Bench, run: Run) -> Result<(), Stop> {
     bench.take(&OPENING)?;
     bench.take(run.world.before)?;
     bench.take(run.workload.groups)?;

@@ -1,9 +1,12 @@
 //! A kernel that is made ready for a workload, and the calls to measure.
-use crate::calls::{Call, HOME, KEPT, Round};
+use crate::calls::{ASKED, Call, HOME, KEPT, Round};
 use crate::chosen::{Identities, is_chosen, next_name};
+use crate::messages::name_in_message;
+use crate::naming::Naming;
 use kernel_core::Kernel;
-use mach_types::{Bytes, Event, Name, Reply, TaskId};
-use std::alloc::{AllocError, Global};
+use mach_types::{Bytes, Event, Reply, TaskId};
+use std::alloc::{AllocError, AllocFailed, Global};
+use std::mem;
 
 /// What stops a measurement.
 #[derive(Clone, Copy)]
@@ -18,6 +21,12 @@ pub enum Stop {
 
 impl From<AllocError> for Stop {
     fn from(_: AllocError) -> Stop {
+        Stop::OutOfMemory
+    }
+}
+
+impl<T: Drop> From<AllocFailed<T>> for Stop {
+    fn from(_: AllocFailed<T>) -> Stop {
         Stop::OutOfMemory
     }
 }
@@ -40,6 +49,9 @@ pub enum Step {
     /// The cycle is made as by a caller that has bytes: a message is sent from a copy, and copied out where it
     /// is received.
     CopyCalls,
+    /// Calls of the cycle, all of which are added after this, take `Label::Returned` from the cycle's replies. So the
+    /// cycles must be rehearsed.
+    FollowNames,
 }
 
 /// Steps that are made in rounds.
@@ -51,32 +63,50 @@ pub struct Group {
     pub steps: &'static [Step],
 }
 
+/// A call of a cycle that is rehearsed, in the round in which it was added.
+#[derive(Clone, Copy)]
+struct Planned {
+    call: Call,
+    round: Round,
+}
+
 /// A kernel, with the calls of one cycle.
 #[derive(Drop)]
 pub struct Bench {
     alloc: Global,
+    naming: Naming,
     kernel: Kernel,
     made: usize,
     identities: Identities,
     /// How many of the sifted ports or sets stayed.
     kept: u32,
     round: Round,
+    /// The calls to measure: of one cycle, or of all cycles where each has names of its own.
     cycle: Vec<Event>,
     copied: bool,
+    follows: bool,
+    /// The cycle, if it is to be rehearsed.
+    plan: Vec<Planned>,
+    /// The kernel of the rehearsal. It keeps its memory, so that the one that is measured takes memory as a first one.
+    rehearsed: Option<Kernel>,
 }
 
 impl Bench {
-    /// An empty kernel, with no calls to measure.
-    pub fn new(alloc: Global) -> Bench {
+    /// An empty kernel that makes fresh names so, with no calls to measure.
+    pub fn new(alloc: Global, naming: Naming) -> Bench {
         Bench {
             alloc,
-            kernel: Kernel::new(alloc),
+            naming,
+            kernel: naming.kernel(alloc),
             made: 0,
             identities: Identities::first(),
             kept: 0,
-            round: Round::first(),
+            round: Round::first(naming),
             cycle: Vec::new(alloc),
             copied: false,
+            follows: false,
+            plan: Vec::new(alloc),
+            rehearsed: None,
         }
     }
 
@@ -110,14 +140,19 @@ impl Bench {
     fn take_step(&mut self, step: Step) -> Result<(), Stop> {
         match step {
             Step::Make(call) => self.make(&call.event(self.alloc, self.round)?),
-            Step::Add(call) => self.add(call.event(self.alloc, self.round)?),
+            Step::Add(call) => self.add(call),
             Step::Sift(right) => self.sift(right),
             Step::Choose => {
-                self.round.chosen = next_name(self.round.chosen);
+                let asked = self.naming.first_name(ASKED);
+                self.round.chosen = next_name(self.round.chosen, asked);
                 Ok(())
             }
             Step::CopyCalls => {
                 self.copied = true;
+                Ok(())
+            }
+            Step::FollowNames => {
+                self.follows = true;
                 Ok(())
             }
         }
@@ -126,7 +161,7 @@ impl Bench {
     /// Makes a right of `HOME`'s, and destroys it unless its identity is chosen.
     fn sift(&mut self, right: u32) -> Result<(), Stop> {
         let home = TaskId::new(HOME);
-        let name = Name::new(KEPT.wrapping_add(self.kept));
+        let name = self.round.name(KEPT.wrapping_add(self.kept));
         let identity = self.identities.next(right);
         self.make(&Event::AllocateName(home, right, name))?;
         if is_chosen(identity) {
@@ -139,21 +174,87 @@ impl Bench {
     /// Makes a call at once.
     fn make(&mut self, event: &Event) -> Result<(), Stop> {
         self.made = self.made.saturating_add(1);
-        let reply = self.kernel.step(event);
-        if is_refused(&reply) {
+        if !self.follow(event) {
             return Err(Stop::Setup(self.made));
         }
-        self.round.returned = name_in(&reply).unwrap_or(self.round.returned);
         self.identities.count(event);
         Ok(())
     }
 
+    /// Makes a call, and keeps the name in its reply. Whether it was done.
+    fn follow(&mut self, event: &Event) -> bool {
+        let reply = self.kernel.step(event);
+        self.round.returned = name_in(&reply).unwrap_or(self.round.returned);
+        !is_refused(&reply)
+    }
+
     /// Puts a call at the end of the cycle.
-    fn add(&mut self, event: Event) -> Result<(), Stop> {
-        match self.cycle.push(event) {
-            Ok(()) => Ok(()),
-            Err(_) => Err(Stop::OutOfMemory),
+    fn add(&mut self, call: Call) -> Result<(), Stop> {
+        let round = self.round;
+        if self.follows {
+            self.plan.push(Planned { call, round })?;
+            return Ok(());
         }
+        self.cycle.push(call.event(self.alloc, round)?)?;
+        Ok(())
+    }
+
+    /// Whether the cycles must be rehearsed before they are measured.
+    pub fn follows_names(&self) -> bool {
+        self.follows
+    }
+
+    /// Makes so many cycles, to know the names in their calls, and begins anew with an empty kernel.
+    ///
+    /// One cycle is made in profile 1, in which each has the same names. The calls stay for `run`, with memory for
+    /// each, so the kernel is to be made ready once more by the same steps.
+    pub fn rehearse(&mut self, times: u32) -> Result<(), Stop> {
+        let cycles = match self.naming {
+            Naming::Plain => 1,
+            Naming::Tagged => times,
+        };
+        // names that were returned after the cycle was added are none of its own
+        if let Some(first) = self.plan.first() {
+            self.round.returned = first.round.returned;
+        }
+        for _ in 0..cycles {
+            self.rehearse_cycle()?;
+        }
+        self.begin_anew();
+        Ok(())
+    }
+
+    /// Makes a cycle, and puts its calls at the end of those to measure.
+    fn rehearse_cycle(&mut self) -> Result<(), Stop> {
+        for index in 0..self.plan.len() {
+            if !self.rehearse_call(index)? {
+                return Err(Stop::Cycle(index.saturating_add(1)));
+            }
+        }
+        Ok(())
+    }
+
+    /// Makes the cycle's call at this place, from 0, and puts it at the end of those to measure. Whether it was done.
+    fn rehearse_call(&mut self, index: usize) -> Result<bool, Stop> {
+        let Some(Planned { call, round }) = self.plan.get(index).copied() else {
+            return Ok(false);
+        };
+        let returned = self.round.returned;
+        let event = call.event(self.alloc, Round { returned, ..round })?;
+        let is_done = self.follow(&event);
+        self.cycle.push(event)?;
+        Ok(is_done)
+    }
+
+    /// Puts an empty kernel in place of the one that was rehearsed on, as if no step was taken.
+    fn begin_anew(&mut self) {
+        let empty = self.naming.kernel(self.alloc);
+        self.rehearsed = Some(mem::replace(&mut self.kernel, empty));
+        self.made = 0;
+        self.identities = Identities::first();
+        self.kept = 0;
+        self.round = Round::first(self.naming);
+        self.plan.clear();
     }
 
     /// In how many turns the last call's step ended.
@@ -161,8 +262,13 @@ impl Bench {
         self.kernel.last_turns()
     }
 
-    /// Makes the cycle so many times.
+    /// Makes the cycle so many times: as many as were rehearsed, if it was.
     pub fn run(&mut self, times: u32) -> Result<(), Stop> {
+        let times = match self.naming {
+            // the cycles lie in a row, each with names of its own
+            Naming::Tagged if self.follows => 1,
+            _ => times,
+        };
         let events = self.cycle.as_slice();
         if self.copied {
             measured_copied(self.alloc, &mut self.kernel, events, times)
@@ -181,6 +287,7 @@ fn next_random(random: u32) -> u32 {
 fn name_in(reply: &Reply) -> Option<u32> {
     match reply {
         Reply::Name(name) | Reply::Right(name, _) | Reply::Previous(name) => Some(name.number()),
+        Reply::Message(bytes) => name_in_message(bytes.as_slice()),
         _ => None,
     }
 }

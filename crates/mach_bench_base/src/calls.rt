@@ -1,5 +1,8 @@
 //! The calls of which workloads and worlds are made.
+//!
+//! A number that stands for a name is the name's place: the name is the first fresh one of that index.
 use crate::messages::Message;
+use crate::naming::Naming;
 use mach_types::{Event, Name, TaskId};
 use std::alloc::{AllocError, Global};
 
@@ -60,29 +63,37 @@ pub const COMPLEX: u32 = 0x8000_0000;
 /// Which of the rounds calls are made in, and what labels are found by.
 #[derive(Clone, Copy)]
 pub struct Round {
+    /// How the kernel makes fresh names.
+    pub naming: Naming,
     /// Its number, from 0.
     pub index: u32,
     /// A number whose high bits are as good as random.
     pub random: u32,
     /// The name in the last reply that had one, at first 0.
     pub returned: u32,
-    /// The name that was chosen last, at first `ASKED`.
+    /// The name that was chosen last, at first the name of `ASKED`.
     pub chosen: u32,
 }
 
 impl Round {
     /// The first, before any name was returned or chosen.
-    pub fn first() -> Round {
+    pub fn first(naming: Naming) -> Round {
         Round {
+            naming,
             index: 0,
             random: 0,
             returned: 0,
-            chosen: ASKED,
+            chosen: naming.first_name(ASKED),
         }
+    }
+
+    /// The name of this place.
+    pub(crate) fn name(self, place: u32) -> Name {
+        Name::new(self.naming.first_name(place))
     }
 }
 
-/// A name in a call, or a task.
+/// A name in a call, by its place or as it was returned or chosen; or a task, by its number.
 #[derive(Clone, Copy)]
 pub enum Label {
     /// The same in each round.
@@ -91,32 +102,36 @@ pub enum Label {
     Rising(u32),
     /// One of those of a full task, at random.
     Any,
-    /// The name in the last reply that had one.
+    /// The name in the last reply that had one. For a call of the cycle this is the last reply before
+    /// `Step::Add`; after `Step::FollowNames` replies of the cycle, and of cycles before it, count too.
     Returned,
     /// The name that was chosen last.
     Chosen,
 }
 
 impl Label {
-    /// The number in this round.
-    pub fn number(self, round: Round) -> u32 {
+    /// The name in this round.
+    pub(crate) fn name(self, round: Round) -> Name {
         match self {
-            Label::Same(name) => name,
-            Label::Rising(name) => name.wrapping_add(round.index),
-            Label::Any => round.random / 65_536 % FULL + 1,
-            Label::Returned => round.returned,
-            Label::Chosen => round.chosen,
+            Label::Returned => Name::new(round.returned),
+            Label::Chosen => Name::new(round.chosen),
+            _ => round.name(self.number(round)),
         }
     }
 
-    /// The same, as a name.
-    fn name(self, round: Round) -> Name {
-        Name::new(self.number(round))
-    }
-
-    /// The same, as a task.
+    /// The task in this round.
     fn task(self, round: Round) -> TaskId {
         TaskId::new(self.number(round))
+    }
+
+    /// The name's place or the task's number in this round, 0 where the label has neither.
+    fn number(self, round: Round) -> u32 {
+        match self {
+            Label::Same(number) => number,
+            Label::Rising(number) => number.wrapping_add(round.index),
+            Label::Any => round.random / 65_536 % FULL + 1,
+            Label::Returned | Label::Chosen => 0,
+        }
     }
 }
 
@@ -135,7 +150,7 @@ impl Notify {
     /// The name of the right and its disposition in this round.
     fn parts(self, round: Round) -> (Name, u32) {
         match self {
-            Notify::Made(name) => (Name::new(name), MAKE_SEND_ONCE),
+            Notify::Made(name) => (round.name(name), MAKE_SEND_ONCE),
             Notify::Moved(label) => (label.name(round), MOVE_SEND_ONCE),
             Notify::Nothing => (Name::null(), MAKE_SEND_ONCE),
         }
@@ -156,7 +171,7 @@ pub enum Call {
     /// Gives up one reference under the name.
     GiveUp(Label),
     /// Gives up all that is under the name.
-    Destroy(u32),
+    Destroy(Label),
     /// Changes the send references under the name.
     Change(u32, i32),
     /// The task gets, under the name, a send right made from what another has under a name.
@@ -198,7 +213,7 @@ impl Call {
                 Ok(Event::AllocateName(TaskId::new(task), right, label.name(round)))
             }
             Call::Receive(task, name) => {
-                Ok(Event::Receive(TaskId::new(task), Name::new(name), 65_536, false))
+                Ok(Event::Receive(TaskId::new(task), round.name(name), 65_536, false))
             }
             call => Ok(call.event_of_home(TaskId::new(HOME), round)),
         }
@@ -209,8 +224,8 @@ impl Call {
         match self {
             Call::End(task) => Event::TaskTerminate(TaskId::new(task)),
             Call::GiveUp(label) => Event::Deallocate(home, label.name(round)),
-            Call::Destroy(name) => Event::Destroy(home, Name::new(name)),
-            Call::Change(name, delta) => Event::ModRefs(home, Name::new(name), 0, delta),
+            Call::Destroy(label) => Event::Destroy(home, label.name(round)),
+            Call::Change(name, delta) => Event::ModRefs(home, round.name(name), 0, delta),
             Call::Give(task, label, from, poly) => give(
                 (task.task(round), label.name(round)),
                 (TaskId::new(from), poly.name(round)),
@@ -223,18 +238,18 @@ impl Call {
             ),
             Call::AskSenders(name) => ask(
                 home,
-                Name::new(name),
+                round.name(name),
                 NO_SENDERS_REQUEST,
                 Notify::Made(1).parts(round),
             ),
-            Call::Limit(name, limit) => Event::SetQlimit(home, Name::new(name), limit),
+            Call::Limit(name, limit) => Event::SetQlimit(home, round.name(name), limit),
             Call::Extract(name) => {
-                Event::ExtractRight(TaskId::new(PEER), Name::new(name), MAKE_SEND, home)
+                Event::ExtractRight(TaskId::new(PEER), round.name(name), MAKE_SEND, home)
             }
             Call::Type(label) => Event::NameType(home, label.name(round)),
             Call::Names => Event::Names(home),
-            Call::Rename(from, to) => Event::Rename(home, Name::new(from), Name::new(to)),
-            Call::Status(name) => Event::ReceiveStatus(home, Name::new(name)),
+            Call::Rename(from, to) => Event::Rename(home, round.name(from), round.name(to)),
+            Call::Status(name) => Event::ReceiveStatus(home, round.name(name)),
             Call::Put(label, set) => Event::MoveMember(home, label.name(round), set.name(round)),
             // the only one left that comes here is `Call::Task`
             _ => Event::TaskCreate,

@@ -1,5 +1,5 @@
 //! Identities and names that a script chooses because `number_map` keeps all of them in one tree.
-use crate::calls::{ASKED, PORT_SET, RECEIVE};
+use crate::calls::{PORT_SET, RECEIVE};
 use mach_types::Event;
 
 /// The factor of the hash of `number_map`.
@@ -28,9 +28,9 @@ pub(crate) fn is_chosen(identity: u64) -> bool {
     hash(identity) % IDENTITY_TREES == 0
 }
 
-/// The next name of `HOME`'s above this one that is chosen: a dead-name request on it lies in the tree of one on `ASKED`.
-pub(crate) fn next_name(name: u32) -> u32 {
-    let tree = hash(u64::from(ASKED)) % REQUEST_TREES;
+/// The next name of `HOME`'s above this one that is chosen: a dead-name request on it lies in the tree of one on `asked`.
+pub(crate) fn next_name(name: u32, asked: u32) -> u32 {
+    let tree = hash(u64::from(asked)) % REQUEST_TREES;
     let mut next = name;
     for _ in 0..TRIES {
         next = next.wrapping_add(STRIDE);

@@ -7,6 +7,7 @@ mod bench;
 mod calls;
 mod chosen;
 mod messages;
+mod naming;
 mod worlds;
 
 pub use bench::{Bench, Group, Step, Stop, is_refused};
@@ -15,4 +16,5 @@ pub use calls::{
     MOVE_SEND_ONCE, Notify, OTHER, PEER, PORT_SET, RECEIVE, Round, SET,
 };
 pub use messages::{Body, Message};
+pub use naming::Naming;
 pub use worlds::{OPENING, SMALL, World, all_worlds};

@@ -1,10 +1,14 @@
 //! The messages of workloads and worlds.
-use crate::calls::{Label, MAKE_SEND, MOVE_RECEIVE, Round};
+use crate::calls::{COMPLEX, Label, MAKE_SEND, MOVE_RECEIVE, Round};
 use mach_types::Bytes;
 use std::alloc::{AllocError, Global};
 
 /// How many words a header is.
 const HEADER: u32 = 6;
+/// Where in a received message the name of its reply right is, or 0: bytes from the start.
+const REPLY_AT: usize = 8;
+/// Where in a message the name of its body's first right is, if that right is in an item of its own.
+const RIGHT_AT: usize = 28;
 /// The word before an item of one send right, made.
 const ONE_RIGHT: u32 = 0x1001_2000 | MAKE_SEND;
 /// The word before an item of 64.
@@ -41,11 +45,11 @@ impl Body {
         match self {
             Body::Zeros(_) => 0,
             Body::Items(_) if index % 2 == 0 => ONE_RIGHT,
-            Body::Items(_) => index / 2 + 1,
+            Body::Items(_) => round.name(index / 2 + 1).number(),
             Body::Together if index == 0 => MANY_RIGHTS,
-            Body::Together => index,
+            Body::Together => round.name(index).number(),
             Body::Moved(_) if index == 0 => RECEIVE_RIGHT,
-            Body::Moved(label) => label.number(round),
+            Body::Moved(label) => label.name(round).number(),
         }
     }
 }
@@ -77,10 +81,30 @@ impl Message {
     fn word(self, index: u32, round: Round) -> u32 {
         match index {
             0 => self.bits,
-            2 => self.to.number(round),
-            3 => self.reply,
+            2 => self.to.name(round).number(),
+            3 => round.name(self.reply).number(),
             1 | 4 | 5 => 0,
             _ => self.body.word(index.wrapping_sub(HEADER), round),
         }
     }
+}
+
+/// The name of a received message's reply right; if it has none, of the first right in its body.
+pub(crate) fn name_in_message(bytes: &[u8]) -> Option<u32> {
+    let reply = word_at(bytes, REPLY_AT)?;
+    if reply != 0 {
+        return Some(reply);
+    }
+    let bits = word_at(bytes, 0)?;
+    if bits & COMPLEX == 0 {
+        return None;
+    }
+    word_at(bytes, RIGHT_AT)
+}
+
+/// The word that begins at this byte, if the message is that long.
+fn word_at(bytes: &[u8], start: usize) -> Option<u32> {
+    let word = bytes.get(start..start.saturating_add(4))?;
+    let word = <[u8; 4]>::try_from(word).ok()?;
+    Some(u32::from_le_bytes(word))
 }

@@ -1,5 +1,5 @@
 //! The messages that workloads send, and the names by which they are sent.
-use mach_bench_base::Label::{Rising, Same};
+use mach_bench_base::Label::{Returned, Rising, Same};
 use mach_bench_base::{
     Body, COMPLEX, COPY_SEND, MAKE_SEND, MAKE_SEND_ONCE, MOVE_SEND_ONCE, Message,
 };
@@ -73,20 +73,26 @@ pub(crate) const REQUEST: Message = Message {
     body: Body::Zeros(0),
 };
 
-/// The answer, by the right that came under the fresh name 2.
+/// The answer, by the right that came with the request.
 pub(crate) const ANSWER: Message = Message {
     bits: MOVE_SEND_ONCE,
-    to: Same(2),
+    to: Returned,
     reply: 0,
     body: Body::Zeros(0),
 };
 
-/// The receive right of the port under 2, which comes under the fresh name 2 again.
+/// The receive right that came last, which comes under a fresh name again.
 pub(crate) const CARRYING: Message = Message {
     bits: COMPLEX | MAKE_SEND,
     to: Same(SERVICE),
     reply: 0,
+    body: Body::Moved(Returned),
+};
+
+/// The receive right of the port under 2.
+pub(crate) const CARRYING_2: Message = Message {
     body: Body::Moved(Same(2)),
+    ..CARRYING
 };
 
 /// The receive right of a port of a chain, to the next one.

@@ -1,10 +1,10 @@
 //! What is measured: each workload by its name, with its calls.
 use crate::messages::{
-    ANSWER, CARRYING, FIRST_LINK, FIRST_MEMBER, ITEMS, LINKING, LONG, REQUEST, RIGHT, SERVICE,
-    SHORT, SHORT_RISING, SHORT_TO_2, TO_CHAIN, TO_SERVICE, TOGETHER,
+    ANSWER, CARRYING, CARRYING_2, FIRST_LINK, FIRST_MEMBER, ITEMS, LINKING, LONG, REQUEST, RIGHT,
+    SERVICE, SHORT, SHORT_RISING, SHORT_TO_2, TO_CHAIN, TO_SERVICE, TOGETHER,
 };
 use mach_bench_base::Label::{Any, Returned, Rising, Same};
-use mach_bench_base::Step::{Add, CopyCalls, Make};
+use mach_bench_base::Step::{Add, CopyCalls, FollowNames, Make};
 use mach_bench_base::{
     ASKED, Call, DEAD_NAME, FULL, Group, HOME, Notify, OTHER, PEER, PORT_SET, RECEIVE, SET, Step,
 };
@@ -50,6 +50,8 @@ const PEER_MADE: Step = Make(Call::MakeNamed(PEER, RECEIVE, Same(1)));
 const PEER_KNOWN: Step = Make(Call::Give(Same(HOME), Same(2), PEER, Same(1)));
 /// `HOME` receives at its port.
 const RECEIVED: Step = Add(Call::Receive(HOME, SERVICE));
+/// `HOME` gives up the name in the last reply.
+const RETURNED_GIVEN_UP: Step = Add(Call::GiveUp(Returned));
 /// `HOME`'s port is in the set.
 const SERVICE_PUT: Step = Make(Call::Put(Same(SERVICE), Same(SET)));
 
@@ -76,6 +78,16 @@ const PORTS_KNOWN: Group = Group {
 const FILLED: Group = Group {
     rounds: FULL - 1,
     steps: &[Make(Call::Make(Same(HOME), DEAD_NAME))],
+};
+
+/// A dead name made, under a fresh name, and deallocated.
+const DEAD_MADE: Group = Group {
+    rounds: 1,
+    steps: &[
+        FollowNames,
+        Add(Call::Make(Same(HOME), DEAD_NAME)),
+        RETURNED_GIVEN_UP,
+    ],
 };
 
 /// `HOME`'s port.
@@ -131,7 +143,7 @@ const OTHER_ENDS: Group = Group {
 /// `HOME`'s port dies. A kernel takes one such cycle.
 const SERVICE_DIES: Group = Group {
     rounds: 1,
-    steps: &[Add(Call::Destroy(SERVICE))],
+    steps: &[Add(Call::Destroy(Same(SERVICE)))],
 };
 
 /// 24 bytes sent and received, by one task.
@@ -144,7 +156,7 @@ pub const SEND_RECEIVE: Workload = Workload {
     }],
 };
 
-const WORKLOADS: [Workload; 43] = [
+const WORKLOADS: [Workload; 44] = [
     SEND_RECEIVE,
     // The same by a caller that has bytes: its events are made of them, and what it receives is copied out.
     Workload {
@@ -172,7 +184,7 @@ const WORKLOADS: [Workload; 43] = [
             },
         ],
     },
-    // The same, to one that has no name for the port: the fresh name, 2, is deallocated.
+    // The same, to one that has no name for the port: the fresh name is deallocated.
     Workload {
         name: "right-fresh",
         operations: 1,
@@ -181,14 +193,15 @@ const WORKLOADS: [Workload; 43] = [
             Group {
                 rounds: 1,
                 steps: &[
+                    FollowNames,
                     Add(Call::Send(PEER, RIGHT)),
                     RECEIVED,
-                    Add(Call::GiveUp(Same(2))),
+                    RETURNED_GIVEN_UP,
                 ],
             },
         ],
     },
-    // A request with a send-once right, which comes under the fresh name 2, and the answer by it.
+    // A request with a send-once right, which comes under a fresh name, and the answer by it.
     Workload {
         name: "request-answer",
         operations: 1,
@@ -197,6 +210,7 @@ const WORKLOADS: [Workload; 43] = [
             Group {
                 rounds: 1,
                 steps: &[
+                    FollowNames,
                     Add(Call::Send(PEER, REQUEST)),
                     RECEIVED,
                     Add(Call::Send(HOME, ANSWER)),
@@ -305,25 +319,23 @@ const WORKLOADS: [Workload; 43] = [
             steps: &[Add(Call::Make(Same(HOME), RECEIVE))],
         }],
     },
-    // A dead name made, under the fresh name 1, and deallocated.
+    // A dead name made and deallocated, of a task with one other name.
     Workload {
         name: "dead-name",
         operations: 1,
-        groups: &[Group {
-            rounds: 1,
-            steps: &[
-                Add(Call::Make(Same(HOME), DEAD_NAME)),
-                Add(Call::GiveUp(Same(1))),
-            ],
-        }],
+        groups: &[DEAD_MADE],
     },
-    // A port set made, under the fresh name 1, and destroyed.
+    // A port set made, under a fresh name, and destroyed.
     Workload {
         name: "set-made",
         operations: 1,
         groups: &[Group {
             rounds: 1,
-            steps: &[Add(Call::Make(Same(HOME), PORT_SET)), Add(Call::Destroy(1))],
+            steps: &[
+                FollowNames,
+                Add(Call::Make(Same(HOME), PORT_SET)),
+                Add(Call::Destroy(Returned)),
+            ],
         }],
     },
     // A send right to a port of `PEER`'s, inserted under 1 and deallocated.
@@ -339,13 +351,18 @@ const WORKLOADS: [Workload; 43] = [
             ],
         }],
     },
-    // A send right to a port of `PEER`'s, extracted to the fresh name 1 and deallocated.
+    // A send right to a port of `PEER`'s, extracted to a fresh name and deallocated.
     Workload {
         name: "extract",
         operations: 1,
         groups: &[Group {
             rounds: 1,
-            steps: &[PEER_MADE, Add(Call::Extract(1)), Add(Call::GiveUp(Same(1)))],
+            steps: &[
+                PEER_MADE,
+                FollowNames,
+                Add(Call::Extract(1)),
+                RETURNED_GIVEN_UP,
+            ],
         }],
     },
     // The references of a send right to a port of `PEER`'s, one more and one fewer.
@@ -383,10 +400,25 @@ const WORKLOADS: [Workload; 43] = [
             Group {
                 rounds: 1,
                 steps: &[
-                    Add(Call::GiveUp(Same(MIDDLE))),
+                    Make(Call::GiveUp(Same(MIDDLE))),
+                    Make(Call::Make(Same(HOME), DEAD_NAME)),
+                    FollowNames,
+                    RETURNED_GIVEN_UP,
                     Add(Call::Make(Same(HOME), DEAD_NAME)),
                 ],
             },
+        ],
+    },
+    // A dead name made, as the last of 65,535 names, and deallocated.
+    Workload {
+        name: "fresh-65535",
+        operations: 1,
+        groups: &[
+            Group {
+                rounds: FULL - 2,
+                steps: &[Make(Call::Make(Same(HOME), DEAD_NAME))],
+            },
+            DEAD_MADE,
         ],
     },
     // 60,000 send rights to ports of `PEER`'s deallocated, names rising. A kernel takes one cycle.
@@ -437,7 +469,7 @@ const WORKLOADS: [Workload; 43] = [
         }],
     },
     // A dead-name request on the name of a send right, by a send-once right, and the request taken away, which returns
-    // that right under the fresh name that it had.
+    // that right under a fresh name.
     Workload {
         name: "dead-name-request",
         operations: 1,
@@ -449,6 +481,7 @@ const WORKLOADS: [Workload; 43] = [
                 Make(Call::Give(Same(HOME), Same(ASKED), PEER, Same(1))),
                 Make(Call::Ask(Same(HOME), Same(ASKED), Notify::Made(SERVICE))),
                 Make(Call::Ask(Same(HOME), Same(ASKED), Notify::Nothing)),
+                FollowNames,
                 Add(Call::Ask(Same(HOME), Same(ASKED), Notify::Moved(Returned))),
                 Add(Call::Ask(Same(HOME), Same(ASKED), Notify::Nothing)),
             ],
@@ -498,6 +531,9 @@ const WORKLOADS: [Workload; 43] = [
             steps: &[
                 SERVICE_MADE,
                 Make(Call::MakeNamed(HOME, RECEIVE, Same(2))),
+                Make(Call::Send(HOME, CARRYING_2)),
+                Make(Call::Receive(HOME, SERVICE)),
+                FollowNames,
                 Add(Call::Send(HOME, CARRYING)),
                 RECEIVED,
             ],
@@ -527,13 +563,17 @@ const WORKLOADS: [Workload; 43] = [
             },
         ],
     },
-    // A port made, under the fresh name 1, and destroyed.
+    // A port made, under a fresh name, and destroyed.
     Workload {
         name: "port-made",
         operations: 1,
         groups: &[Group {
             rounds: 1,
-            steps: &[Add(Call::Make(Same(HOME), RECEIVE)), Add(Call::Destroy(1))],
+            steps: &[
+                FollowNames,
+                Add(Call::Make(Same(HOME), RECEIVE)),
+                Add(Call::Destroy(Returned)),
+            ],
         }],
     },
     // A task ends that has 60,000 receive rights.
@@ -684,7 +724,7 @@ const WORKLOADS: [Workload; 43] = [
             },
             Group {
                 rounds: 1,
-                steps: &[Add(Call::Destroy(FIRST_LINK + CHAIN - 1))],
+                steps: &[Add(Call::Destroy(Same(FIRST_LINK + CHAIN - 1)))],
             },
         ],
     },
@@ -700,7 +740,7 @@ const WORKLOADS: [Workload; 43] = [
             },
             Group {
                 rounds: 1,
-                steps: &[Add(Call::Destroy(FIRST_LINK + LONG_CHAIN - 1))],
+                steps: &[Add(Call::Destroy(Same(FIRST_LINK + LONG_CHAIN - 1)))],
             },
         ],
     },

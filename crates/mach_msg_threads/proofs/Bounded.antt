@@ -2,8 +2,8 @@
 use Rattle.std.proofs.Common.{◌≡◌, ℕ, ◌+◌, ◌≤◌, List, [], ◌∷◌, ◌++◌, length, inl, inr, refl, sym, subst, arith}
 use Rattle.mach_types.specs.declared.calls.Event.{Event}
 use Rattle.mach_types.specs.declared.calls.Reply.{Reply}
-use Rattle.mach_model.specs.State.{State}
-use Rattle.mach_model.specs.Machine.{opening, Step, RunFrom}
+use Rattle.mach_model.specs.State.{State, opening_in}
+use Rattle.mach_model.specs.Machine.{Step, RunFrom}
 use Rattle.mach_model.specs.Acts.{Does}
 use Rattle.mach_model.specs.Notices.{Owed}
 use Rattle.kernel_lock.specs.declared.entry.Entry.{Entry}
@@ -61,8 +61,8 @@ message_few now s event bytes t (inr d) = bytes_few now s event bytes d.mid d.ow
 extends_bounded : (v w : Known) (caller : ℕ) (event : Event) (bytes : List ℕ) → Extends v (entry caller event (Reply.Message bytes)) w → length bytes ≤ most_received event
 extends_bounded v w caller event bytes x =
     let log = v.seen ++ x.between in
-    let legal : Legal (log ++ entry caller event (Reply.Message bytes) ∷ []) = subst Legal x.seen x.legal in
-    let l = last_of 0 opening log (entry caller event (Reply.Message bytes)) legal.state legal.leads in
+    let legal : Legal v.profile (log ++ entry caller event (Reply.Message bytes) ∷ []) = subst (Legal v.profile) x.seen x.legal in
+    let l = last_of 0 (opening_in v.profile) log (entry caller event (Reply.Message bytes)) legal.state legal.leads in
     message_few l.number l.before event bytes legal.state l.step
 
 pub called_bounded : (v w : Known) (event : Event) (reply : Reply) → Called v w event reply → reply_bytes reply ≤ most_received event

@@ -4,8 +4,11 @@
 //! reader and writers.
 #![tactic(auto)]
 
+ghost use Rattle.mach_run_base.specs.Jobs.{HasKernel};
+
 use clap::error::ErrorKind;
-use mach_run_base::{Fault, Job, Request, perform, read_words, report};
+use mach_run_base::{Fault, Job, perform, report};
+use mach_run_words::{Request, read_words};
 use std::fs::File;
 use std::io::{BufWriter, Read, Write};
 use std::process::ExitCode;
@@ -80,7 +83,9 @@ fn open<R: Files + Input + AllocGlobal + Threads + Wait + Sync, W: Write + Drop,
     request: &Request<'_>,
     out: W,
     err: &mut E,
-) -> u8 {
+) -> u8
+    requires profile { HasKernel request.now.job }
+{
     let Some(name) = request.file else {
         return start(rt, request.job, "-", &mut rt.reader(), out, err);
     };
@@ -98,7 +103,9 @@ fn start<H: AllocGlobal + Threads + Wait + Sync, R: Read, W: Write + Drop, E: Wr
     file: &mut R,
     out: W,
     err: &mut E,
-) -> u8 {
+) -> u8
+    requires profile { HasKernel job }
+{
     let alloc = rt.alloc();
     match BufWriter::with_capacity(alloc, WRITTEN_AT_ONCE, out) {
         Ok(mut out) => perform(rt, alloc, job, name, file, &mut out, err),

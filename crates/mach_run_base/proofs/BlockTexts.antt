@@ -3,6 +3,7 @@ use Rattle.std.proofs.Common.{◌≡◌, ℕ, zero, suc, ◌+◌, ◌<◌, List,
 use Rattle.std.specs.List.{AllZip}
 use Rattle.std.proofs.lemmas.List.{take_more, length-take-le}
 use Rattle.std.proofs.lemmas.List.Elements.{All-head, All-tail, All-push}
+use Rattle.mach_types.specs.declared.profiles.Profile.{Profile}
 use Rattle.kernel_lock.specs.declared.entry.Entry.{Entry}
 use Rattle.kernel_lock.specs.History.{Known, calls_by}
 use Rattle.mach_msg_threads.specs.declared.block.Answer.{Answer}
@@ -68,23 +69,24 @@ abbrev pub number_of : Enrolled → ℕ
 number_of one = one.number
 
 -- each block's calls were made by the pass that stood ready for it
-pub blocks_of : {X Y : Type 0} (pass : X → Known) (calls : X → List Call) (w : Y → Known) (answers : Y → List Answer) (start : List Entry) (c : ℕ)
+pub blocks_of : {X Y : Type 0} (pass : X → Known) (calls : X → List Call) (w : Y → Known) (answers : Y → List Answer) (profile : Profile) (start : List Entry) (c : ℕ)
     (blocks : List ThreadCalls) (ones : List Enrolled) (xs : List X) (ys : List Y) → AreEnrolled c blocks ones
-    → AllZip (λ one x. IsReady start one (pass x) (calls x)) ones xs → AllZip (λ x y. Ran (pass x) (calls x) (answers y) (w y)) xs ys → All (λ y. All IsRecorded (answers y)) ys
-    → AreBlocks start c blocks (block_texts answers (map number_of ones) ys) (map w ys)
-blocks_of pass calls w answers start c [] [] [] [] enrolled ready ran all = refl
-blocks_of pass calls w answers start c [] [] [] (y ∷ ys) enrolled ready ran all = absurd ran
-blocks_of pass calls w answers start c [] [] (x ∷ xs) ys enrolled ready ran all = absurd ready
-blocks_of pass calls w answers start c [] (o ∷ os) xs ys enrolled ready ran all = absurd enrolled
-blocks_of pass calls w answers start c (b ∷ bs) [] xs ys enrolled ready ran all = absurd enrolled
-blocks_of pass calls w answers start c (b ∷ bs) (o ∷ os) [] ys enrolled ready ran all = absurd ready
-blocks_of pass calls w answers start c (b ∷ bs) (o ∷ os) (x ∷ xs) [] enrolled ready ran all = absurd ran
-blocks_of pass calls w answers start c (b ∷ bs) (o ∷ os) (x ∷ xs) (y ∷ ys) enrolled ready ran all = (
+    → AllZip (λ one x. IsReady profile start one (pass x) (calls x)) ones xs → AllZip (λ x y. Ran (pass x) (calls x) (answers y) (w y)) xs ys → All (λ y. All IsRecorded (answers y)) ys
+    → AreBlocks profile start c blocks (block_texts answers (map number_of ones) ys) (map w ys)
+blocks_of pass calls w answers profile start c [] [] [] [] enrolled ready ran all = refl
+blocks_of pass calls w answers profile start c [] [] [] (y ∷ ys) enrolled ready ran all = absurd ran
+blocks_of pass calls w answers profile start c [] [] (x ∷ xs) ys enrolled ready ran all = absurd ready
+blocks_of pass calls w answers profile start c [] (o ∷ os) xs ys enrolled ready ran all = absurd enrolled
+blocks_of pass calls w answers profile start c (b ∷ bs) [] xs ys enrolled ready ran all = absurd enrolled
+blocks_of pass calls w answers profile start c (b ∷ bs) (o ∷ os) [] ys enrolled ready ran all = absurd ready
+blocks_of pass calls w answers profile start c (b ∷ bs) (o ∷ os) (x ∷ xs) [] enrolled ready ran all = absurd ran
+blocks_of pass calls w answers profile start c (b ∷ bs) (o ∷ os) (x ∷ xs) (y ∷ ys) enrolled ready ran all = (
   one_text o.number (answers y),
   block_texts answers (map number_of os) ys,
   refl,
   record {
     pass = pass x;
+    of = ready.0.4;
     number = ready.0.1 ∙ enrolled.0.2;
     begins = ready.0.2;
     none = subst (λ (k : ℕ). calls_by k start ≡ calls_by k o.pass.seen) enrolled.0.2 ready.0.3.own ∙ ap (calls_by c) enrolled.0.3;
@@ -97,7 +99,7 @@ blocks_of pass calls w answers start c (b ∷ bs) (o ∷ os) (x ∷ xs) (y ∷ y
     };
     parts = ap (λ (n : ℕ). one_text n (answers y)) (sym enrolled.0.0);
   },
-  blocks_of pass calls w answers start (c + 1) bs os xs ys enrolled.1 ready.1 ran.1 (All-tail (λ y. All IsRecorded (answers y)) y ys all),
+  blocks_of pass calls w answers profile start (c + 1) bs os xs ys enrolled.1 ready.1 ran.1 (All-tail (λ y. All IsRecorded (answers y)) y ys all),
 )
 
 -- nothing stands for a place that is there

@@ -1,6 +1,7 @@
 -- A history whose callers are a script's, and which all of their passes have seen, is that of the script's calls.
 use Rattle.std.proofs.Common.{◌≡◌, ℕ, ◌+◌, ◌≤◌, List, [], ◌∷◌, ◌++◌, length, map, All, refl, sym, ap, ◌∙◌, subst, arith, append_assoc, eq-eqb}
 use Rattle.std.proofs.lemmas.List.Elements.{All-head, All-tail, All-map, All-append}
+use Rattle.mach_types.specs.declared.profiles.Profile.{Profile}
 use Rattle.kernel_lock.specs.declared.entry.Entry.{Entry}
 use Rattle.kernel_lock.specs.History.{Known, keep_if, calls_by}
 use Rattle.mach_msg_threads.specs.declared.block.Answer.{Answer}
@@ -27,12 +28,12 @@ sees_through v w log same first next = record {
   own = subst (λ (c : ℕ). calls_by c log ≡ calls_by c w.seen) same next.own ∙ first.own;
 }
 
-made_by : (log start : List Entry) (c : ℕ) (blocks : List ThreadCalls) (text : List ℕ) (ws : List Known) → AreBlocks start c blocks text ws → All (λ w. SeesAll w log) ws
+made_by : (profile : Profile) (log start : List Entry) (c : ℕ) (blocks : List ThreadCalls) (text : List ℕ) (ws : List Known) → AreBlocks profile start c blocks text ws → All (λ w. SeesAll w log) ws
     → ((d : ℕ) → length ws + c ≤ d → calls_by d log ≡ []) → AreMadeBy log start c (map block_calls blocks)
-made_by log start c [] text [] are all others = λ d above. others d (omega (arith, above))
-made_by log start c [] text (w ∷ ws) are all others = absurd are
-made_by log start c (b ∷ bs) text [] are all others = absurd are
-made_by log start c (b ∷ bs) text (w ∷ ws) (first, rest, parts, is, more) all others = (
+made_by profile log start c [] text [] are all others = λ d above. others d (omega (arith, above))
+made_by profile log start c [] text (w ∷ ws) are all others = absurd are
+made_by profile log start c (b ∷ bs) text [] are all others = absurd are
+made_by profile log start c (b ∷ bs) text (w ∷ ws) (first, rest, parts, is, more) all others = (
   (
     w,
     record {
@@ -46,11 +47,12 @@ made_by log start c (b ∷ bs) text (w ∷ ws) (first, rest, parts, is, more) al
       all = All-head (λ w. SeesAll w log) w ws all;
     },
   ),
-  made_by log start (c + 1) bs rest ws more (All-tail (λ w. SeesAll w log) w ws all) (λ d above. others d (omega (arith, above))),
+  made_by profile log start (c + 1) bs rest ws more (All-tail (λ w. SeesAll w log) w ws all) (λ d above. others d (omega (arith, above))),
 )
 
-pub of_script : (log : List Entry) (script : Script) (text : List ℕ) (main : Known) (blocks : List Known) → IsAnswered script text main blocks → AreWhole log main blocks → IsOfScript log script
-of_script log script text main blocks a whole = record {
+pub of_script : (profile : Profile) (log : List Entry) (script : Script) (text : List ℕ) (main : Known) (blocks : List Known) → IsAnswered profile script text main blocks → AreWhole log main blocks
+    → IsOfScript log script
+of_script profile log script text main blocks a whole = record {
   main = a.ended;
   first = record {
     first = a.pass;
@@ -64,5 +66,5 @@ of_script log script text main blocks a whole = record {
   };
   start = main.seen;
   behind = a.whole.begins;
-  blocks = made_by log main.seen 1 script.blocks.items a.behind blocks a.last whole.all whole.others;
+  blocks = made_by profile log main.seen 1 script.blocks.items a.behind blocks a.last whole.all whole.others;
 }

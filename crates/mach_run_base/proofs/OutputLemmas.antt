@@ -3,15 +3,17 @@ use Rattle.std.proofs.Common.{◌≡◌, ◌≢◌, ℕ, ◌+◌, List, [], ◌�
 use mathlib.Core.List.{map-append}
 use Rattle.std.proofs.lemmas.List.{length_push}
 use Rattle.std.proofs.lemmas.List.Elements.{All-push}
+use Rattle.mach_types.specs.declared.profiles.Profile.{Profile}
 use Rattle.mach_types.specs.declared.calls.Event.{Event}
 use Rattle.mach_types.specs.declared.calls.Reply.{Reply}
-use Rattle.mach_model.specs.Machine.{opening}
+use Rattle.mach_model.specs.State.{opening_in}
 use Rattle.kernel_lock.specs.declared.entry.Entry.{Entry}
 use Rattle.kernel_lock.specs.History.{Known, Legal, Recorded, Stepped, entry}
 use Rattle.kernel_lock.proofs.Lists.{called_of}
 use Rattle.mach_msg_threads.specs.declared.block.Answer.{Answer}
 use Rattle.mach_msg_threads.specs.declared.block.Call.{Call}
 use Rattle.mach_msg_threads.specs.Blocks.{Answered, Ran}
+use Rattle.mach_msg_threads.proofs.Callers.{ran_profile}
 use Rattle.mach_msg_threads.proofs.Rows.{ran_more}
 use Rattle.tracer_base.specs.Replies.{reply_line}
 use Rattle.tracer_base.proofs.WordLemmas.{texts_push}
@@ -43,8 +45,8 @@ entries_push caller [] (r ∷ replies) event reply count = absurd (omega (arith,
 entries_push caller (e ∷ events) [] event reply count = absurd (omega (arith, count))
 entries_push caller (e ∷ events) (r ∷ replies) event reply count = ap (λ t. entry caller e r ∷ t) (entries_push caller events replies event reply (omega (arith, count)))
 
-none_legal : Legal []
-none_legal = record { state = opening; leads = refl }
+none_legal : (profile : Profile) → Legal profile []
+none_legal profile = record { state = opening_in profile; leads = refl }
 
 -- no call was made
 pub replies-none : (v : Known) → v.seen ≡ [] → AreReplies v [] [] v
@@ -54,7 +56,7 @@ replies-none v none = record {
   ran = refl;
   recorded = λ k d below. absurd (omega (arith, below));
   history = none;
-  legal = subst Legal (sym none) none_legal;
+  legal = subst (Legal v.profile) (sym none) (none_legal v.profile);
   lines = refl;
 }
 
@@ -75,7 +77,7 @@ replies-more first calls text before after v w event reply so_far seen step is =
         ran = subst (λ (x : List Call × List Answer). Ran first x.0 x.1 w) (λ j. (sym (map-append Call.Event calls (event ∷ [])) j, sym (map-append Answer.Reply so_far.replies (reply ∷ [])) j)) ran;
         recorded = All-push (λ x. x ≢ Reply.NoRecord) so_far.replies reply so_far.recorded is;
         history = history;
-        legal = made.extends.legal;
+        legal = subst (λ (profile : Profile). Legal profile w.seen) (ran_profile first _ _ v so_far.ran) made.extends.legal;
         lines = texts_push reply_line so_far.replies reply ∙ ap (λ t. t ++ reply_line reply) so_far.lines;
       },
       made.whole,

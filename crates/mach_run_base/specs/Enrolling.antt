@@ -1,5 +1,6 @@
 -- How far a script's callers have come while it is run: within this crate alone.
 use Rattle.std.specs.Prelude.{◌≡◌, ℕ, ◌+◌, ◌≤◌, List, [], ◌∷◌, All, length}
+use Rattle.mach_types.specs.declared.profiles.Profile.{Profile}
 use Rattle.kernel_lock.specs.declared.entry.Entry.{Entry}
 use Rattle.kernel_lock.specs.History.{Known, calls_by}
 use Rattle.mach_msg_threads.specs.declared.block.Call.{Call}
@@ -17,9 +18,9 @@ AreEnrolled c (block ∷ blocks) (one ∷ more) =
     ((one.number ≡ block.number) × (one.calls ≡ block.calls) × (one.pass.caller ≡ c) × (one.pass.seen ≡ [])) × AreEnrolled (c + 1) blocks more
 AreEnrolled c blocks ones = ⊥
 
--- The block stands ready with its pass, which has seen this history, and its calls.
-abbrev pub IsReady : (start : List Entry) → Enrolled → Known → List Call → Type 0
-IsReady start one pass calls = (calls ≡ one.calls.items) × (pass.caller ≡ one.pass.caller) × (pass.seen ≡ start) × SeesAll one.pass start
+-- The block stands ready with its pass, which has seen this history of this profile, and its calls.
+abbrev pub IsReady : Profile → (start : List Entry) → Enrolled → Known → List Call → Type 0
+IsReady profile start one pass calls = (calls ≡ one.calls.items) × (pass.caller ≡ one.pass.caller) × (pass.seen ≡ start) × SeesAll one.pass start × (pass.profile ≡ profile)
 
 -- The history is all of what these passes have seen, of the main thread and of the blocks, and nobody else has a call in it.
 pub record AreWhole (log : List Entry) (main : Known) (blocks : List Known) : Type 0 where

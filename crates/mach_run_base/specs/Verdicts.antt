@@ -1,5 +1,7 @@
 -- What is told of a history, and of which text.
-use Rattle.std.specs.Prelude.{◌≡◌, ℕ, List, [], ◌∷◌, ◌++◌, All, Option, IfSome, IfNone, codes, decimal, length}
+use Rattle.std.specs.Prelude.{◌≡◌, ◌≢◌, ℕ, List, [], ◌∷◌, ◌++◌, All, Option, IfSome, IfNone, codes, decimal, length}
+use Rattle.mach_types.specs.declared.profiles.Profile.{Profile}
+use Rattle.mach_types.specs.declared.profiles.Profile.TheVariants.{Three}
 use Rattle.kernel_lock.specs.declared.entry.Entry.{Entry}
 use Rattle.kernel_lock.specs.History.{Legal}
 use Rattle.kernel_lock.specs.Replays.{Replays}
@@ -8,23 +10,26 @@ use Rattle.tracer.specs.Histories.{history_text, FitsLine, IsFirstBadLine}
 use Rattle.mach_run_base.specs.declared.checking.Judge.{Judge}
 use Rattle.mach_run_base.specs.declared.checking.Verdict.{Verdict}
 
--- The bytes, where they are known, are the text of the history of these entries.
-pub record IsTextOf (bytes : Option (List ℕ)) (entries : List Entry) : Type 0 where
+-- The bytes, where they are known, are the text of the history of these entries by this profile.
+pub record IsTextOf (bytes : Option (List ℕ)) (profile : Profile) (entries : List Entry) : Type 0 where
+  pub had : profile ≢ Three
   pub fit : All FitsLine entries
-  pub spelled : IfSome bytes (λ text. history_text entries ≡ text)
+  pub spelled : IfSome bytes (λ text. history_text profile entries ≡ text)
 
--- The history that the bytes spell is legal, and has so many entries.
+-- The history that the bytes spell is legal by its profile, and has so many entries.
 pub record IsLegalText (bytes : Option (List ℕ)) (count : ℕ) : Type 0 where
+  pub profile : Profile
   pub entries : List Entry
-  pub text : IsTextOf bytes entries
-  pub legal : Legal entries
+  pub text : IsTextOf bytes profile entries
+  pub legal : Legal profile entries
   pub number : length entries ≡ count
 
 -- In the history that the bytes spell this entry isn't confirmed.
 pub record IsUnconfirmedText (bytes : Option (List ℕ)) (n : ℕ) : Type 0 where
+  pub profile : Profile
   pub entries : List Entry
-  pub text : IsTextOf bytes entries
-  pub found : IsUnconfirmed entries n
+  pub text : IsTextOf bytes profile entries
+  pub found : IsUnconfirmed profile entries n
 
 -- The verdict is right for the bytes. It is what `read_history` and then `check` promise of the whole text: a bad line is told before an entry
 -- that isn't confirmed, wherever the two stand.
@@ -44,7 +49,7 @@ verdict_status (Verdict.Legal count) = 0
 verdict_status (Verdict.NotConfirmed n) = 1
 verdict_status (Verdict.BadLine n) = 1
 
--- These entries were seen: all are confirmed, and the kernel shows what they lead to; or the one that isn't is known.
-pub record HasSeen (judge : Judge) (entries : List Entry) : Type 0 where
-  pub legal : IfNone judge.unconfirmed (Replays entries judge.kernel)
-  pub not : IfSome judge.unconfirmed (IsUnconfirmed entries)
+-- These entries of a history of this profile were seen: all are confirmed, and the kernel shows what they lead to; or the one that isn't is known.
+pub record HasSeen (profile : Profile) (judge : Judge) (entries : List Entry) : Type 0 where
+  pub legal : IfNone judge.unconfirmed (Replays profile entries judge.kernel)
+  pub not : IfSome judge.unconfirmed (IsUnconfirmed profile entries)

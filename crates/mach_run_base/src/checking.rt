@@ -1,6 +1,8 @@
 //! Histories judged line by line, so that neither their text nor their entries take memory.
-ghost use Rattle.std.specs.Prelude.{◌≡◌, ◌+◌, ◌++◌, ℕ, List, [], ◌∷◌, Option, None, IfOk, OnOk, length};
+ghost use Rattle.std.specs.Prelude.{◌≡◌, ◌≢◌, ◌+◌, ◌++◌, ℕ, List, [], ◌∷◌, Option, None, IfOk, OnOk, length};
 ghost use Rattle.std.specs.Io.KnownBytes.{Appends, Consumes};
+ghost use Rattle.mach_types.specs.declared.profiles.Profile.{Profile as AnyProfile};
+ghost use Rattle.mach_types.specs.declared.profiles.Profile.TheVariants.{Three};
 ghost use Rattle.tracer.specs.Histories.{history_text};
 ghost use Rattle.kernel_lock.specs.declared.entry.Entry.{Entry as AnyEntry};
 ghost use Rattle.mach_run_base.specs.declared.checking.Verdict.{Verdict as AnyVerdict};
@@ -10,6 +12,7 @@ use crate::fault::Fault;
 use crate::reading::{READ_AT_ONCE, next_line, skip_rest};
 use kernel_core::Kernel;
 use kernel_lock::Entry;
+use mach_types::Profile;
 use std::alloc::{AllocError, Global};
 use std::io;
 use std::io::{BufRead, BufReader, Read, Write};
@@ -49,19 +52,20 @@ pub(crate) struct Judge {
 }
 
 impl Judge {
-    /// No entry was seen. Takes no memory.
-    fn new(alloc: Global) -> Judge
-        ensures { HasSeen result [] }
+    /// No entry was seen of a history of this profile. Takes no memory.
+    fn new(alloc: Global, profile: Profile) -> Judge
+        requires { profile ≢ Three }
+        ensures { HasSeen profile result [] }
     {
         Judge {
-            kernel: Kernel::new(alloc),
+            kernel: Kernel::with_profile(alloc, profile),
             unconfirmed: None,
         }
     }
 
     /// Sees one more entry, which has this number. An error comes where memory is refused.
     fn see(&mut self, number: u64, entry: &Entry) -> Result<(), AllocError>
-        ensures { OnOk result ((entries : List AnyEntry) → length entries + 1 ≡ number → HasSeen self.old entries → HasSeen self.new (entries ++ entry.now ∷ [])) }
+        ensures { OnOk result ((profile : AnyProfile) (entries : List AnyEntry) → length entries + 1 ≡ number → HasSeen profile self.old entries → HasSeen profile self.new (entries ++ entry.now ∷ [])) }
     {
         match self.unconfirmed {
             Some(_) => Ok(()),
@@ -72,7 +76,7 @@ impl Judge {
     /// The same, where all entries before it are confirmed.
     fn see_next(&mut self, number: u64, entry: &Entry) -> Result<(), AllocError>
         requires { self.old.unconfirmed ≡ None }
-        ensures { OnOk result ((entries : List AnyEntry) → length entries + 1 ≡ number → HasSeen self.old entries → HasSeen self.new (entries ++ entry.now ∷ [])) }
+        ensures { OnOk result ((profile : AnyProfile) (entries : List AnyEntry) → length entries + 1 ≡ number → HasSeen profile self.old entries → HasSeen profile self.new (entries ++ entry.now ∷ [])) }
     {
         if confirm(&mut self.kernel, entry)? {
             return Ok(());
@@ -83,7 +87,7 @@ impl Judge {
 
     /// What is told of a history that has ended after so many entries.
     fn verdict(&self, count: u64) -> Verdict
-        ensures { (bytes : Option (List ℕ)) (entries : List AnyEntry) → IsTextOf bytes entries → length entries ≡ count → HasSeen self.now entries → IsVerdict bytes result }
+        ensures { (bytes : Option (List ℕ)) (profile : AnyProfile) (entries : List AnyEntry) → IsTextOf bytes profile entries → length entries ≡ count → HasSeen profile self.now entries → IsVerdict bytes result }
     {
         match self.unconfirmed {
             Some(number) => Verdict::NotConfirmed(number),
@@ -134,10 +138,10 @@ fn judge_lines<'a, B: BufRead>(
 {
     let mut line = Vec::new(alloc);
     next_line(name, reader, &mut line)?;
-    let Some(_) = behind_heading(line.as_slice()) else {
+    let Some((profile, _)) = behind_heading(line.as_slice()) else {
         return bad_line(name, 1, reader);
     };
-    let mut judge = Judge::new(alloc);
+    let mut judge = Judge::new(alloc, profile);
     judge_entries(alloc, name, reader, &mut judge)
 }
 
@@ -150,8 +154,8 @@ fn judge_entries<'a, B: BufRead>(
     reader: &mut B,
     judge: &mut Judge,
 ) -> Result<Verdict, Fault<'a>>
-    requires { HasSeen judge.old [] }
-    ensures { (whole : Option (List ℕ)) → Consumes whole (B.remaining reader.old) (history_text []) → IfOk result (IsVerdict whole) }
+    ensures { (whole : Option (List ℕ)) (profile : AnyProfile) → profile ≢ Three → HasSeen profile judge.old [] → Consumes whole (B.remaining reader.old) (history_text profile [])
+        → IfOk result (IsVerdict whole) }
 {
     let mut line = Vec::new(alloc);
     for number in 1..u64::MAX - 1 {

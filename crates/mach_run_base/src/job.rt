@@ -1,10 +1,11 @@
 //! The jobs of the program, over any reader and writers.
 ghost use Rattle.std.specs.Prelude.{◌≡◌, ◌≢◌, ◌≤◌, ℕ, true, List, map, All, Some, Ok, IfOk, IsErr, OnOk};
 ghost use Rattle.std.specs.Io.KnownBytes.{Appends, Keeps};
+ghost use Rattle.mach_types.specs.declared.profiles.Profile.TheVariants.{Three};
 ghost use Rattle.kernel_lock.specs.declared.entry.Entry.{Entry as AnyEntry};
 ghost use Rattle.kernel_lock.specs.History.{Legal};
 ghost use Rattle.mach_run_base.specs.Enrolling.{AreWhole, pass_of};
-ghost use Rattle.mach_run_base.specs.Jobs.{IsBad, IsDone, IsMade, IsMadeOf, IsHistory, history_shown, head_shown, entry_shown};
+ghost use Rattle.mach_run_base.specs.Jobs.{HasKernel, IsBad, IsDone, IsMade, IsMadeOf, IsHistory, profile_of, history_shown, head_shown, entry_shown};
 ghost use Rattle.mach_run_base.specs.Scripts.{IsFirstBadLine};
 
 use crate::checking::check_file;
@@ -14,20 +15,26 @@ use crate::running::{Callers, run_script, show_all, with_passes};
 use crate::script::Script;
 use kernel_lock::{Entry, Shared};
 use log::LevelFilter;
+use mach_types::Profile;
 use std::alloc::Global;
 use std::io;
 use std::io::{Read, Write};
 use std::sync::Wait;
 use std::thread::Threads;
-use tracer::{level, line};
+use tracer::{heading_line, level, line};
 
 /// What the program can do.
 #[derive(Clone, Copy, Debug, PartialEq, Eq)]
 pub enum Job {
     /// Runs a script, and prints how each of its calls was answered.
-    Run,
+    Run {
+        /// The kernel's profile.
+        profile: Profile,
+    },
     /// Runs a script, and prints its history.
     Trace {
+        /// The kernel's profile.
+        profile: Profile,
         /// Whether only those entries are printed whose call was refused or found nothing.
         warn: bool,
     },
@@ -39,9 +46,14 @@ pub enum Job {
 #[derive(Clone, Copy, Debug, PartialEq, Eq)]
 pub(crate) enum Shown {
     /// How each of its calls was answered.
-    Replies,
+    Replies {
+        /// The kernel's profile.
+        profile: Profile,
+    },
     /// Its history.
     History {
+        /// The kernel's profile.
+        profile: Profile,
         /// Whether only those entries are shown whose call was refused or found nothing.
         warn: bool,
     },
@@ -71,6 +83,7 @@ pub fn perform<S: Threads + Wait + Sync, R: Read, W: Write, E: Write>(
     out: &mut W,
     err: &mut E,
 ) -> u8
+    requires profile { HasKernel job }
     ensures status { result ≤ 1 }
     ensures done { result ≡ 0 → (text : List ℕ) × IsDone job (R.remaining file.old) text × Appends (W.contents out.old) (W.contents out.new) text }
     ensures bad { (bytes : List ℕ) (n : ℕ) → R.remaining file.old ≡ Some bytes → IsBad job bytes n
@@ -91,14 +104,17 @@ fn start<'a, S: Threads + Wait + Sync, R: Read, W: Write>(
     file: &mut R,
     out: &mut W,
 ) -> Result<u8, Fault<'a>>
+    requires profile { HasKernel job }
     ensures status { IfOk result (λ status. status ≤ 1) }
     ensures done { result ≡ Ok 0 → (text : List ℕ) × IsDone job (R.remaining file.old) text × Appends (W.contents out.old) (W.contents out.new) text }
     ensures bad { (bytes : List ℕ) (n : ℕ) → R.remaining file.old ≡ Some bytes → IsBad job bytes n
         → (result ≢ Ok 0) × (job ≢ Job.Check → Keeps (W.contents out.old) (W.contents out.new)) }
 {
     match job {
-        Job::Run => run_file(rt, alloc, Shown::Replies, name, file, out),
-        Job::Trace { warn } => run_file(rt, alloc, Shown::History { warn }, name, file, out),
+        Job::Run { profile } => run_file(rt, alloc, Shown::Replies { profile }, name, file, out),
+        Job::Trace { profile, warn } => {
+            run_file(rt, alloc, Shown::History { profile, warn }, name, file, out)
+        }
         Job::Check => check_file(alloc, name, file, out),
     }
 }
@@ -112,6 +128,7 @@ fn run_file<'a, S: Threads + Wait + Sync, R: Read, W: Write>(
     file: &mut R,
     out: &mut W,
 ) -> Result<u8, Fault<'a>>
+    requires profile { profile_of shown ≢ Three }
     ensures status { IfOk result (λ status. status ≡ 0) }
     ensures done { OnOk result ((text : List ℕ) × IsMadeOf shown (R.remaining file.old) text × Appends (W.contents out.old) (W.contents out.new) text) }
     ensures bad { (bytes : List ℕ) (n : ℕ) → R.remaining file.old ≡ Some bytes → IsFirstBadLine bytes n
@@ -132,11 +149,15 @@ fn make<S: Threads + Wait + Sync, W: Write>(
     script: Script,
     out: &mut W,
 ) -> Result<(), Fault<'static>>
+    requires profile { profile_of shown ≢ Three }
     ensures { OnOk result ((text : List ℕ) × IsMade shown script text × Appends (W.contents out.old) (W.contents out.new) text) }
 {
     match shown {
-        Shown::Replies => answer_script(rt, alloc, script, out),
-        Shown::History { warn } => trace_script(rt, alloc, script, warn, out),
+        Shown::Replies { profile } => answer_script(rt, alloc, profile, script, out),
+        Shown::History { profile, warn } => {
+            let shared = Shared::with_profile(alloc, profile)?;
+            trace_script(rt, alloc, &shared, script, Layout { profile, warn }, out)
+        }
     }
 }
 
@@ -144,32 +165,44 @@ fn make<S: Threads + Wait + Sync, W: Write>(
 fn answer_script<S: Threads + Wait + Sync, W: Write>(
     rt: &S,
     alloc: Global,
+    profile: Profile,
     script: Script,
     out: &mut W,
 ) -> Result<(), Fault<'static>>
-    ensures { OnOk result ((text : List ℕ) × IsMade Shown.Replies script text × Appends (W.contents out.old) (W.contents out.new) text) }
+    requires profile { profile ≢ Three }
+    ensures { OnOk result ((text : List ℕ) × IsMade (Shown.Replies profile) script text × Appends (W.contents out.old) (W.contents out.new) text) }
 {
-    let shared = Shared::without_entries(alloc)?;
+    let shared = Shared::with_profile_without_entries(alloc, profile)?;
     run_script(rt, alloc, &shared, script, out)?;
     Ok(())
 }
 
-/// Runs the script without a word, and then writes the history; also where a fault has stopped the script, which
-/// stays the fault.
+/// How a history is written.
+#[derive(Clone, Copy)]
+struct Layout {
+    // By which profile it is.
+    profile: Profile,
+    // Whether only those entries are written whose call was refused or found nothing.
+    warn: bool,
+}
+
+/// Runs the script on the new kernel without a word, and then writes the history; also where a fault has stopped the
+/// script, which stays the fault.
 fn trace_script<S: Threads + Wait + Sync, W: Write>(
     rt: &S,
     alloc: Global,
+    shared: &Shared,
     script: Script,
-    warn: bool,
+    layout: Layout,
     out: &mut W,
 ) -> Result<(), Fault<'static>>
-    ensures { OnOk result ((text : List ℕ) × IsHistory warn script text × Appends (W.contents out.old) (W.contents out.new) text) }
+    requires { (shared.now.keeps ≡ true) × (shared.now.profile ≡ layout.profile) }
+    ensures { OnOk result ((text : List ℕ) × IsHistory layout.profile layout.warn script text × Appends (W.contents out.old) (W.contents out.new) text) }
 {
-    let shared = Shared::new(alloc)?;
-    match run_script(rt, alloc, &shared, script, &mut io::sink()) {
-        Ok(callers) => write_whole(rt, &shared, callers, warn, out),
+    match run_script(rt, alloc, shared, script, &mut io::sink()) {
+        Ok(callers) => write_whole(rt, shared, callers, layout, out),
         Err(fault) => {
-            write_history(shared.lock(rt).entries(), warn, out)?;
+            write_history(shared.lock(rt).entries(), layout, out)?;
             Err(fault)
         }
     }
@@ -180,40 +213,40 @@ fn write_whole<S: Wait, W: Write>(
     rt: &S,
     shared: &Shared,
     callers: Callers,
-    warn: bool,
+    layout: Layout,
     out: &mut W,
 ) -> Result<(), Fault<'static>>
     requires { (callers.main.table ≡ shared.now.table) × All (λ one. one.0.table ≡ shared.now.table) callers.blocks.items }
-    ensures { shared.now.keeps ≡ true → OnOk result ((log : List AnyEntry) × Legal log × AreWhole log callers.main (map pass_of callers.blocks.items)
-        × Appends (W.contents out.old) (W.contents out.new) (history_shown warn log)) }
+    ensures { shared.now.keeps ≡ true → OnOk result ((log : List AnyEntry) × Legal shared.now.profile log × AreWhole log callers.main (map pass_of callers.blocks.items)
+        × Appends (W.contents out.old) (W.contents out.new) (history_shown layout.profile layout.warn log)) }
 {
     let Callers { mut main, blocks } = callers;
     let mut held = with_passes(rt, shared, blocks.len() as u64 + 1);
     held.show(shared.board(), &mut main);
     show_all(shared, &mut held, blocks);
-    write_history(held.entries(), warn, out)?;
+    write_history(held.entries(), layout, out)?;
     Ok(())
 }
 
 /// Writes a history, entries that are no warnings too unless `warn` is set, and then without its first line.
-fn write_history<W: Write>(entries: &[Entry], warn: bool, out: &mut W) -> io::Result<()>
-    ensures { OnOk result (Appends (W.contents out.old) (W.contents out.new) (history_shown warn entries.now)) }
+fn write_history<W: Write>(entries: &[Entry], layout: Layout, out: &mut W) -> io::Result<()>
+    ensures { OnOk result (Appends (W.contents out.old) (W.contents out.new) (history_shown layout.profile layout.warn entries.now)) }
 {
-    write_head(warn, out)?;
+    write_head(layout, out)?;
     for entry in entries {
-        write_entry(entry, warn, out)?;
+        write_entry(entry, layout.warn, out)?;
     }
     Ok(())
 }
 
 /// Writes the first line of a history, but not of its warnings alone.
-fn write_head<W: Write>(warn: bool, out: &mut W) -> io::Result<()>
-    ensures { OnOk result (Appends (W.contents out.old) (W.contents out.new) (head_shown warn)) }
+fn write_head<W: Write>(layout: Layout, out: &mut W) -> io::Result<()>
+    ensures { OnOk result (Appends (W.contents out.old) (W.contents out.new) (head_shown layout.profile layout.warn)) }
 {
-    if warn {
+    if layout.warn {
         return Ok(());
     }
-    out.write_all(b"mach-history 1\n")
+    out.write_all(heading_line(layout.profile))
 }
 
 /// Writes an entry, or nothing where warnings alone are to be written and it is none.

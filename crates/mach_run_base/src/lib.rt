@@ -1,4 +1,4 @@
-//! What the program `mach_run` does, over any reader and writers: its command line, and its jobs.
+//! What the program `mach_run` does, over any reader and writers: its jobs.
 //!
 //! A script is read line by line ([`Script`]) and run on one shared kernel: the main thread makes the calls
 //! ahead of the first block, and each block makes its own in a thread. Message calls wait by the gates of a
@@ -6,7 +6,6 @@
 #![tactic(auto)]
 
 mod checking;
-mod command_line;
 mod fault;
 mod gate;
 mod job;
@@ -14,7 +13,6 @@ mod reading;
 mod running;
 mod script;
 
-pub use command_line::{Request, read_words};
 pub use fault::{Fault, report};
 pub use gate::{BlockGate, Hall};
 pub use job::{Job, perform};

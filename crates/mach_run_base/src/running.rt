@@ -52,7 +52,7 @@ pub(crate) fn run_script<R: Threads + Wait + Sync, W: Write>(
     out: &mut W,
 ) -> Result<Callers, Fault<'static>>
     ensures tied { IfOk result (λ callers. (callers.main.table ≡ shared.now.table) × All (λ one. one.0.table ≡ shared.now.table) callers.blocks.items) }
-    ensures answered { IfOk result (λ callers. (text : List ℕ) × IsAnswered script text callers.main (map pass_of callers.blocks.items)
+    ensures answered { IfOk result (λ callers. (text : List ℕ) × IsAnswered shared.now.profile script text callers.main (map pass_of callers.blocks.items)
         × Appends (W.contents out.old) (W.contents out.new) text) }
 {
     let Script {
@@ -78,6 +78,7 @@ pub(crate) fn run_script<R: Threads + Wait + Sync, W: Write>(
 /// The kernel when so many passes were made: at once, where nobody else makes any. No other caller has made a call.
 pub(crate) fn with_passes<'a, R: Wait>(rt: &R, shared: &'a Shared, count: u64) -> Held<'a>
     ensures tied { result.kernel.table ≡ shared.entry.now.table }
+    ensures profile { result.kernel.profile ≡ shared.entry.now.profile }
     ensures keeps { result.kernel.keeps ≡ shared.entry.now.keeps }
     ensures count { result.kernel.passes ≡ count }
     ensures others { (c : ℕ) → count ≤ c → calls_by c result.kernel.log ≡ [] }
@@ -217,7 +218,7 @@ fn run_threads<R: Threads + Wait + Sync, W: Write>(
     requires tied { (main.old.table ≡ shared.now.table) × All (λ one. one.pass.table ≡ shared.now.table) blocks.items }
     ensures tied { IfOk result (λ ran. (main.new.table ≡ shared.now.table) × All (λ one. one.0.table ≡ shared.now.table) ran.items) }
     ensures main { IfOk result (λ ran. SeesAll main.old main.new.seen × (main.new.caller ≡ main.old.caller)) }
-    ensures ran { (c : ℕ) (given : List ThreadCalls) → AreEnrolled c given blocks.items → IfOk result (λ ran. (text : List ℕ) × AreBlocks main.new.seen c given text (map pass_of ran.items)
+    ensures ran { (c : ℕ) (given : List ThreadCalls) → AreEnrolled c given blocks.items → IfOk result (λ ran. (text : List ℕ) × AreBlocks shared.now.profile main.new.seen c given text (map pass_of ran.items)
         × Appends (W.contents out.old) (W.contents out.new) text) }
 {
     let mut numbers = Vec::with_capacity(alloc, blocks.len())?;
@@ -246,7 +247,7 @@ fn prepare<'a, R: Wait>(
     requires { (held.old.kernel.table ≡ shared.now.table) × (block.pass.table ≡ shared.now.table) }
     ensures same { held.new.kernel ≡ held.old.kernel }
     ensures tied { IfOk result (λ ready. ready.pass.table ≡ shared.now.table) }
-    ensures ready { IfOk result (λ ready. IsReady held.old.kernel.log block ready.pass ready.calls.items) }
+    ensures ready { IfOk result (λ ready. IsReady held.old.kernel.profile held.old.kernel.log block ready.pass ready.calls.items) }
 {
     let mut pass = block.pass;
     let calls = block.calls;

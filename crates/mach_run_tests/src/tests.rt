@@ -1,7 +1,11 @@
 //! What the program prints of a script, and which words it takes.
+ghost use Rattle.mach_run_base.specs.Jobs.{HasKernel};
+
 use clap::Error;
 use clap::error::ErrorKind;
-use mach_run_base::{Job, perform, read_words};
+use mach_run_base::{Job, perform};
+use mach_run_words::read_words;
+use mach_types::Profile;
 use std::alloc::Global;
 use std::io;
 use std::io::{Read, Write};
@@ -97,11 +101,29 @@ fn done<R: AllocGlobal + Threads + Wait + Sync>(
     job: Job,
     mut source: Source<'_>,
     mut out: Page,
-) -> Outcome {
+) -> Outcome
+    requires { HasKernel job }
+{
     let alloc = rt.alloc();
     let mut err = Page::new(alloc, usize::MAX);
     let status = perform(rt, alloc, job, "it", &mut source, &mut out, &mut err);
     Outcome { status, out, err }
+}
+
+/// The job that runs a script on a kernel of the first profile.
+fn run() -> Job
+    ensures { HasKernel result }
+{
+    let profile = Profile::One;
+    Job::Run { profile }
+}
+
+/// The job that traces a script on such a kernel, its warnings alone or all.
+fn trace(warn: bool) -> Job
+    ensures { HasKernel result }
+{
+    let profile = Profile::One;
+    Job::Trace { profile, warn }
 }
 
 /// What `run` of the source makes, with this page for its output.
@@ -110,7 +132,7 @@ pub(crate) fn run_on<R: AllocGlobal + Threads + Wait + Sync>(
     source: Source<'_>,
     out: Page,
 ) -> Outcome {
-    done(rt, Job::Run, source, out)
+    done(rt, run(), source, out)
 }
 
 /// Whether `trace` of the script, of its warnings alone or of all, writes just this.
@@ -121,7 +143,7 @@ pub(crate) fn traces<R: AllocGlobal + Threads + Wait + Sync>(
     history: &str,
 ) -> bool {
     let page = Page::new(rt.alloc(), usize::MAX);
-    done(rt, Job::Trace { warn }, source_of(script), page).is(history, "")
+    done(rt, trace(warn), source_of(script), page).is(history, "")
 }
 
 /// Whether `check` of the history writes just this verdict, and the status is 0 where it is legal, else 1.
@@ -166,7 +188,7 @@ pub(crate) fn is_traced_legally<R: AllocGlobal + Threads + Wait + Sync>(
     script: &str,
 ) -> bool {
     let page = Page::new(rt.alloc(), usize::MAX);
-    let traced = done(rt, Job::Trace { warn: false }, source_of(script), page);
+    let traced = done(rt, trace(false), source_of(script), page);
     let source = Source {
         text: traced.out.bytes.as_slice(),
         fault: None,
@@ -305,7 +327,7 @@ fn a_mute_error_stream_changes_no_status(rt: HostRuntime) {
         fault: None,
     };
     let (mut out, mut err) = (Page::new(alloc, 0), Page::new(alloc, 0));
-    assert!(rt; perform(&rt, alloc, Job::Run, "it", &mut source, &mut out, &mut err) == 1);
+    assert!(rt; perform(&rt, alloc, run(), "it", &mut source, &mut out, &mut err) == 1);
 }
 
 /// The words of a command line, the program's name first; `None` where memory is refused.
@@ -336,10 +358,10 @@ fn line_names(alloc: Global, line: &str, job: Job, file: Option<&str>) -> bool {
 #[test]
 fn reads_the_words(rt: HostRuntime) {
     let alloc = rt.alloc();
-    let (all, warnings) = (Job::Trace { warn: false }, Job::Trace { warn: true });
-    assert!(rt; line_names(alloc, "mach_run run", Job::Run, None));
-    assert!(rt; line_names(alloc, "mach_run run f", Job::Run, Some("f")));
-    assert!(rt; line_names(alloc, "mach_run run -- -f", Job::Run, Some("-f")));
+    let (all, warnings) = (trace(false), trace(true));
+    assert!(rt; line_names(alloc, "mach_run run", run(), None));
+    assert!(rt; line_names(alloc, "mach_run run f", run(), Some("f")));
+    assert!(rt; line_names(alloc, "mach_run run -- -f", run(), Some("-f")));
     assert!(rt; line_names(alloc, "mach_run trace", all, None));
     assert!(rt; line_names(alloc, "mach_run trace f", all, Some("f")));
     assert!(rt; line_names(alloc, "mach_run trace --level info f", all, Some("f")));
@@ -348,6 +370,34 @@ fn reads_the_words(rt: HostRuntime) {
     assert!(rt; line_names(alloc, "mach_run trace f --level warn", warnings, Some("f")));
     assert!(rt; line_names(alloc, "mach_run check", Job::Check, None));
     assert!(rt; line_names(alloc, "mach_run check f", Job::Check, Some("f")));
+}
+
+/// Whether each of these lines, parted by bars, names the job, and the file `f`.
+fn all_name(alloc: Global, lines: &str, job: Job) -> bool {
+    for line in lines.split('|') {
+        if !line_names(alloc, line, job, Some("f")) {
+            return false;
+        }
+    }
+    true
+}
+
+#[test]
+fn reads_the_profile(rt: HostRuntime) {
+    let (alloc, profile) = (rt.alloc(), Profile::Two);
+    let lines = "mach_run run --profile 1 f|mach_run run f --profile 1";
+    assert!(rt; all_name(alloc, lines, run()));
+    let lines = "mach_run run --profile 2 f|mach_run run --profile=2 f|mach_run run f --profile 2";
+    assert!(rt; all_name(alloc, lines, Job::Run { profile }));
+    let lines = "mach_run trace --profile 1 f|mach_run trace f --profile 1";
+    assert!(rt; all_name(alloc, lines, trace(false)));
+    let warn = false;
+    let lines = "mach_run trace --profile 2 f|mach_run trace f --profile 2";
+    assert!(rt; all_name(alloc, lines, Job::Trace { profile, warn }));
+    let warn = true;
+    let lines =
+        "mach_run trace --profile 2 --level warn f|mach_run trace --level warn f --profile 2";
+    assert!(rt; all_name(alloc, lines, Job::Trace { profile, warn }));
 }
 
 // Words that name no job, or ask for the help.
@@ -367,7 +417,7 @@ const OTHER_WORDS: [&str; 18] = [
     "mach_run runs",
     "mach_run run a b",
     "mach_run run --level warn",
-    "mach_run run --profile 1",
+    "mach_run run --profile 2 --profile 2",
     "mach_run --version",
     "mach_run run -x",
 ];
@@ -412,6 +462,20 @@ fn refuses_other_levels(rt: HostRuntime) {
     assert!(rt; is_refused(rt.alloc(), "mach_run trace --level", levels));
     assert!(rt; is_refused(rt.alloc(), "mach_run trace --level loud", levels));
     assert!(rt; is_refused(rt.alloc(), "mach_run trace --level WARN", levels));
+}
+
+// Words that name a profile that no kernel has, or none, parted by bars.
+const OTHER_PROFILES: &str =
+    "mach_run run --profile 3|mach_run run f --profile 0|mach_run run --profile x f|\
+    mach_run run f --profile|mach_run trace --profile 3|mach_run trace f --profile 0|\
+    mach_run trace --profile x f|mach_run trace f --profile";
+
+#[test]
+fn refuses_other_profiles(rt: HostRuntime) {
+    let profiles = "[possible values: 1, 2]";
+    for line in OTHER_PROFILES.split('|') {
+        assert!(rt; is_refused(rt.alloc(), line, profiles), "{line}");
+    }
 }
 
 #[test]

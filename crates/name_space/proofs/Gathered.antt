@@ -10,7 +10,7 @@ use Rattle.mach_types.specs.Numbers.{most_names}
 use Rattle.name_space_base.specs.Pages.{IsFirstFree, IsNextUsed}
 use Rattle.name_space.specs.declared.Entry.{Entry}
 use Rattle.name_space.specs.Names.{Names, IsFreshName}
-use Rattle.name_space.specs.Table.{with_all, joined}
+use Rattle.name_space.specs.Plain.{with_all, joined}
 use Rattle.name_space.proofs.Keys.{equal_or_not, put_here, put_other, out_here, out_other, same_gets, fewer}
 
 merged : (b : Bool) (x : Entry) (o p : Option Entry) → cond b (Some x) (option_or o p) ≡ option_or (cond b (Some x) o) p

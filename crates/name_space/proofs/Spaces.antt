@@ -4,6 +4,7 @@ use Rattle.std.specs.Option.{option_and_then}
 use Rattle.std.specs.FinMap as map
 use Rattle.std.specs.Ordering.{nat_cmp}
 use Rattle.mach_types.specs.Numbers.{null_word, dead_word, most_names}
+use Rattle.tagged_names.specs.Names.{Given}
 use Rattle.name_space.specs.declared.Entry.{Entry}
 use Rattle.name_space.specs.declared.Entry.TheVariants.{Receive, Send, ReceiveAndSend, SendOnce, DeadName, Set}
 use Rattle.name_space.specs.Entry.{port_named, with_send}
@@ -33,7 +34,7 @@ module _ (t : SpaceView) (p : PortsView) (len : ℕ) (x : IsSound t p len) where
 
   module _ (u : SpaceView) (name : ℕ) (e : Entry) where
     -- a name comes
-    module _ (is : u ≡ record { names = map.insert t.names name e; room = t.room - 1; kept = t.kept }) (usable : IsUsable name) (unused : map.get t.names name ≡ None) (not_full : map.len t.names < most_names) where
+    module _ (is : u ≡ record { names = map.insert t.names name e; room = t.room - 1; kept = t.kept; given = t.given }) (usable : IsUsable name) (unused : map.get t.names name ≡ None) (not_full : map.len t.names < most_names) where
       came : (q : PortsView) → AreLinked (map.insert t.names name e) q.names → q.kept ≡ p.kept → p.room ≤ q.room + 1 → IsSound u q (len + 1)
       came q both kept room = grind (arith, over, len-new, put_none)
 
@@ -44,7 +45,7 @@ module _ (t : SpaceView) (p : PortsView) (len : ℕ) (x : IsSound t p len) where
       sound-put_none none = came p (same_ports t.names _ p.names links (ports_put t.names name e (none ∙ sym (ap (option_and_then port_named) unused)))) refl (omega arith)
 
     -- an entry comes in place of another
-    module _ (is : u ≡ record { names = map.insert t.names name e; room = t.room; kept = t.kept }) (used : map.contains_key t.names name ≡ true) where
+    module _ (is : u ≡ record { names = map.insert t.names name e; room = t.room; kept = t.kept; given = t.given }) (used : map.contains_key t.names name ≡ true) where
       kept_out : (k : ℕ) → map.get t.names k ≡ None → name ≢ k
       kept_out k none a = let e : true ≡ is_some (let o : Option Entry = None in o) = sym used ∙ ap (λ n. map.contains_key t.names n) a ∙ ap is_some none in cc
 
@@ -73,7 +74,7 @@ module _ (t : SpaceView) (p : PortsView) (len : ℕ) (x : IsSound t p len) where
           told (Some other) h = absurd (some_or_none port None h refl)
 
     -- a name goes
-    module _ (is : u ≡ record { names = map.remove t.names name; room = t.room; kept = t.kept }) (there : map.get t.names name ≡ Some e) where
+    module _ (is : u ≡ record { names = map.remove t.names name; room = t.room; kept = t.kept; given = t.given }) (there : map.get t.names name ≡ Some e) where
       pub some_name : 1 ≤ len
       some_name = let less : map.len (map.remove t.names name) + 1 ≡ map.len t.names = len-gone t.names name e there in let counted = x.counted in omega arith
 
@@ -90,7 +91,7 @@ module _ (t : SpaceView) (p : PortsView) (len : ℕ) (x : IsSound t p len) where
       sound-out_none none = went p (same_ports t.names _ p.names links (ports_out t.names name (ap (option_and_then port_named) there ∙ none))) refl refl
 
   -- a name that isn't in use is taken out
-  pub nothing_out : (u : SpaceView) (name : ℕ) → u ≡ record { names = map.remove t.names name; room = t.room; kept = t.kept } → map.get t.names name ≡ None → IsSound u p len
+  pub nothing_out : (u : SpaceView) (name : ℕ) → u ≡ record { names = map.remove t.names name; room = t.room; kept = t.kept; given = t.given } → map.get t.names name ≡ None → IsSound u p len
   nothing_out u name is none = grind (arith, same_gets, equal_or_not, out_here, out_other)
 
   -- what is taken out of use may be put back under another name
@@ -105,7 +106,7 @@ pub sound-roomier : (t : SpaceView) (p q : PortsView) (len : ℕ) → IsSound t 
 sound-roomier t p q len x is more = grind arith
 
 -- the place goes to another name
-pub sound-kept : (t u : SpaceView) (p q : PortsView) (len name : ℕ) → IsSound t p len → u ≡ record { names = t.names; room = t.room; kept = Some name } → q.names ≡ p.names → q.kept ≡ Some name → t.room ≤ q.room → IsSound u q len
+pub sound-kept : (t u : SpaceView) (p q : PortsView) (len name : ℕ) → IsSound t p len → u ≡ record { names = t.names; room = t.room; kept = Some name; given = t.given } → q.names ≡ p.names → q.kept ≡ Some name → t.room ≤ q.room → IsSound u q len
 sound-kept t u p q len name x is names kept fits = grind (arith, over)
 
 -- where no port has the place of the table, none has that of the ports
@@ -129,8 +130,8 @@ port_with_send (SendOnce port) = refl
 port_with_send (DeadName references) = refl
 port_with_send (Set set) = refl
 
-pub sound_empty : (t : SpaceView) (p : PortsView) → t ≡ record { names = map.empty; room = 0; kept = None } → p ≡ record { names = map.empty; room = 0; kept = None } → IsSound t p 0
-sound_empty t p e f = record {
+pub sound_empty : (t : SpaceView) (p : PortsView) (given : Option Given) → t ≡ record { names = map.empty; room = 0; kept = None; given = given } → p ≡ record { names = map.empty; room = 0; kept = None } → IsSound t p 0
+sound_empty t p given e f = record {
   named = λ port name h. absurd (some_or_none name _ h (ap (λ (a : PortsView). map.get a.names port) f ∙ map.get-empty nat_cmp port));
   found = λ port name h. absurd (some_or_none port _ h (ap (option_and_then port_named) (nothing name)));
   same_kept = ap (λ (a : PortsView). a.kept) f ∙ sym (ap (λ (a : SpaceView). a.kept) e);
@@ -147,7 +148,7 @@ sound_empty t p e f = record {
 -- ---- a name goes and its entry comes again under another
 
 module _ (t : SpaceView) (p : PortsView) (len : ℕ) (x : IsSound t p len) (u : SpaceView) (name to : ℕ) (e : Entry)
-    (is : u ≡ record { names = map.remove t.names name; room = t.room; kept = t.kept }) (there : map.get t.names name ≡ Some e) (unused : map.get t.names to ≡ None) where
+    (is : u ≡ record { names = map.remove t.names name; room = t.room; kept = t.kept; given = t.given }) (there : map.get t.names name ≡ Some e) (unused : map.get t.names to ≡ None) where
   pub unused_after : map.get u.names to ≡ None
   unused_after = ap (λ (a : SpaceView). map.get a.names to) is ∙ out_none t.names name to unused
 
@@ -160,7 +161,7 @@ module _ (t : SpaceView) (p : PortsView) (len : ℕ) (x : IsSound t p len) (u : 
   one_more : len - 1 + 1 ≡ len
   one_more = let some : 1 ≤ len = some_name t p len x u name e is there in omega arith
 
-  module _ (w : SpaceView) (put : w ≡ record { names = map.insert u.names to e; room = u.room - 1; kept = u.kept }) (usable : IsUsable to) where
+  module _ (w : SpaceView) (put : w ≡ record { names = map.insert u.names to e; room = u.room - 1; kept = u.kept; given = u.given }) (usable : IsUsable to) where
     pub moved_none : port_named e ≡ None → IsSound w p len
     moved_none none =
         subst (IsSound w p) one_more
@@ -184,3 +185,7 @@ module _ (t : SpaceView) (p : PortsView) (len : ℕ) (x : IsSound t p len) (u : 
 -- what a view says of a space, of what lies in it
 pub inside : (P : SpaceView → Type 0) (t v : SpaceView) → t ≡ v → P v → P t
 inside P t v e h = subst P (sym e) h
+
+-- the counts change, and nothing that a space has to keep
+pub sound-counted : (t u : SpaceView) (p : PortsView) (len : ℕ) → IsSound t p len → u ≡ record { names = t.names; room = t.room; kept = t.kept; given = u.given } → IsSound u p len
+sound-counted t u p len x is = grind arith

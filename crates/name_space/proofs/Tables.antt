@@ -8,16 +8,16 @@ use Rattle.mach_types.specs.Numbers.{most_names}
 use Rattle.name_space_base.specs.Pages.{PagesView, HasPage}
 use Rattle.name_space_base.specs.Pages as pages
 use Rattle.name_space.specs.declared.Entry.{Entry}
-use Rattle.name_space.specs.Names.{Names, SpaceView, IsFreshName, HasPlace, HasNoNeighbour}
+use Rattle.name_space.specs.Names.{Names, IsFreshName, HasNoNeighbour}
 use Rattle.name_space_base.specs.High.{HighView}
-use Rattle.name_space.specs.Table.{joined, IsLaid}
+use Rattle.name_space.specs.Plain.{PlainView, HasPlainPlace, joined, IsLaid}
 use Rattle.name_space.proofs.Keys.{same_some, some_or_none, eqb-same, put_other}
 use Rattle.name_space.proofs.Gathered.{low_side, out_none, put_low, put_high, out_low, out_high, at_low, at_high, fresh-small, first-joined}
 
-space_of : Names → ℕ → Option ℕ → SpaceView
+space_of : Names → ℕ → Option ℕ → PlainView
 space_of a r k = record { names = a; room = r; kept = k }
 
-pub same_space : (a b : Names) (r s : ℕ) (k l : Option ℕ) → a ≡ b → r ≡ s → k ≡ l → ◌≡◌ {A = SpaceView} record { names = a; room = r; kept = k } record { names = b; room = s; kept = l }
+pub same_space : (a b : Names) (r s : ℕ) (k l : Option ℕ) → a ≡ b → r ≡ s → k ≡ l → ◌≡◌ {A = PlainView} record { names = a; room = r; kept = k } record { names = b; room = s; kept = l }
 unfolding space_of
 same_space a b r s k l e f g = ap (λ m. space_of m r k) e ∙ ap (λ n. space_of b n k) f ∙ ap (space_of b s) g
 
@@ -71,15 +71,15 @@ module _ (low : PagesView Entry) (high : HighView Entry) (room : ℕ) (kept : Op
 
   -- ---- as a whole sees them
 
-  module _ (v : SpaceView) (view_is : ◌≡◌ {A = SpaceView} record { names = joined low.values high.names; room = room; kept = kept } v) (n name : ℕ) (number : n ≡ name) where
+  module _ (v : PlainView) (view_is : ◌≡◌ {A = PlainView} record { names = joined low.values high.names; room = room; kept = kept } v) (n name : ℕ) (number : n ≡ name) where
     names_are : joined low.values high.names ≡ v.names
-    names_are = ap (λ (a : SpaceView). a.names) view_is
+    names_are = ap (λ (a : PlainView). a.names) view_is
 
     pub room_is : room ≡ v.room
-    room_is = ap (λ (a : SpaceView). a.room) view_is
+    room_is = ap (λ (a : PlainView). a.room) view_is
 
     kept_is : kept ≡ v.kept
-    kept_is = ap (λ (a : SpaceView). a.kept) view_is
+    kept_is = ap (λ (a : PlainView). a.kept) view_is
 
     seen : map.get (joined low.values high.names) n ≡ map.get v.names name
     seen = ap (λ (m : Names). map.get m n) names_are ∙ ap (map.get v.names) number
@@ -91,26 +91,26 @@ module _ (low : PagesView Entry) (high : HighView Entry) (room : ℕ) (kept : Op
     seen_high great = sym (at_high low.values high.names x.low_names x.high_names n great) ∙ seen
 
     -- what the pages lack, the whole does
-    pub no_neighbour : n < 65536 → pages.WantsPage low n → HasNoNeighbour v name
+    pub no_neighbour : n < 65536 → pages.WantsPage low n → HasNoNeighbour v.names v.kept name
     no_neighbour small w = grind (arith, is_some, at_low, names_are, kept_is)
 
     renamed : (f : Names → ℕ → Names) → f (joined low.values high.names) n ≡ f v.names name
     renamed f = ap (λ (m : Names). f m n) names_are ∙ ap (f v.names) number
 
     pub view-put_low : (values : Names) (left right : ℕ) (e : Entry) → values ≡ map.insert low.values n e → left ≡ right → n < 65536 →
-        ◌≡◌ {A = SpaceView} record { names = joined values high.names; room = left; kept = kept } record { names = map.insert v.names name e; room = right; kept = v.kept }
+        ◌≡◌ {A = PlainView} record { names = joined values high.names; room = left; kept = kept } record { names = map.insert v.names name e; room = right; kept = v.kept }
     view-put_low values left right e is same small = grind (arith, same_space, put_low, renamed, kept_is)
 
     pub view-out_low : (values : Names) → values ≡ map.remove low.values n → n < 65536 →
-        ◌≡◌ {A = SpaceView} record { names = joined values high.names; room = room; kept = kept } record { names = map.remove v.names name; room = v.room; kept = v.kept }
+        ◌≡◌ {A = PlainView} record { names = joined values high.names; room = room; kept = kept } record { names = map.remove v.names name; room = v.room; kept = v.kept }
     view-out_low values is small = grind (arith, same_space, out_low, renamed, room_is, kept_is)
 
     pub view-put_high : (values : Names) (left right : ℕ) (e : Entry) → values ≡ map.insert high.names n e → left ≡ right →
-        ◌≡◌ {A = SpaceView} record { names = joined low.values values; room = left; kept = kept } record { names = map.insert v.names name e; room = right; kept = v.kept }
+        ◌≡◌ {A = PlainView} record { names = joined low.values values; room = left; kept = kept } record { names = map.insert v.names name e; room = right; kept = v.kept }
     view-put_high values left right e is same = grind (arith, same_space, put_high, renamed, kept_is)
 
     pub view-out_high : (values : Names) → values ≡ map.remove high.names n → 65536 ≤ n →
-        ◌≡◌ {A = SpaceView} record { names = joined low.values values; room = room; kept = kept } record { names = map.remove v.names name; room = v.room; kept = v.kept }
+        ◌≡◌ {A = PlainView} record { names = joined low.values values; room = room; kept = kept } record { names = map.remove v.names name; room = v.room; kept = v.kept }
     view-out_high values is great = grind (arith, same_space, out_high, renamed, room_is, kept_is)
 
     fresh_here : IsFreshName v.names name → IsFreshName (joined low.values high.names) n
@@ -120,8 +120,8 @@ module _ (low : PagesView Entry) (high : HighView Entry) (room : ℕ) (kept : Op
     few_here few = subst (λ (m : Names). map.len m < most_names) (sym names_are) few
 
     -- a place for the name
-    pub low_place_for : HasPlace v name → n < 65536 → pages.HasPlace low n
+    pub low_place_for : HasPlainPlace v name → n < 65536 → pages.HasPlace low n
     low_place_for place small = grind (arith, first-joined, fresh_here, room_is, kept_is)
 
-    pub high_place_for : HasPlace v name → map.len v.names < most_names → 65536 ≤ n → high.kept ≡ Some n
+    pub high_place_for : HasPlainPlace v name → map.len v.names < most_names → 65536 ≤ n → high.kept ≡ Some n
     high_place_for place few great = grind (arith, fresh-small, fresh_here, few_here, kept_is)

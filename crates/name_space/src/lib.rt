@@ -5,8 +5,11 @@
 //! [`Space::reserve`], a place for one chosen name by [`Space::reserve_name`]; nothing else but
 //! [`Space::names`] takes memory.
 //!
-//! Names up to 65,535, as all fresh ones are, lie in pages, which are made at first use and stay; greater
-//! ones in a tree.
+//! Names have no generation, or all of a space have one. Without, a fresh name is the least unused number
+//! from 1; names up to 65,535, as all fresh ones are, lie in pages, which are made at first use and stay,
+//! and greater ones in a tree. With a generation, a fresh name is the least unused index from 1, times 256,
+//! with the count of fresh names at that index as its low 8 bits ([`tagged_names`]): names of indices from
+//! 1 to 65,535 lie in pages, and in a tree all others, and those whose index has another name.
 #![tactic(auto)]
 
 ghost use Rattle.std.specs.Prelude.{◌≡◌, ◌≢◌, ℕ, ◌+◌, ◌-◌, ◌<◌, ◌≤◌, ◌↔◌, IsTrue, true, max, Some, None, IfOk, IfSome, IfNone, IsOk, OnOk, OnErr};
@@ -14,9 +17,10 @@ ghost use Rattle.std.specs.Option.{option_and_then};
 ghost use Rattle.std.specs.FinMap as map;
 ghost use Rattle.mach_types.specs.Numbers.{most_names, most_references};
 ghost use Rattle.name_space.specs.Entry.{port_named, with_send};
-ghost use Rattle.name_space.specs.Names.{HoldsPort};
+ghost use Rattle.name_space.specs.Names.{HoldsPort, port_at};
 ghost use Rattle.name_space.specs.Sound.{lost, CanMove};
 
+mod plain;
 mod ports;
 mod table;
 
@@ -205,6 +209,15 @@ fn port_lost(table: &Table, name: Name, renewed: &Entry) -> Option<PortId>
     }
 }
 
+// The port of the name for which a place is kept, if it is one's.
+fn kept_port(table: &Table) -> Option<PortId>
+    ensures found { IfSome result (λ port. (kept : ℕ) × (table.now.kept ≡ Some kept) × (port_at table.now.names kept ≡ Some port)) }
+    ensures none { IfNone result ((kept : ℕ) → table.now.kept ≡ Some kept → port_at table.now.names kept ≡ None) }
+{
+    let kept = table.kept()?;
+    port_of(table.get(kept))
+}
+
 // Makes room for the port that leaves the place, if one has to, beside so many fresh names as there is
 // room for.
 fn reserve_moved(table: &Table, ports: &mut Ports) -> Result<(), AllocError>
@@ -214,7 +227,7 @@ fn reserve_moved(table: &Table, ports: &mut Ports) -> Result<(), AllocError>
     ensures err { OnErr result (ports.new ≡ ports.old) }
     ensures wanted { OnErr result (HoldsPort table.now) }
 {
-    let Some(_) = table.kept_port() else {
+    let Some(_) = kept_port(table) else {
         return Ok(());
     };
     let Some(places) = table.room().checked_add(1) else {
@@ -226,16 +239,17 @@ fn reserve_moved(table: &Table, ports: &mut Ports) -> Result<(), AllocError>
 
 impl Space {
     ghost use Rattle.name_space.specs.declared.Entry.{Entry as AnyEntry};
-    ghost use Rattle.name_space.specs.Names.{IsUsable, IsFreshName, IsNextName, HasPlace, HasNoOther, MayWantPlace, port_at};
+    ghost use Rattle.name_space.specs.Names.{IsUsable, IsFreshFor, IsNextName, HasPlace, HasNoOther, MayWantPlace, CanCountIn, given_after, first_given};
 
-    /// A space without names. Allocates nothing; constant time.
-    pub fn new(alloc: Global) -> Space
+    /// A space without names, whose names will have a generation or not. Allocates nothing; constant time.
+    pub fn new(alloc: Global, has_generations: bool) -> Space
         ensures names { result.names ≡ map.empty }
         ensures room { result.room ≡ 0 }
         ensures kept { result.kept ≡ None }
+        ensures given { result.given ≡ first_given has_generations }
     {
         Space {
-            table: Table::new(alloc),
+            table: Table::new(alloc, has_generations),
             ports: Ports::new(alloc),
             len: 0,
         }
@@ -270,7 +284,7 @@ impl Space {
         self.table.room()
     }
 
-    /// What stands under the name, if it is in use. Constant time; above 65,535 logarithmic in the
+    /// What stands under the name, if it is in use. Constant time; in the tree logarithmic in the
     /// number of names there.
     pub fn lookup(&self, name: Name) -> Option<Entry>
         ensures { result ≡ map.get self.now.names name }
@@ -278,12 +292,26 @@ impl Space {
         self.table.get(name)
     }
 
-    /// The least unused number from 1, at most 65,536. Constant time.
+    /// The fresh name, where fewer than 65,535 names are in use: the least unused number from 1, or with a
+    /// generation the least unused index from 1, times 256, and in the low 8 bits how often a fresh name was
+    /// counted at this index ([`Space::count`]), modulo 256. Less than 2^24. Constant time.
     pub fn fresh(&self) -> Name
-        ensures fresh { IsFreshName self.now.names result }
-        ensures small { result ≤ most_names + 1 }
+        requires not_full { map.len self.now.names < most_names }
+        ensures fresh { IsFreshFor self.now result }
+        ensures unused { map.get self.now.names result ≡ None }
+        ensures usable { IsUsable result }
+        ensures small { result < 16777216 }
     {
         self.table.fresh()
+    }
+
+    /// Counts a fresh name at its index, before it is put in or after, so that the next fresh name of the
+    /// index is another. Without a generation there is nothing to count. Takes no memory; constant time.
+    pub fn count(&mut self, name: Name)
+        requires { CanCountIn self.old.given self.old name }
+        ensures { self.new ≡ record self.old { given = given_after self.old.given name } }
+    {
+        self.table.count(name);
     }
 
     /// The name that has the port's receive right or send rights, if one has. Constant time.
@@ -313,11 +341,13 @@ impl Space {
     /// Keeps a place for the name, in use or not, so that [`Space::insert`] and [`Space::rename`] can
     /// put an entry under it without memory. The place stays the name's own, also after the name went
     /// in and out of use, until one is kept for another name. Constant time, but where memory is taken
-    /// for more ports than there were; above 65,535 logarithmic in the number of names there.
+    /// for more ports than there were; in the tree logarithmic in the number of names there.
     ///
     /// An error means that memory was refused, and that the place was not kept before; all is then as
-    /// it was. It comes only where the place that is given up has a port's name, or the new name is
-    /// above 65,535, or no name of its 256 is in use.
+    /// it was. It comes only where the place that is given up has a port's name; or where, without a
+    /// generation, the new name is above 65,535, or no name of its 256 is in use; or, with a generation,
+    /// there is no room, the place that is given up has a name in use, or in the page of 256 indices no
+    /// index has a name in use.
     pub fn reserve_name(&mut self, name: Name) -> Result<(), AllocError>
         requires usable { IsUsable name }
         ensures ok { OnOk result (self.new ≡ record self.old { kept = Some name }) }
@@ -337,7 +367,7 @@ impl Space {
 
     /// Puts the entry under a name that is not in use, in a place that was made: the fresh name where
     /// there is room for one, or the name for which a place is kept. Takes no memory. Constant time;
-    /// above 65,535 logarithmic in the number of names there.
+    /// in the tree logarithmic in the number of names there.
     #[inline(always)]
     pub fn insert(&mut self, name: Name, entry: Entry)
         requires usable { IsUsable name }
@@ -355,7 +385,7 @@ impl Space {
     }
 
     /// Puts the entry in place of what stands under a name. It is of the same port by receive or
-    /// send rights, or of none. Takes no memory. Constant time; above 65,535 logarithmic in the number
+    /// send rights, or of none. Takes no memory. Constant time; in the tree logarithmic in the number
     /// of names there.
     pub fn replace(&mut self, name: Name, entry: Entry)
         requires used { map.contains_key self.old.names name ≡ true }
@@ -373,7 +403,7 @@ impl Space {
     /// has, and answers that name with what stood under it before. A reference above 65,535 is not kept.
     ///
     /// `None` where no name has such rights for the port; nothing is then changed. Takes no memory.
-    /// Constant time; above 65,535 logarithmic in the number of names there.
+    /// Constant time; in the tree logarithmic in the number of names there.
     pub fn add_send(&mut self, port: PortId) -> Option<PortName>
         ensures found { IfSome result (λ named. map.get self.old.names named.name ≡ Some named.entry) }
         ensures port { IfSome result (λ named. port_named named.entry ≡ Some port) }
@@ -387,7 +417,7 @@ impl Space {
     }
 
     /// Takes a name out of use, and answers what stood under it. Room stays as it is, and the place that
-    /// is kept for a name. Constant time; above 65,535 logarithmic in the number of names there.
+    /// is kept for a name. Constant time; where the tree has names logarithmic in their number.
     #[inline(always)]
     pub fn remove(&mut self, name: Name) -> Option<Entry>
         ensures value { result ≡ map.get self.old.names name }
@@ -402,8 +432,8 @@ impl Space {
     }
 
     /// Gives what stands under a name another name that is not in use (Port Manipulation Interface,
-    /// `mach_port_rename`), for which a place is kept. Takes no memory. Constant time; above 65,535
-    /// logarithmic in the number of names there.
+    /// `mach_port_rename`), for which a place is kept. Takes no memory. Constant time; where the tree has
+    /// names logarithmic in their number.
     pub fn rename(&mut self, from: Name, to: Name)
         requires usable { IsUsable to }
         requires used { map.contains_key self.old.names from ≡ true }
@@ -419,8 +449,8 @@ impl Space {
         }
     }
 
-    /// The names, rising. Linear in their number, but for four words of each page of 256 names, up to
-    /// 65,535, that was used and has none.
+    /// The names, rising. Linear in their number, but for four words of each page that was used and
+    /// has none.
     ///
     /// An error means that memory was refused.
     pub fn names(&self, alloc: Global) -> Result<Vec<Name>, AllocError>
@@ -438,8 +468,8 @@ impl Space {
     }
 
     /// The least name in use from this one on, if there is one: so all names can be taken out in turn.
-    /// Constant time, but for four words of each page of 256 names, up to 65,535, that was used and has
-    /// none from there on; above 65,535 logarithmic in the number of names there.
+    /// Constant time, but for four words of each page that was used and has none from there on; where the
+    /// tree has names logarithmic in their number.
     pub fn next_name(&self, from: Name) -> Option<Name>
         ensures none { IfNone result ((name : ℕ) → from ≤ name → map.get self.now.names name ≡ None) }
         ensures found { IfSome result (λ name. IsNextName self.now.names from name) }

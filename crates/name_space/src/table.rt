@@ -1,27 +1,31 @@
-//! What stands under each name: up to 65,535 in pages, above in a tree.
-ghost use Rattle.std.specs.Prelude.{◌≡◌, ◌≢◌, ◌⊎◌, ℕ, ◌-◌, ◌<◌, ◌≤◌, ◌↔◌, IsTrue, true, max, Some, None, IfSome, IfNone, IsOk, OnOk, OnErr};
+//! What stands under each name, whether names have a generation or not.
+ghost use Rattle.std.specs.Prelude.{◌≡◌, ◌≢◌, ℕ, ◌-◌, ◌/◌, ◌<◌, ◌≤◌, ◌↔◌, IsTrue, true, max, Some, None, IfSome, IfNone, IsOk, OnOk, OnErr};
 ghost use Rattle.std.specs.FinMap as map;
 ghost use Rattle.mach_types.specs.Numbers.{most_names};
 ghost use Rattle.name_space_base.specs.Pages.{IsNextUsed};
 ghost use Rattle.name_space.specs.Entry.{with_send};
-ghost use Rattle.name_space.specs.Names.{IsFreshName, IsUsable, HasPlace, HasNoNeighbour, port_at};
+ghost use Rattle.name_space.specs.Names.{IsFreshFor, IsUsable, CanCountIn, MayWantIn, HasPlace, given_after, first_given};
 
-use crate::{Entry, port_of};
-use mach_types::{Name, PortId};
-use name_space_base::{High, Pages};
+use crate::Entry;
+use crate::plain::Plain;
+use mach_types::Name;
 use std::alloc::{AllocError, Global};
 use std::marker::Model;
+use tagged_names::TaggedNames;
 
-// The least name that lies in no page.
-const FIRST_HIGH: u32 = 65_536;
+/// Entries by names of either kind.
+#[derive(Drop)]
+pub(crate) enum Kind {
+    /// A fresh name is the least unused number.
+    Plain(Plain),
+    /// A fresh name has a generation.
+    Tagged(TaggedNames<Entry>),
+}
 
 /// Entries by names, room for fresh names, and a place for one name.
 #[derive(Drop)]
 pub(crate) struct Table {
-    low: Pages<Entry>,
-    high: High<Entry>,
-    room: usize,
-    kept: Option<Name>,
+    kind: Kind,
 }
 
 impl Model for Table {
@@ -32,44 +36,35 @@ impl Model for Table {
 
     ghost coded = { space_code entry_of.the_row.coded };
 
-    ghost use Rattle.name_space.specs.Table.{joined, IsLaid};
+    ghost use Rattle.name_space.specs.Table.{view_of};
 
-    ghost view = { λ a. record { names = joined a.low.values a.high.names; room = a.room; kept = a.kept } };
-
-    ghost invariant = { λ a. IsLaid a.low a.high a.room a.kept };
+    ghost view = { λ a. view_of a.kind };
 }
 
-// Adds a send reference, and answers what was there.
-fn join_send(held: &mut Entry) -> Entry
-    ensures value { result ≡ held.old }
-    ensures after { held.new ≡ with_send held.old }
+// Adds a send reference under a name with a generation, and answers what stood there.
+fn add_send_tagged(names: &mut TaggedNames<Entry>, name: u32) -> Entry
+    requires { map.contains_key names.old.names name ≡ true }
+    ensures value { map.get names.old.names name ≡ Some result }
+    ensures after { names.new ≡ record names.old { names = map.insert names.old.names name (with_send result) } }
 {
-    let before = *held;
-    *held = before.with_send();
-    before
-}
-
-// Adds a send reference to the entry under a name above 65,535, and returns what it was before.
-fn add_send_high(high: &mut High<Entry>, name: u32) -> Entry
-    requires { map.contains_key high.old.names name ≡ true }
-    ensures value { map.get high.old.names name ≡ Some result }
-    ensures after { high.new ≡ record high.old { names = map.insert high.old.names name (with_send result) } }
-{
-    let entry = high.get(name).unwrap();
-    high.put(name, entry.with_send());
+    let entry = names.get(name).unwrap();
+    names.set(name, entry.with_send());
     entry
 }
 
 impl Table {
-    // No names. Allocates nothing.
-    pub(crate) fn new(alloc: Global) -> Table
-        ensures { result ≡ record { names = map.empty; room = 0; kept = None } }
+    // No names, with a generation or without. Allocates nothing.
+    pub(crate) fn new(alloc: Global, has_generations: bool) -> Table
+        ensures { result ≡ record { names = map.empty; room = 0; kept = None; given = first_given has_generations } }
     {
-        Table {
-            low: Pages::new(alloc),
-            high: High::new(alloc),
-            room: 0,
-            kept: None,
+        if has_generations {
+            Table {
+                kind: Kind::Tagged(TaggedNames::new(alloc)),
+            }
+        } else {
+            Table {
+                kind: Kind::Plain(Plain::new(alloc)),
+            }
         }
     }
 
@@ -77,47 +72,64 @@ impl Table {
     pub(crate) fn room(&self) -> usize
         ensures { result ≡ self.now.room }
     {
-        self.room
+        match &self.kind {
+            Kind::Plain(names) => names.room(),
+            Kind::Tagged(names) => names.room(),
+        }
     }
 
     // Whether a place is kept for the name.
     pub(crate) fn keeps(&self, name: Name) -> bool
         ensures { IsTrue result ↔ (self.now.kept ≡ Some name) }
     {
-        match self.kept {
-            Some(kept) => kept.number() == name.number(),
-            None => false,
+        match &self.kind {
+            Kind::Plain(names) => names.keeps(name),
+            Kind::Tagged(names) => names.keeps(name.number()),
         }
     }
 
-    // The port of the name for which a place is kept, if it is one's.
-    pub(crate) fn kept_port(&self) -> Option<PortId>
-        ensures found { IfSome result (λ port. (kept : ℕ) × (self.now.kept ≡ Some kept) × (port_at self.now.names kept ≡ Some port)) }
-        ensures none { IfNone result ((kept : ℕ) → self.now.kept ≡ Some kept → port_at self.now.names kept ≡ None) }
+    // The name for which a place is kept, if there is one.
+    pub(crate) fn kept(&self) -> Option<Name>
+        ensures { result ≡ self.now.kept }
     {
-        match self.kept {
-            Some(kept) => port_of(self.get(kept)),
-            None => None,
+        match &self.kind {
+            Kind::Plain(names) => names.kept(),
+            Kind::Tagged(names) => {
+                let kept = names.kept()?;
+                Some(Name::new(kept))
+            }
         }
     }
 
     pub(crate) fn get(&self, name: Name) -> Option<Entry>
         ensures { result ≡ map.get self.now.names name }
     {
-        let number = name.number();
-        if number < FIRST_HIGH {
-            self.low.get(number)
-        } else {
-            self.high.get(number)
+        match &self.kind {
+            Kind::Plain(names) => names.get(name),
+            Kind::Tagged(names) => names.get(name.number()),
         }
     }
 
-    // The least unused number from 1.
+    // The fresh name.
     pub(crate) fn fresh(&self) -> Name
-        ensures fresh { map.len self.now.names ≤ most_names → IsFreshName self.now.names result }
-        ensures small { result ≤ 65536 }
+        requires { map.len self.now.names < most_names }
+        ensures fresh { IsFreshFor self.now result }
+        ensures small { result < 16777216 }
     {
-        Name::new(self.low.first_free())
+        match &self.kind {
+            Kind::Plain(names) => names.fresh(),
+            Kind::Tagged(names) => Name::new(names.fresh()),
+        }
+    }
+
+    // Counts a fresh name, where names have a generation. Takes no memory.
+    pub(crate) fn count(&mut self, name: Name)
+        requires { CanCountIn self.old.given self.old name }
+        ensures { self.new ≡ record self.old { given = given_after self.old.given name } }
+    {
+        if let Kind::Tagged(names) = &mut self.kind {
+            names.count(name.number());
+        }
     }
 
     // The least name from this one on that is in use.
@@ -125,41 +137,34 @@ impl Table {
         ensures found { IfSome result (λ name. IsNextUsed self.now.names from name) }
         ensures none { IfNone result ((n : ℕ) → from ≤ n → map.get self.now.names n ≡ None) }
     {
-        match self.low.next_used(from) {
-            Some(name) => Some(name),
-            None => self.high.next(from),
+        match &self.kind {
+            Kind::Plain(names) => names.next(from),
+            Kind::Tagged(names) => names.next(from),
         }
     }
 
-    // Makes room for so many fresh names. An error means that memory was refused for a page.
+    // Makes room for so many fresh names. An error means that memory was refused.
     pub(crate) fn reserve(&mut self, additional: usize) -> Result<(), AllocError>
         ensures ok { OnOk result (self.new ≡ record self.old { room = max self.old.room additional }) }
         ensures err { OnErr result (self.new ≡ self.old) }
         ensures had_room { additional ≤ self.old.room → IsOk result }
-        ensures wanted { OnErr result ((name : ℕ) × (name < 65536) × HasNoNeighbour self.old name) }
     {
-        if additional <= self.room {
-            return Ok(());
+        match &mut self.kind {
+            Kind::Plain(names) => names.reserve(additional),
+            Kind::Tagged(names) => names.reserve(additional),
         }
-        self.low.reserve(additional)?;
-        self.room = additional;
-        Ok(())
     }
 
-    // Keeps a place for the name. An error means that memory was refused for its page, or above all pages.
+    // Keeps a place for the name. An error means that memory was refused for it.
     pub(crate) fn keep(&mut self, name: Name) -> Result<(), AllocError>
         ensures ok { OnOk result (self.new ≡ record self.old { kept = Some name }) }
         ensures err { OnErr result (self.new ≡ self.old) }
-        ensures wanted { OnErr result ((65536 ≤ name) ⊎ HasNoNeighbour self.old name) }
+        ensures wanted { OnErr result (MayWantIn self.old.given self.old name) }
     {
-        let number = name.number();
-        if number < FIRST_HIGH {
-            self.low.make_page(number)?;
-        } else {
-            self.high.keep(number)?;
+        match &mut self.kind {
+            Kind::Plain(names) => names.keep(name),
+            Kind::Tagged(names) => names.keep(name.number()),
         }
-        self.kept = Some(name);
-        Ok(())
     }
 
     // Puts an entry under an unused name, in its place. Takes no memory.
@@ -171,12 +176,9 @@ impl Table {
         requires place { HasPlace self.old name }
         ensures { self.new ≡ record self.old { names = map.insert self.old.names name entry; room = self.old.room - 1 } }
     {
-        let number = name.number();
-        self.room = self.room.saturating_sub(1);
-        if number < FIRST_HIGH {
-            self.low.insert(number, entry);
-        } else {
-            self.high.put(number, entry);
+        match &mut self.kind {
+            Kind::Plain(names) => names.insert(name, entry),
+            Kind::Tagged(names) => names.insert(name.number(), entry),
         }
     }
 
@@ -185,11 +187,9 @@ impl Table {
         requires { map.contains_key self.old.names name ≡ true }
         ensures { self.new ≡ record self.old { names = map.insert self.old.names name entry } }
     {
-        let number = name.number();
-        if number < FIRST_HIGH {
-            self.low.set(number, entry);
-        } else {
-            self.high.put(number, entry);
+        match &mut self.kind {
+            Kind::Plain(names) => names.set(name, entry),
+            Kind::Tagged(names) => names.set(name.number(), entry),
         }
     }
 
@@ -199,11 +199,9 @@ impl Table {
         ensures value { map.get self.old.names name ≡ Some result }
         ensures after { self.new ≡ record self.old { names = map.insert self.old.names name (with_send result) } }
     {
-        let number = name.number();
-        if number < FIRST_HIGH {
-            join_send(self.low.value_mut(number))
-        } else {
-            add_send_high(&mut self.high, number)
+        match &mut self.kind {
+            Kind::Plain(names) => names.add_send(name),
+            Kind::Tagged(names) => add_send_tagged(names, name.number()),
         }
     }
 
@@ -213,11 +211,9 @@ impl Table {
         ensures value { result ≡ map.get self.old.names name }
         ensures after { self.new ≡ record self.old { names = map.remove self.old.names name } }
     {
-        let number = name.number();
-        if number < FIRST_HIGH {
-            self.low.remove(number)
-        } else {
-            self.high.remove(number)
+        match &mut self.kind {
+            Kind::Plain(names) => names.remove(name),
+            Kind::Tagged(names) => names.remove(name.number()),
         }
     }
 }

@@ -57,6 +57,13 @@ impl<V: Copy> High<V> {
         }
     }
 
+    /// The name for which the place is kept, if there is one. Constant time.
+    pub fn kept(&self) -> Option<u32>
+        ensures { result ≡ self.now.kept }
+    {
+        self.kept
+    }
+
     // Where the value under the name lies.
     fn held(&self, name: u32) -> Option<&V>
         ensures { option_copied result ≡ map.get self.now.names name }

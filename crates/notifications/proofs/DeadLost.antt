@@ -79,6 +79,7 @@ module _ (now : ℕ) (start : WorldView) (task : ℕ) (s : State) (sh : Shows st
         stands = λ q. refl;
         requests = λ q c m. refl;
         no_set = dead_no_set n;
+        given = refl;
       })
 
   ledger_is : v.ledger ≡ w.ledger

@@ -5,6 +5,7 @@ use Rattle.std.specs.Prelude.{if◌then◌else◌, ◌-◌, slice_set, max}
 use Rattle.std.specs.Option.{option_map}
 use Rattle.std.proofs.Math.Path.{fun_ext}
 use Rattle.std.proofs.lemmas.Bool.{cases_lt}
+use Rattle.mach_types.specs.declared.profiles.Profile.{Profile}
 use Rattle.mach_types.specs.Numbers.{dead_word}
 use Rattle.mach_model.specs.State.{State}
 use Rattle.rights.specs.declared.RightKind.TheVariants.{Receive}
@@ -54,8 +55,8 @@ use Rattle.notifications.specs.Posting.{CanPost}
 abbrev pub with_lost : PortsView Kept → (p : ℕ) → PortView Kept → PortsView Kept
 with_lost ports p v = record (with_port ports p (held v Nobody)) { lost = ports.lost ++ p ∷ [] }
 
-module _ (old : WorldView) (spaces : List (Option SpaceView)) (ports : PortsView Kept) (ledger : LedgerView) (sets : SetsView) (requests : RequestTablesView)
-    (view : tables spaces ports ledger sets requests ≡ old) (p : ℕ) (v : PortView Kept) (new : PortsView Kept) (there : map.get old.ports.ports p ≡ Some v)
+module _ (old : WorldView) {profile : Profile} (spaces : List (Option SpaceView)) (ports : PortsView Kept) (ledger : LedgerView) (sets : SetsView) (requests : RequestTablesView)
+    (view : tables profile spaces ports ledger sets requests ≡ old) (p : ℕ) (v : PortView Kept) (new : PortsView Kept) (there : map.get old.ports.ports p ≡ Some v)
     (is : map.get ports.ports p ≡ Some v → new ≡ with_lost ports p v) where
   here : map.get ports.ports p ≡ Some v
   here = ap (λ (w : WorldView). map.get w.ports.ports p) view ∙ there
@@ -66,7 +67,7 @@ module _ (old : WorldView) (spaces : List (Option SpaceView)) (ports : PortsView
   pub lost_given : AreGiven spaces ports → AreGiven spaces new
   lost_given = same_given spaces ports new same
 
-  pub lost_written : (counts : LedgerView) → counts ≡ taken ledger p Receive 1 → tables spaces new counts sets requests ≡ record old { ports = with_lost old.ports p v; ledger = taken old.ledger p Receive 1 }
+  pub lost_written : (counts : LedgerView) → counts ≡ taken ledger p Receive 1 → tables profile spaces new counts sets requests ≡ record old { ports = with_lost old.ports p v; ledger = taken old.ledger p Receive 1 }
   lost_written counts e =
       ap (λ (w : WorldView). record w { ledger = counts }) (ports_written old spaces ports ledger sets requests view new same)
       ∙ (λ i. record old { ports = (is here ∙ ap (λ (w : WorldView). with_lost w.ports p v) view) i; ledger = (e ∙ ap (λ (w : WorldView). taken w.ledger p Receive 1) view) i })
@@ -87,8 +88,8 @@ module _ (old : WorldView) (p : ℕ) where
   lost_gone : live_in old.ports p ≡ false → (new : WorldView) → new ≡ old → LosesEntry old (reading (live_in old.ports) (entry.Receive p)) new
   lost_gone live new same = subst (λ (l : Bool). LosesEntry old (if l then entry.Receive p else entry.DeadName 1) new) (sym live) same
 
-module _ (old : WorldView) (spaces : List (Option SpaceView)) (ports : PortsView Kept) (ledger : LedgerView) (sets : SetsView) (requests : RequestTablesView)
-    (view : tables spaces ports ledger sets requests ≡ old) (p : ℕ) (can : CanLoseEntry old (reading (live_in old.ports) (entry.Receive p))) where
+module _ (old : WorldView) {profile : Profile} (spaces : List (Option SpaceView)) (ports : PortsView Kept) (ledger : LedgerView) (sets : SetsView) (requests : RequestTablesView)
+    (view : tables profile spaces ports ledger sets requests ≡ old) (p : ℕ) (can : CanLoseEntry old (reading (live_in old.ports) (entry.Receive p))) where
   now : (o : Option (PortView Kept)) → map.get ports.ports p ≡ o → port_at old p ≡ o
   now o h = sym (ap (λ (w : WorldView). map.get w.ports.ports p) view) ∙ h
 
@@ -116,21 +117,21 @@ module _ (old : WorldView) (spaces : List (Option SpaceView)) (ports : PortsView
     pub kept_counted : b ≡ true → 0 < (counts_of ledger p).receive
     kept_counted is = subst (λ (w : WorldView). 0 < (counts_of w.ledger p).receive) (sym view) (kept_can is).counted
 
-    pub kept_lost : b ≡ true → (counts : LedgerView) → counts ≡ taken ledger p Receive 1 → LosesEntry old (reading (live_in old.ports) (entry.Receive p)) (tables spaces new counts sets requests)
+    pub kept_lost : b ≡ true → (counts : LedgerView) → counts ≡ taken ledger p Receive 1 → LosesEntry old (reading (live_in old.ports) (entry.Receive p)) (tables profile spaces new counts sets requests)
     kept_lost is counts e =
         let r = kept_can is in
-        lost_there old p (ap is_some r.there) (tables spaces new counts sets requests) record {
+        lost_there old p (ap is_some r.there) (tables profile spaces new counts sets requests) record {
           v = r.v;
           there = r.there;
           rest = lost_written old spaces ports ledger sets requests view p r.v new r.there (there r.v) counts e;
         }
 
-    pub kept_gone : b ≡ false → LosesEntry old (reading (live_in old.ports) (entry.Receive p)) (tables spaces new ledger sets requests)
+    pub kept_gone : b ≡ false → LosesEntry old (reading (live_in old.ports) (entry.Receive p)) (tables profile spaces new ledger sets requests)
     kept_gone is = by_cases (map.get ports.ports p) refl
       where
-        by_cases : (o : Option (PortView Kept)) → map.get ports.ports p ≡ o → LosesEntry old (reading (live_in old.ports) (entry.Receive p)) (tables spaces new ledger sets requests)
+        by_cases : (o : Option (PortView Kept)) → map.get ports.ports p ≡ o → LosesEntry old (reading (live_in old.ports) (entry.Receive p)) (tables profile spaces new ledger sets requests)
         by_cases (Some q) h = absurd (no_true (sym is ∙ told ∙ ap is_some h))
-        by_cases None h = lost_gone old p (ap is_some (now None h)) (tables spaces new ledger sets requests) (ap (λ (x : PortsView Kept). tables spaces x ledger sets requests) (gone h) ∙ view)
+        by_cases None h = lost_gone old p (ap is_some (now None h)) (tables profile spaces new ledger sets requests) (ap (λ (x : PortsView Kept). tables profile spaces x ledger sets requests) (gone h) ∙ view)
 
 -- ---- A name went with what stood there, whatever it was: the tables show what is left of the task, and its other names stay.
 

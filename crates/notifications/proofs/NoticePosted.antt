@@ -5,6 +5,7 @@ use Rattle.std.specs.Prelude.{is_some, if◌then◌else◌, filter, ◌&&◌, no
 use Rattle.std.specs.Option.{unwrap_or}
 use Rattle.std.proofs.lemmas.List.{append-nil}
 use Rattle.std.proofs.lemmas.Bool.{eq-eqb}
+use Rattle.mach_types.specs.declared.profiles.Profile.{Profile}
 use Rattle.mach_types.specs.Tokens.{Kind, send_once, Request, in_message, Token, token, Moves, weigh, count, is_of, is_held, Place, in_request, receive, send, no_senders, port_destroyed, dead_name}
 use Rattle.mach_types.specs.Messages.{Entry}
 use Rattle.mach_model.specs.State.{State, Target, lookup}
@@ -61,8 +62,8 @@ slots_posted old p notice new slots posts =
     let spare : new.ports.spare ≡ old.ports.spare - 1 = ap (λ (w : WorldView). w.ports.spare) posts.rest in
     omega (arith, slots, unused, spare)
 
-module _ (old : WorldView) (spaces : List (Option SpaceView)) (ports : PortsView Kept) (ledger : LedgerView) (sets : SetsView) (requests : RequestTablesView)
-    (view : tables spaces ports ledger sets requests ≡ old) (p : ℕ) (v : PortView Kept) (m : Kept) (new : PortsView Kept) (there : map.get old.ports.ports p ≡ Some v)
+module _ (old : WorldView) {profile : Profile} (spaces : List (Option SpaceView)) (ports : PortsView Kept) (ledger : LedgerView) (sets : SetsView) (requests : RequestTablesView)
+    (view : tables profile spaces ports ledger sets requests ≡ old) (p : ℕ) (v : PortView Kept) (m : Kept) (new : PortsView Kept) (there : map.get old.ports.ports p ≡ Some v)
     (is : map.get ports.ports p ≡ Some v → new ≡ with_message ports p v m) where
   here : map.get ports.ports p ≡ Some v
   here = ap (λ (w : WorldView). map.get w.ports.ports p) view ∙ there
@@ -73,7 +74,7 @@ module _ (old : WorldView) (spaces : List (Option SpaceView)) (ports : PortsView
   pub posted_given : AreGiven spaces ports → AreGiven spaces new
   posted_given = same_given spaces ports new same
 
-  pub posted_written : (counts : LedgerView) → counts ≡ shifted ledger p → tables spaces new counts sets requests ≡ record old { ports = with_message old.ports p v m; ledger = shifted old.ledger p }
+  pub posted_written : (counts : LedgerView) → counts ≡ shifted ledger p → tables profile spaces new counts sets requests ≡ record old { ports = with_message old.ports p v m; ledger = shifted old.ledger p }
   posted_written counts e =
       ap (λ (w : WorldView). record w { ledger = counts }) (ports_written old spaces ports ledger sets requests view new same)
       ∙ (λ i. record old { ports = (is here ∙ ap (λ (w : WorldView). with_message w.ports p v m) view) i; ledger = (e ∙ ap (λ (w : WorldView). shifted w.ledger p) view) i })

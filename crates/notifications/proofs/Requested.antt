@@ -101,12 +101,16 @@ module _ (w v : WorldView) (s : SameButRooms w v) where
         destroyed = r.port_destroyed.room;
         more = s.more;
         same = record {
-          tasks = s.same.tasks;
-          names = s.same.names;
-          ports = s.same.ports;
-          ledger = s.same.ledger;
-          sets = s.same.sets;
-          requests = placed_rooms v.requests subject paying ∙ ap (λ (x : RequestTablesView). with_rooms x r.names.room r.no_senders.room r.port_destroyed.room) s.same.requests;
+          naming = record {
+            tasks = s.same.tasks;
+            names = s.same.names;
+            ports = s.same.ports;
+            ledger = s.same.ledger;
+            sets = s.same.sets;
+            requests = placed_rooms v.requests subject paying ∙ ap (λ (x : RequestTablesView). with_rooms x r.names.room r.no_senders.room r.port_destroyed.room) s.same.requests;
+            profile = s.same.profile;
+          };
+          given = s.same.given;
         };
       }
 
@@ -119,12 +123,16 @@ module _ (w v : WorldView) (s : SameButRooms w v) where
     destroyed = s.destroyed;
     more = (let a = s.more in let b : v.ports.spare ≡ s.spare = ap (λ (p : PortsView Kept). p.spare) s.same.ports in omega (arith, a, b, more));
     same = record {
-      tasks = s.same.tasks;
-      names = s.same.names;
-      ports = ap (λ (p : PortsView Kept). record p { spare = n }) s.same.ports;
-      ledger = s.same.ledger;
-      sets = s.same.sets;
-      requests = s.same.requests;
+      naming = record {
+        tasks = s.same.tasks;
+        names = s.same.names;
+        ports = ap (λ (p : PortsView Kept). record p { spare = n }) s.same.ports;
+        ledger = s.same.ledger;
+        sets = s.same.sets;
+        requests = s.same.requests;
+        profile = s.same.profile;
+      };
+      given = s.same.given;
     };
   }
 
@@ -316,6 +324,7 @@ module _ (w : WorldView) (t : State) (a : Agrees w t) (k : ℕ) (l : IsMoving t 
         stands = λ r. refl;
         requests = λ r kind q. refl;
         no_set = λ set e. (let f : Target.dead n ≡ Target.set set = e in cc);
+        given = refl;
       }))
 
 -- ---- A dead name that is told of at once: the tables agree with the state midway.

@@ -8,7 +8,7 @@ use Rattle.mach_types.specs.Codes.{kern_number}
 use Rattle.mach_types.specs.Tokens.{Kind, send_once, Request, in_task, in_message, in_request, Token, token, weigh, count, Moves, receive, is_held}
 use Rattle.mach_types.specs.declared.codes.KernReturn.TheVariants.{NoSpace}
 use Rattle.mach_types.specs.Guards.{FirstIs, NoneHolds}
-use Rattle.mach_model.specs.State.{State, Target, same_request, request_at, with_name, lookup, held}
+use Rattle.mach_model.specs.State.{State, Target, same_request, request_at, with_name, lookup, held, gives}
 use Rattle.mach_model.specs.Carried.{lying_among, lying}
 use Rattle.mach_model.specs.CopyOut.{Named}
 use Rattle.mach_model.specs.Room.{HasNoRoom}
@@ -27,7 +27,6 @@ use Rattle.name_space.specs.Entry.{receive_named, port_of}
 use Rattle.copyin_base.specs.Requests.{notify_of, rights_kept, rights_went}
 use Rattle.copyin_base.specs.Worlds.{WorldView, entry_in, entry_at, port_at}
 use Rattle.copyin_base.specs.Shows.{Agrees, target_of}
-use Rattle.copyin_base.proofs.ProfileOne.{none_counted}
 use Rattle.copyin_base.proofs.Requested.{entry_other}
 use Rattle.copyin_base.proofs.Told.{names_receive, not_receive}
 use Rattle.copyout.specs.Giving.{alone, TakesName, GivesPort, GivesMark}
@@ -174,8 +173,8 @@ module _ (before : State) (w : WorldView) (t : State) (a : Agrees w t) (k : ℕ)
     named_then : Named task word (Target.once q) t2 given.gives.named_state
     named_then = given.gives.named
 
-    t3_is : given.t ≡ record (with_name task word (Target.once q) t2) { ledger = given.t.ledger }
-    t3_is = given.gives.rest ∙ ap (λ (x : State). record x { ledger = given.t.ledger }) (named_then.rest ∙ ap (with_name task word (Target.once q)) (none_counted t2 a.is_first task word))
+    t3_is : given.t ≡ record (with_name task word (Target.once q) (gives task word t2)) { ledger = given.t.ledger }
+    t3_is = given.gives.rest ∙ ap (λ (x : State). record x { ledger = given.t.ledger }) named_then.rest
 
     cut : (zs : List Token) × Moves C zs (token send_once q (in_request r) ∷ []) []
     cut = kept_taken send_once q r C (let b = more q in let c = some_kept w t a k l sound.requested task name small subject unwent q (is ∙ some) live in omega (arith, b, c))
@@ -187,29 +186,29 @@ module _ (before : State) (w : WorldView) (t : State) (a : Agrees w t) (k : ℕ)
     one_lies = grind (arith, lay send_once q)
 
     abbrev space2 : SpaceView
-    space2 = record g.space { names = g.after; room = g.room }
+    space2 = record g.space { names = g.after; room = g.room; given = g.counts }
 
-    own_name : TakesName g.space.names send_once q word g.after × (g.ledger ≡ away.ledger)
+    own_name : TakesName g.space send_once q word g.after × (g.ledger ≡ away.ledger)
     own_name = grind arith
 
     entries_stay : (n : ℕ) (e : Entry) → entry_at away task n ≡ Some e → entry_at out task n ≡ Some e
     entries_stay n e found = entry_other away out task word g.space space2 (Some (alone send_once q)) g.there (ap (λ (x : WorldView). x.spaces) g.rest) own_name.0.rest task n (λ u is.
-        let f : entry_at away task word ≡ None = ap (λ (o : Option SpaceView). entry_in o word) g.there ∙ own_name.0.fresh.unused in
+        let f : entry_at away task word ≡ None = ap (λ (o : Option SpaceView). entry_in o word) g.there ∙ own_name.0.unused in
         let h : None ≡ Some e = sym f ∙ ap (λ (x : ℕ). entry_at away task x) (sym is) ∙ found in cc) ∙ found
 
     pub live_comes : Comes word out
     live_comes = record {
       t3 = given.t;
       agrees = given.agrees;
-      keeps = (come_once task 0 k t2 given.t send_once q taken.keeps is_task given.gives.tokens t2.given word refl (named_new task word (Target.once q) t2 given.gives.named_state named_then) t3_is).keeps;
-      sound = (port_given_sound away t2 taken.agrees away_sound 0 k taken.keeps outside task send_once q word out at_entry g).sound;
-      back = record (with_name task word (Target.once q) copied) { stands = request_at t.stands r false; ledger = B };
+      keeps = (come_once task 0 k t2 given.t send_once q taken.keeps is_task given.gives.tokens (gives task word t2).given word refl (named_new task word (Target.once q) t2 given.gives.named_state named_then) t3_is).keeps;
+      sound = (port_given_sound away t2 taken.agrees away_sound 0 k taken.keeps outside task send_once q word at_entry out g).sound;
+      back = record (with_name task word (Target.once q) (gives task word copied)) { stands = request_at t.stands r false; ledger = B };
       gives = inr (inr (
         q,
-        with_name task word (Target.once q) copied,
+        with_name task word (Target.once q) (gives task word copied),
         stood ∙ ap is_some some,
         one_lies,
-        record { room = named_then.room; fresh = named_then.fresh; rest = ap (with_name task word (Target.once q)) (sym (none_counted copied a.is_first task word)) },
+        record { room = named_then.room; fresh = named_then.fresh; rest = refl },
         (λ h. let m = cut.1 h in omega (arith, m)),
         refl,
       ));

@@ -10,6 +10,7 @@ use Rattle.std.proofs.lemmas.List.Elements.{All-append, All-replicate}
 use Rattle.std.specs.FinMap.{get-empty}
 use Rattle.std.specs.Ordering.{nat_cmp}
 use Rattle.std.proofs.Math.Path.{fun_ext}
+use Rattle.mach_types.specs.declared.profiles.Profile.{Profile}
 use Rattle.mach_types.specs.Tokens.{Kind, receive, send, send_once, Request, in_task, in_message, in_request, Place, Token, token, weigh, count, is_of, is_held, same_kind, no_senders, port_destroyed, dead_name, is_in_task}
 use Rattle.mach_model.specs.State.{State, Target, Names, lookup, held, at}
 use Rattle.mach_model.specs.Death.{same_place}
@@ -38,7 +39,7 @@ use Rattle.port_set.specs.declared.SetRecord.{SetRecord}
 use Rattle.request_table.specs.declared.Request.{Request as NameRequest}
 use Rattle.request_table.specs.Requests.{name_key}
 use Rattle.copyin_base.specs.Posted.{with_posted}
-use Rattle.copyin_base.specs.Shows.{CountsAgree, target_of, HasCount, ShowsPort, Agrees, RequestsStand, SlotsSuffice, Shows, HoldersAgree}
+use Rattle.copyin_base.specs.Shows.{GivenAgrees, CountsAgree, target_of, HasCount, ShowsPort, Agrees, RequestsStand, SlotsSuffice, Shows, HoldersAgree}
 use Rattle.copyin_base.proofs.Counting.{one_of, none_of_port, right_of, counts_agree}
 use Rattle.copyin_base.proofs.Taking.{take_held}
 use Rattle.copyin_base.specs.Kept.{Kept}
@@ -182,10 +183,10 @@ given_closed spaces ports g task = record {
     no_space : (space : SpaceView) → None ≡ Some space → ⊥
     no_space space e = cc
 
-pub closed_written : (old : WorldView) (task : ℕ) (spaces : List (Option SpaceView)) (ports : PortsView Kept) (ledger : LedgerView) (sets : SetsView) (requests : RequestTablesView) (i : ℕ) →
-    tables spaces ports ledger sets requests ≡ old → i ≡ task → tables (slice_set spaces i None) ports ledger sets requests ≡ record old { spaces = slice_set old.spaces task None }
-closed_written old task spaces ports ledger sets requests i view index =
-    ap (λ (xs : List (Option SpaceView)). record (tables spaces ports ledger sets requests) { spaces = xs })
+pub closed_written : (old : WorldView) (task : ℕ) {profile : Profile} (spaces : List (Option SpaceView)) (ports : PortsView Kept) (ledger : LedgerView) (sets : SetsView) (requests : RequestTablesView) (i : ℕ) →
+    tables profile spaces ports ledger sets requests ≡ old → i ≡ task → tables profile (slice_set spaces i None) ports ledger sets requests ≡ record old { spaces = slice_set old.spaces task None }
+closed_written old task {profile} spaces ports ledger sets requests i view index =
+    ap (λ (xs : List (Option SpaceView)). record (tables profile spaces ports ledger sets requests) { spaces = xs })
     (read_set (live_in ports) spaces i None ∙ ap (λ (j : ℕ). slice_set (read_spaces (live_in ports) spaces) j None) index)
     ∙ ap (λ (w : WorldView). record w { spaces = slice_set w.spaces task None }) view
 
@@ -318,6 +319,7 @@ module _ (now : ℕ) (s : State) (task : ℕ) (x : Part) (l : IsLawful s) (is : 
               stands = λ r. refl;
               requests = λ r c q. ledger_unlike (λ y. if is_of c q y && same_place (in_request r) y.place then 1 else 0) (both_test (is_of c q tok) false (inr refl));
               no_set = named_no_set entry p named;
+              given = refl;
             }
           where
             own : t.naming task ≡ put ((shown now s task x).naming task) name (option_map target_of left)
@@ -670,7 +672,9 @@ module _ (now : ℕ) (start : WorldView) (task : ℕ) (s : State) (sh : Shows st
           (λ n. ap (λ (m : Names). map.get m n) (at_own s.naming task map.empty) ∙ get-empty nat_cmp n) (λ k not n. b.naming k n);
       names_kept = each (λ k o. (y : SpaceView) → o ≡ Some y → map.len y.names ≡ map.len (at s.naming task map.empty k)) (λ y e. absurd (no_some y e)) (λ k not y e. b.names_kept k y e);
       counted = each (λ k o. (n : ℕ) (e : Entry) → entry_in o n ≡ Some e → HasCount e) (λ n e is. absurd (no_some e is)) (λ k not n e is. b.counted k n e is);
-      is_first = b.is_first;
+      profiles = b.profiles;
+      counts_given = each (λ k o. (y : SpaceView) → o ≡ Some y → GivenAgrees s.profile y.given (s.given k)) (λ y e. absurd (no_some y e)) (λ k not y e. b.counts_given k y e);
+      none_given = b.none_given;
     };
     rights = record {
       references = each (λ k o. (n : ℕ) (e : Entry) (p : ℕ) → entry_in o n ≡ Some e → port_named e ≡ Some p →

@@ -135,6 +135,7 @@ module _ (now : ℕ) (start : WorldView) (task : ℕ) (s : State) (sh : Shows st
         stands = λ q. refl;
         requests = λ q c n. refl;
         no_set = once_no_set p;
+        given = refl;
       })
 
   within : s.taken p ≤ length (log p)

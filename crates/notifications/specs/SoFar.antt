@@ -80,7 +80,7 @@ pub record IsSoFar (now : ℕ) (mid : State) (e : Ending) (s : State) : Type 0 w
 -- how many of the rights for it queued messages go by, since such messages may have been destroyed; nor of the rights for it that requests keep,
 -- since such requests may have ended. All of these rights leave with the port.
 pub record AgreesOf (lives : ℕ → Bool) (w : WorldView) (s : State) : Type 0 where
-  pub spaces : SpacesAgree w.spaces s.live_task s.tasks_made s.naming s.profile
+  pub spaces : SpacesAgree w.profile w.spaces s.live_task s.tasks_made s.naming s.profile s.given
   pub rights : ReferencesAgree w.spaces s.ledger
   pub live_port : (p : ℕ) → is_some (port_at w p) ≡ s.live_port p
   pub ports_made : w.ports.made ≡ s.ports_made

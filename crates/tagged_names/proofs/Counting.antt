@@ -1,10 +1,10 @@
--- A fresh name can be counted after it is put in, too.
-use Rattle.std.proofs.Common.{arith, ℕ, Option, ◌/◌, ◌<◌, is_some}
+-- What a count changes, and that a fresh name can be counted before it is put in, and after.
+use Rattle.std.proofs.Common.{arith, ◌≡◌, ◌≢◌, inl, ℕ, zero, suc, ◌+◌, ◌/◌, ◌%◌, ◌<◌, Option, is_some, unwrap_or, ap}
 use Rattle.std.proofs.lemmas.Bool.{cases_eq}
 use Rattle.std.specs.Ordering.{nat_cmp}
 use Rattle.std.specs.FinMap as map
-use Rattle.name_space_base.proofs.Tables.{put_here, put_other}
-use Rattle.tagged_names.specs.Names.{Given, IsTaken, IsFreshIndex, CanCount}
+use Rattle.name_space_base.proofs.Tables.{put_here, put_other, out_here, out_other}
+use Rattle.tagged_names.specs.Names.{TaggedView, Given, IsTaken, IsFreshIndex, CanCount, count_of, with_count, counted}
 
 pub taken_then : {V : Type 0} (names : map.FinMap nat_cmp V) (name : ℕ) (e : V) (i : ℕ) → IsTaken names i → IsTaken (map.insert names name e) i
 taken_then names name e i t = grind (arith, cases_eq, is_some, put_here, put_other)
@@ -12,3 +12,22 @@ taken_then names name e i t = grind (arith, cases_eq, is_some, put_here, put_oth
 pub count_after : {V : Type 0} (names : map.FinMap nat_cmp V) (given : Given) (name room : ℕ) (kept : Option ℕ) (e : V) → IsFreshIndex names (name / 256) → name / 256 < 65536 →
     CanCount record { names = map.insert names name e; given = given; room = room; kept = kept } (name / 256)
 count_after names given name room kept e f small = grind (arith, taken_then, is_some, put_here)
+
+pub count_before : {V : Type 0} (v : TaggedView V) (name : ℕ) → IsFreshIndex v.names (name / 256) → name / 256 < 65536 → 0 < v.room → CanCount v (name / 256)
+count_before v name f small room = record { positive = f.positive; small = small; least = f.least; here = inl room }
+
+with_here : (given : Given) (i n : ℕ) → count_of (with_count given i n) i ≡ n
+with_here given i zero = ap (λ o. unwrap_or o 0) (out_here given i)
+with_here given i (suc n) = ap (λ o. unwrap_or o 0) (put_here given i (suc n))
+
+with_other : (given : Given) (i n q : ℕ) → q ≢ i → count_of (with_count given i n) q ≡ count_of given q
+with_other given i zero q d = ap (λ o. unwrap_or o 0) (out_other given i q d)
+with_other given i (suc n) q d = ap (λ o. unwrap_or o 0) (put_other given i (suc n) q d)
+
+-- the count at the index is one more, modulo 256
+pub counted_here : (given : Given) (i : ℕ) → count_of (counted given i) i ≡ (count_of given i + 1) % 256
+counted_here given i = with_here given i _
+
+-- all others stay
+pub counted_other : (given : Given) (i q : ℕ) → q ≢ i → count_of (counted given i) q ≡ count_of given q
+counted_other given i q d = with_other given i _ q d

@@ -6,3 +6,4 @@ pub mod Nexts
 pub mod Views
 pub mod Sounds
 pub mod Counting
+pub mod Found

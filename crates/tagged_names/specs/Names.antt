@@ -53,10 +53,10 @@ pub record IsFreshIndex {V : Type 0} (names : map.FinMap nat_cmp V) (index : ℕ
   pub positive : 0 < index
   pub least : (i : ℕ) → 0 < i → i < index → IsTaken names i
 
--- the fresh name: it has the fresh index, and the count there as its low 8 bits
+-- the fresh name: it has the fresh index, and the count there, modulo 256, as its low 8 bits
 pub record IsFreshName {V : Type 0} (v : TaggedView V) (name : ℕ) : Type 0 where
   pub index : IsFreshIndex v.names (name / 256)
-  pub low : name % 256 ≡ count_of v.given (name / 256)
+  pub low : name % 256 ≡ count_of v.given (name / 256) % 256
 
 -- A fresh name can be counted at the index: each lesser one is taken, and this one is too, or there is room for a name of it.
 pub record CanCount {V : Type 0} (v : TaggedView V) (index : ℕ) : Type 0 where

@@ -132,6 +132,13 @@ impl<V: Copy> TaggedNames<V> {
         self.counts.count(name / NAMES);
     }
 
+    /// The name for which a place is kept, if there is one. Constant time.
+    pub fn kept(&self) -> Option<u32>
+        ensures { result ≡ self.now.kept }
+    {
+        self.places.kept()
+    }
+
     /// Whether a place is kept for the name. Constant time.
     pub fn keeps(&self, name: u32) -> bool
         ensures { IsTrue result ↔ (self.now.kept ≡ Some name) }

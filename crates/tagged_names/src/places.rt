@@ -184,6 +184,13 @@ impl<V: Copy> Places<V> {
         self.slots.reserve(additional)
     }
 
+    // The name for which a place is kept, if there is one.
+    pub(crate) fn kept(&self) -> Option<u32>
+        ensures { result ≡ self.now.kept }
+    {
+        self.others.kept()
+    }
+
     // Whether the place is kept for the name.
     pub(crate) fn keeps(&self, name: u32) -> bool
         ensures { IsTrue result ↔ (self.now.kept ≡ Some name) }

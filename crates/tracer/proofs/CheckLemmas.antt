@@ -1,10 +1,11 @@
 -- Entries that are confirmed one after another.
-use Rattle.std.proofs.Common.{◌≡◌, ℕ, ◌+◌, ◌<◌, List, [], ◌∷◌, ◌++◌, All, Option, Some, None, flat_map, inl, refl, sym, ap, ◌∙◌, subst, arith, append_assoc, length, take, drop, get_or}
+use Rattle.std.proofs.Common.{◌≡◌, ◌≢◌, ℕ, ◌+◌, ◌<◌, List, [], ◌∷◌, ◌++◌, All, Option, Some, None, flat_map, inl, refl, sym, ap, ◌∙◌, subst, arith, append_assoc, length, take, drop, get_or}
 use Rattle.std.proofs.lemmas.List.{take_more, take-append-drop, length-take-le}
+use Rattle.mach_types.specs.declared.profiles.Profile.{Profile}
+use Rattle.mach_types.specs.declared.profiles.Profile.TheVariants.{Three}
 use Rattle.mach_types.specs.declared.calls.Event.{Event}
 use Rattle.mach_types.specs.declared.calls.Reply.{Reply}
-use Rattle.mach_model.specs.State.{State}
-use Rattle.mach_model.specs.Machine.{opening}
+use Rattle.mach_model.specs.State.{State, opening_in}
 use Rattle.mach_model.proofs.Failing.{refusal_fails}
 use Rattle.copyin_base.specs.Shows.{Shows}
 use Rattle.kernel_core.specs.Answers.{Answers}
@@ -13,11 +14,10 @@ use Rattle.kernel_core.specs.Limits.{PassesLimit}
 use Rattle.kernel_core.specs.MemoryCodes.{TellsMemoryCode}
 use Rattle.kernel_core.specs.Wanted.{memory_code}
 use Rattle.kernel_lock.specs.declared.entry.Entry.{Entry}
-use Rattle.kernel_lock.specs.History.{Legal}
 use Rattle.kernel_lock.specs.Replays.{Replays}
-use Rattle.kernel_lock.proofs.Replaying.{replays_push}
+use Rattle.kernel_lock.proofs.Replaying.{legal_of, replays_push}
 use Rattle.tracer.specs.Checks.{AnswersOtherwise, IsNoWant, IsRefusal, IsUnconfirmed, MayLackMemory}
-use Rattle.tracer.specs.Histories.{entry_line, history_text, FitsLine, IsFirstBadLine, HasBadEntry}
+use Rattle.tracer.specs.Histories.{heading, entry_line, history_text, FitsLine, IsFirstBadLine, HasBadEntry}
 use Rattle.tracer.proofs.EntryLemmas.{next_line, behind}
 
 -- a refusal is answered, and the state stays
@@ -73,23 +73,21 @@ no_want_told kernel event reply code (Some other) is told apart =
     record { never = λ s shown same refuses. apart (ap Some (told.0 ∙ sym (same_code code (memory_code event) (sym is ∙ same)))) }
 no_want_told kernel event reply code None is told apart = record { never = λ s shown same refuses. told.never s shown refuses }
 
--- a new kernel shows what no entry leads to
-pub replays-none : (kernel : KernelView) → Shows kernel.tables opening → Replays [] kernel
-replays-none kernel shown = record { state = opening; leads = refl; shown = shown }
+-- a new kernel of the profile shows what no entry leads to
+pub replays-none : (profile : Profile) (kernel : KernelView) → Shows kernel.tables (opening_in profile) → Replays profile [] kernel
+replays-none profile kernel shown = record { state = opening_in profile; leads = refl; shown = shown }
 
 -- one more entry was confirmed, of those up to a place
-pub replays-at : (entries : List Entry) (i : ℕ) (e : Entry) (old new : KernelView) → i < length entries → get_or entries i e ≡ e → Replays (take i entries) old → Answers old.tables e.event e.reply new.tables
-    → Replays (take (i + 1) entries) new
-replays-at entries i e old new low here so_far step =
+pub replays-at : (profile : Profile) (entries : List Entry) (i : ℕ) (e : Entry) (old new : KernelView) → i < length entries → get_or entries i e ≡ e → Replays profile (take i entries) old
+    → Answers old.tables e.event e.reply new.tables → Replays profile (take (i + 1) entries) new
+replays-at profile entries i e old new low here so_far step =
     let more : take (i + 1) entries ≡ take i entries ++ e ∷ [] = take_more entries i e low ∙ ap (λ (x : Entry). take i entries ++ x ∷ []) here in
-    subst (λ (log : List Entry). Replays log new) (sym more) (replays_push (take i entries) old new e so_far step)
-
-pub legal-of : (log : List Entry) (kernel : KernelView) → Replays log kernel → Legal log
-legal-of log kernel r = record { state = r.state; leads = r.leads }
+    subst (λ (log : List Entry). Replays profile log new) (sym more) (replays_push profile (take i entries) old new e so_far step)
 
 -- the entry at a place isn't confirmed
-pub unconfirmed-at : (entries : List Entry) (i n : ℕ) (e : Entry) (kernel : KernelView) → i < length entries → get_or entries i e ≡ e → i + 1 ≡ n → Replays (take i entries) kernel → AnswersOtherwise kernel e.event e.reply → IsUnconfirmed entries n
-unconfirmed-at entries i n e kernel low here number so_far otherwise =
+pub unconfirmed-at : (profile : Profile) (entries : List Entry) (i n : ℕ) (e : Entry) (kernel : KernelView) → i < length entries → get_or entries i e ≡ e → i + 1 ≡ n
+    → Replays profile (take i entries) kernel → AnswersOtherwise kernel e.event e.reply → IsUnconfirmed profile entries n
+unconfirmed-at profile entries i n e kernel low here number so_far otherwise =
     let more : take (i + 1) entries ≡ take i entries ++ e ∷ [] = take_more entries i e low ∙ ap (λ (x : Entry). take i entries ++ x ∷ []) here in
     let long : length (take i entries) ≡ i = length-take-le i entries (omega (arith, low)) in
     record {
@@ -98,16 +96,16 @@ unconfirmed-at entries i n e kernel low here number so_far otherwise =
       behind = drop (i + 1) entries;
       parts = sym (append_assoc (take i entries) (e ∷ []) (drop (i + 1) entries)) ∙ ap (λ (l : List Entry). l ++ drop (i + 1) entries) (sym more) ∙ take-append-drop (i + 1) entries;
       number = omega (arith, long, number);
-      legal = legal-of (take i entries) kernel so_far;
+      legal = legal_of profile (take i entries) kernel so_far;
       kernel = kernel;
       replays = so_far;
       otherwise = otherwise;
     }
 
 -- the entry at a place may lack memory
-pub lacking-at : (entries : List Entry) (i : ℕ) (e : Entry) (kernel : KernelView) → i < length entries → get_or entries i e ≡ e → Replays (take i entries) kernel →
-    ((s : State) → Shows kernel.tables s → ¬ (PassesLimit s e.event)) → MayLackMemory entries
-lacking-at entries i e kernel low here so_far room =
+pub lacking-at : (profile : Profile) (entries : List Entry) (i : ℕ) (e : Entry) (kernel : KernelView) → i < length entries → get_or entries i e ≡ e → Replays profile (take i entries) kernel
+    → ((s : State) → Shows kernel.tables s → ¬ (PassesLimit s e.event)) → MayLackMemory profile entries
+lacking-at profile entries i e kernel low here so_far room =
     let more : take (i + 1) entries ≡ take i entries ++ e ∷ [] = take_more entries i e low ∙ ap (λ (x : Entry). take i entries ++ x ∷ []) here in
     record {
       before = take i entries;
@@ -120,22 +118,23 @@ lacking-at entries i e kernel low here so_far room =
     }
 
 -- the last entry isn't confirmed
-pub unconfirmed-last : (before : List Entry) (e : Entry) (n : ℕ) (kernel : KernelView) → length before + 1 ≡ n → Replays before kernel → AnswersOtherwise kernel e.event e.reply → IsUnconfirmed (before ++ e ∷ []) n
-unconfirmed-last before e n kernel number so_far otherwise = record {
+pub unconfirmed-last : (profile : Profile) (before : List Entry) (e : Entry) (n : ℕ) (kernel : KernelView) → length before + 1 ≡ n → Replays profile before kernel
+    → AnswersOtherwise kernel e.event e.reply → IsUnconfirmed profile (before ++ e ∷ []) n
+unconfirmed-last profile before e n kernel number so_far otherwise = record {
   before = before;
   entry = e;
   behind = [];
   parts = refl;
   number = number;
-  legal = legal-of before kernel so_far;
+  legal = legal_of profile before kernel so_far;
   kernel = kernel;
   replays = so_far;
   otherwise = otherwise;
 }
 
 -- there is one entry more behind one that isn't confirmed
-pub unconfirmed-more : (entries : List Entry) (e : Entry) (n : ℕ) → IsUnconfirmed entries n → IsUnconfirmed (entries ++ e ∷ []) n
-unconfirmed-more entries e n u = record {
+pub unconfirmed-more : (profile : Profile) (entries : List Entry) (e : Entry) (n : ℕ) → IsUnconfirmed profile entries n → IsUnconfirmed profile (entries ++ e ∷ []) n
+unconfirmed-more profile entries e n u = record {
   before = u.before;
   entry = u.entry;
   behind = u.behind ++ e ∷ [];
@@ -151,10 +150,10 @@ some_left : (rest : List ℕ) → rest ≡ [] → 0 < length rest → ⊥
 some_left rest none some = let long = ap length none in absurd (omega (arith, long, some))
 
 -- the text of a history has no bad line
-no-bad-entry : (entries : List Entry) (text : List ℕ) (n : ℕ) → All FitsLine entries → history_text entries ≡ text → HasBadEntry text n → ⊥
-no-bad-entry entries text n fit same bad =
-    next_line bad.entries entries bad.rest bad.fit fit (behind _ _ (bad.parts ∙ sym same)) (λ none. some_left bad.rest none bad.some) bad.bad
+no-bad-entry : (profile : Profile) (entries : List Entry) (text : List ℕ) (n : ℕ) → All FitsLine entries → history_text profile entries ≡ text → HasBadEntry text n → ⊥
+no-bad-entry profile entries text n fit same bad =
+    next_line bad.entries entries bad.rest bad.fit fit (behind bad.profile profile _ _ (sym (append_assoc (heading bad.profile) (flat_map entry_line bad.entries) bad.rest) ∙ bad.parts ∙ sym same)).1 (λ none. some_left bad.rest none bad.some) bad.bad
 
-pub no-bad-line : (entries : List Entry) (text : List ℕ) (n : ℕ) → All FitsLine entries → history_text entries ≡ text → IsFirstBadLine text n → ⊥
-no-bad-line entries text n fit same (IsFirstBadLine.no_heading first none) = none (flat_map entry_line entries) same
-no-bad-line entries text n fit same (IsFirstBadLine.no_entry bad) = no-bad-entry entries text n fit same bad
+pub no-bad-line : (profile : Profile) (entries : List Entry) (text : List ℕ) (n : ℕ) → profile ≢ Three → All FitsLine entries → history_text profile entries ≡ text → IsFirstBadLine text n → ⊥
+no-bad-line profile entries text n had fit same (IsFirstBadLine.no_heading first none) = none profile (flat_map entry_line entries) had same
+no-bad-line profile entries text n had fit same (IsFirstBadLine.no_entry bad) = no-bad-entry profile entries text n fit same bad

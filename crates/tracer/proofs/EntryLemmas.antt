@@ -3,6 +3,8 @@ use Rattle.std.proofs.Common.{codes, ◌≡◌, ◌≢◌, ℕ, ◌<◌, List, [
 use Rattle.std.proofs.lemmas.Fmt.{decimal_injective}
 use Rattle.std.proofs.lemmas.List.{take_more, nil_from_length}
 use Rattle.std.proofs.lemmas.List.Elements.{All-append, All-head, All-tail}
+use Rattle.mach_types.specs.declared.profiles.Profile.{Profile}
+use Rattle.mach_types.specs.declared.profiles.Profile.TheVariants.{One, Two, Three}
 use Rattle.mach_types.specs.declared.calls.Event.{Event}
 use Rattle.mach_types.specs.declared.calls.Reply.{Reply}
 use Rattle.kernel_lock.specs.declared.entry.Entry.{Entry}
@@ -80,9 +82,21 @@ next_line (e ∷ done) (other ∷ all) rest fit fit_all same some bad =
     (sym (append_assoc (entry_line e) (flat_map entry_line done) rest) ∙ same) in
     next_line done all rest (All-tail FitsLine e done fit) (All-tail FitsLine other all fit_all) left.1 some bad
 
--- what stands behind the heading is told by the whole text
-pub behind : (rest other : List ℕ) → heading ++ rest ≡ heading ++ other → rest ≡ other
-behind rest other same = cc
+-- the number in a heading
+number_at : (profile other : Profile) (rest left : List ℕ) → heading profile ++ rest ≡ heading other ++ left → get_or (heading profile ++ rest) 13 0 ≡ get_or (heading other ++ left) 13 0
+number_at profile other rest left same = ap (λ (text : List ℕ). get_or text 13 0) same
+
+-- two headings are apart, and neither begins the other: the whole text tells its profile, and what stands behind its heading
+pub behind : (profile other : Profile) (rest left : List ℕ) → heading profile ++ rest ≡ heading other ++ left → (profile ≡ other) × (rest ≡ left)
+behind One One rest left same = (refl, cc)
+behind One Two rest left same = let number = number_at One Two rest left same in absurd (omega (arith, number))
+behind One Three rest left same = let number = number_at One Three rest left same in absurd (omega (arith, number))
+behind Two One rest left same = let number = number_at Two One rest left same in absurd (omega (arith, number))
+behind Two Two rest left same = (refl, cc)
+behind Two Three rest left same = let number = number_at Two Three rest left same in absurd (omega (arith, number))
+behind Three One rest left same = let number = number_at Three One rest left same in absurd (omega (arith, number))
+behind Three Two rest left same = let number = number_at Three Two rest left same in absurd (omega (arith, number))
+behind Three Three rest left same = (refl, cc)
 
 -- a fault that names no line is want of memory
 pub memory : (fault : HistoryFault) → ((n : ℕ) → fault ≢ BadLine n) → fault ≡ Memory
@@ -101,25 +115,29 @@ same_lines (e ∷ es) (other ∷ others) fit fit_too same =
     let rest = same_lines es others (All-tail FitsLine e es fit) (All-tail FitsLine other others fit_too) parts.1 in
     ap (λ x. x ∷ es) parts.0 ∙ ap (λ xs. other ∷ xs) rest
 
--- a history is told by its text
-pub same_history : (es others : List Entry) → All FitsLine es → All FitsLine others → history_text es ≡ history_text others → es ≡ others
-same_history es others fit fit_too same = same_lines es others fit fit_too (behind (flat_map entry_line es) (flat_map entry_line others) same)
+-- a history is told by its text, its profile too
+pub same_history : (profile other : Profile) (es others : List Entry) → All FitsLine es → All FitsLine others → history_text profile es ≡ history_text other others → (profile ≡ other) × (es ≡ others)
+same_history profile other es others fit fit_too same =
+    let parts = behind profile other (flat_map entry_line es) (flat_map entry_line others) same in
+    (parts.0, same_lines es others fit fit_too parts.1)
 
 -- one more entry's line behind those of the entries before it
-pub history_push : (entries : List Entry) (e : Entry) → history_text (entries ++ e ∷ []) ≡ history_text entries ++ entry_line e
-history_push entries e = ap (λ lines. heading ++ lines) (texts_push entry_line entries e)
+pub history_push : (profile : Profile) (entries : List Entry) (e : Entry) → history_text profile (entries ++ e ∷ []) ≡ history_text profile entries ++ entry_line e
+history_push profile entries e = ap (λ lines. heading profile ++ lines) (texts_push entry_line entries e) ∙ sym (append_assoc (heading profile) (flat_map entry_line entries) (entry_line e))
 
 -- the same, of the entries up to a place
-pub history_more : (entries : List Entry) (i : ℕ) (e : Entry) → i < length entries → get_or entries i e ≡ e → history_text (take (i + 1) entries) ≡ history_text (take i entries) ++ entry_line e
-history_more entries i e low here =
-    ap history_text (take_more entries i e low) ∙ ap (λ (x : Entry). history_text (take i entries ++ x ∷ [])) here ∙ history_push (take i entries) e
+pub history_more : (profile : Profile) (entries : List Entry) (i : ℕ) (e : Entry) → i < length entries → get_or entries i e ≡ e
+    → history_text profile (take (i + 1) entries) ≡ history_text profile (take i entries) ++ entry_line e
+history_more profile entries i e low here =
+    ap (history_text profile) (take_more entries i e low) ∙ ap (λ (x : Entry). history_text profile (take i entries ++ x ∷ [])) here ∙ history_push profile (take i entries) e
 
 -- one more entry is read
-pub reads_more : (entries : List Entry) (e : Entry) (rest others text : List ℕ) → history_text entries ++ rest ≡ text → entry_line e ++ others ≡ rest → history_text (entries ++ e ∷ []) ++ others ≡ text
-reads_more entries e rest others text so_far next =
-    ap (λ t. t ++ others) (history_push entries e) ∙ append_assoc (history_text entries) (entry_line e) others ∙ ap (λ t. history_text entries ++ t) next ∙ so_far
+pub reads_more : (profile : Profile) (entries : List Entry) (e : Entry) (rest others text : List ℕ) → history_text profile entries ++ rest ≡ text → entry_line e ++ others ≡ rest
+    → history_text profile (entries ++ e ∷ []) ++ others ≡ text
+reads_more profile entries e rest others text so_far next =
+    ap (λ t. t ++ others) (history_push profile entries e) ∙ append_assoc (history_text profile entries) (entry_line e) others ∙ ap (λ t. history_text profile entries ++ t) next ∙ so_far
 
 -- with nothing left, all is read
-pub read_all : (entries : List Entry) (rest text : List ℕ) → history_text entries ++ rest ≡ text → length rest ≡ 0 → history_text entries ≡ text
-read_all entries rest text so_far none =
-    sym (append-nil (history_text entries)) ∙ ap (λ t. history_text entries ++ t) (sym (nil_from_length rest none)) ∙ so_far
+pub read_all : (profile : Profile) (entries : List Entry) (rest text : List ℕ) → history_text profile entries ++ rest ≡ text → length rest ≡ 0 → history_text profile entries ≡ text
+read_all profile entries rest text so_far none =
+    sym (append-nil (history_text profile entries)) ∙ ap (λ t. history_text profile entries ++ t) (sym (nil_from_length rest none)) ∙ so_far

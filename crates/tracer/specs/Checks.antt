@@ -1,5 +1,6 @@
 -- Histories that are checked again.
 use Rattle.std.specs.Prelude.{◌≡◌, ◌≢◌, ◌⊎◌, ℕ, ◌+◌, List, ◌∷◌, ◌++◌, length}
+use Rattle.mach_types.specs.declared.profiles.Profile.{Profile}
 use Rattle.mach_types.specs.declared.calls.Event.{Event}
 use Rattle.mach_types.specs.declared.calls.Reply.{Reply}
 use Rattle.mach_model.specs.State.{State}
@@ -33,25 +34,26 @@ pub record AnswersOtherwise (kernel : KernelView) (event : Event) (reply : Reply
   pub owned : IsNoWant next event own ⊎ IsNearLimit kernel.tables event
   pub other : own ≢ reply
 
--- The entry of this number, from 1, isn't confirmed: those before it are a legal history, and a kernel that shows what they lead to answers otherwise.
-pub record IsUnconfirmed (entries : List Entry) (n : ℕ) : Type 0 where
+-- The entry of this number, from 1, isn't confirmed: those before it are a history that is legal by the profile, and a kernel that shows what they lead
+-- to answers otherwise.
+pub record IsUnconfirmed (profile : Profile) (entries : List Entry) (n : ℕ) : Type 0 where
   pub before : List Entry
   pub entry : Entry
   pub behind : List Entry
   pub parts : before ++ entry ∷ behind ≡ entries
   pub number : length before + 1 ≡ n
-  pub legal : Legal before
+  pub legal : Legal profile before
   pub kernel : KernelView
-  pub replays : Replays before kernel
+  pub replays : Replays profile before kernel
   pub otherwise : AnswersOtherwise kernel entry.event entry.reply
 
--- Want of memory may be why a call isn't answered as its entry says: those before it lead to this state, and in it the limit of rights doesn't refuse the
--- call.
-pub record MayLackMemory (entries : List Entry) : Type 0 where
+-- Want of memory may be why a call isn't answered as its entry says: those before it lead to this state by the profile, and in it the limit of rights
+-- doesn't refuse the call.
+pub record MayLackMemory (profile : Profile) (entries : List Entry) : Type 0 where
   pub before : List Entry
   pub entry : Entry
   pub behind : List Entry
   pub parts : before ++ entry ∷ behind ≡ entries
   pub state : State
-  pub leads : LeadsTo before state
+  pub leads : LeadsTo profile before state
   pub room : ¬ (PassesLimit state entry.event)

@@ -1,14 +1,27 @@
 -- The text of histories.
 use Rattle.std.specs.Prelude.{◌≡◌, ◌≢◌, ℕ, ◌+◌, ◌<◌, ◌^◌, List, [], ◌∷◌, ◌++◌, codes, decimal, length, flat_map, All}
+use Rattle.mach_types.specs.declared.profiles.Profile.{Profile}
+use Rattle.mach_types.specs.declared.profiles.Profile.TheVariants.{One, Two, Three}
 use Rattle.mach_types.specs.declared.calls.Reply.{Reply}
 use Rattle.kernel_lock.specs.declared.entry.Entry.{Entry}
 use Rattle.tracer_base.specs.Calls.{Fits, call_words}
 use Rattle.tracer_base.specs.Replies.{FitsReply, reply_words}
 use Rattle.tracer_base.specs.Words.{line}
 
--- the line that every history begins with, with its line feed
-abbrev pub heading : List ℕ
-heading = codes "mach-history 1" ++ 10 ∷ []
+-- what a history of this profile begins with
+abbrev pub heading_text : Profile → List ℕ
+heading_text One = codes "mach-history 1"
+heading_text Two = codes "mach-history 2"
+heading_text Three = codes "mach-history 3"
+
+-- the same, with its line feed
+abbrev pub heading : Profile → List ℕ
+heading profile = heading_text profile ++ 10 ∷ []
+
+-- a history: by which profile, and its entries
+pub record HistoryView : Type 0 where
+  pub profile : Profile
+  pub entries : List Entry
 
 -- who called, what, and what was answered
 abbrev pub entry_words : Entry → List (List ℕ)
@@ -21,8 +34,8 @@ entry_text e = line (entry_words e)
 abbrev pub entry_line : Entry → List ℕ
 entry_line e = entry_text e ++ 10 ∷ []
 
-abbrev pub history_text : List Entry → List ℕ
-history_text entries = heading ++ flat_map entry_line entries
+abbrev pub history_text : Profile → List Entry → List ℕ
+history_text profile entries = heading profile ++ flat_map entry_line entries
 
 -- its numbers fit their types, and the call was recorded
 pub record FitsLine (e : Entry) : Type 0 where
@@ -31,9 +44,9 @@ pub record FitsLine (e : Entry) : Type 0 where
   pub reply : FitsReply e.reply
   pub recorded : e.reply ≢ Reply.NoRecord
 
--- no history stands at its beginning, not even one without entries
+-- no history of a profile that a kernel can have stands at its beginning, not even one without entries
 abbrev pub HasNoHeading : List ℕ → Type 0
-HasNoHeading text = (rest : List ℕ) → heading ++ rest ≢ text
+HasNoHeading text = (profile : Profile) (rest : List ℕ) → profile ≢ Three → heading profile ++ rest ≢ text
 
 -- no entry's line stands at its beginning
 abbrev pub StartsNoEntry : List ℕ → Type 0
@@ -41,11 +54,13 @@ StartsNoEntry text = (e : Entry) (rest : List ℕ) → FitsLine e → entry_line
 
 -- a history stands before line n, from 1, and there is more behind it, but no entry's line
 pub record HasBadEntry (text : List ℕ) (n : ℕ) : Type 0 where
+  pub profile : Profile
+  pub had : profile ≢ Three
   pub entries : List Entry
   pub fit : All FitsLine entries
   pub number : length entries + 2 ≡ n
   pub rest : List ℕ
-  pub parts : history_text entries ++ rest ≡ text
+  pub parts : history_text profile entries ++ rest ≡ text
   pub some : 0 < length rest
   pub bad : StartsNoEntry rest
 

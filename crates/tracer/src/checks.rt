@@ -35,31 +35,30 @@ impl From<AllocError> for CheckFault {
     }
 }
 
-/// A history that the machine admits: its calls and replies are a run.
+/// A history that the machine admits: its calls and replies are a run by its profile.
 ///
-/// To contracts it is the list of its entries.
+/// To contracts it is the history.
 #[derive(Debug, Drop)]
 pub struct LegalHistory<'a> {
     history: &'a History,
 }
 
 impl<'a> Model for LegalHistory<'a> {
-    ghost use Rattle.std.specs.Prelude.{List};
-    ghost use Rattle.kernel_lock.specs.declared.entry.Entry.{Entry as AnyEntry};
     ghost use Rattle.kernel_lock.specs.History.{Legal};
+    ghost use Rattle.tracer.specs.Histories.{HistoryView};
 
-    ghost Value = { List AnyEntry };
+    ghost Value = { HistoryView };
 
     ghost view = { λ legal. legal.history.now };
 
-    ghost invariant = { λ legal. Legal legal.history.now };
+    ghost invariant = { λ legal. Legal legal.history.now.profile legal.history.now.entries };
 }
 
 impl<'a> LegalHistory<'a> {
     /// How many entries it has.
     pub fn len(&self) -> usize
-        ensures count { result ≡ length self.now }
-        ensures legal { Legal self.now }
+        ensures count { result ≡ length self.now.entries }
+        ensures legal { Legal self.now.profile self.now.entries }
     {
         self.history.len()
     }
@@ -67,8 +66,9 @@ impl<'a> LegalHistory<'a> {
 
 /// That the history is legal; the history itself is as it was.
 ///
-/// Its calls are made anew on a kernel of the checker's own, one after another ([`confirm`]). `NotConfirmed`
-/// comes at the first that this kernel doesn't answer as its entry says, and `Memory` where memory is refused.
+/// Its calls are made anew on a kernel of the checker's own, of the history's profile, one after another
+/// ([`confirm`]). `NotConfirmed` comes at the first that this kernel doesn't answer as its entry says, and `Memory`
+/// where memory is refused.
 /// Which ready member of a set a message was taken from is followed. Where the machine leaves another choice
 /// open, the kernel makes its own: which member's message is told as too long, or stays since the task's names don't
 /// suffice for its rights, and in which order the notices of one step are queued. A legal history in which another
@@ -76,11 +76,11 @@ impl<'a> LegalHistory<'a> {
 /// of memory too, it is told as not confirmed. Time is that of the calls; memory that of the kernel, and of one reply.
 pub fn check<'a>(alloc: Global, history: &'a History) -> Result<LegalHistory<'a>, CheckFault>
     ensures same { IfOk result (λ legal. legal ≡ history.now) }
-    ensures legal { IfOk result Legal }
-    ensures not { (n : ℕ) → result ≡ Err (CheckFault.NotConfirmed n) → IsUnconfirmed history.now n }
-    ensures memory { result ≡ Err CheckFault.Memory → MayLackMemory history.now }
+    ensures legal { IfOk result (λ legal. Legal legal.profile legal.entries) }
+    ensures not { (n : ℕ) → result ≡ Err (CheckFault.NotConfirmed n) → IsUnconfirmed history.now.profile history.now.entries n }
+    ensures memory { result ≡ Err CheckFault.Memory → MayLackMemory history.now.profile history.now.entries }
 {
-    let mut kernel = Kernel::new(alloc);
+    let mut kernel = Kernel::with_profile(alloc, history.profile());
     let mut number = 0;
     for entry in history.entries() {
         number += 1;

@@ -24,7 +24,7 @@ fn is_text_of(alloc: Global, text: &str, count: usize) -> bool {
     };
     let mut page = Vec::new(alloc);
     history.len() == count
-        && write_history(history.entries(), &mut page).is_ok()
+        && write_history(history.profile(), history.entries(), &mut page).is_ok()
         && page.as_slice() == text.as_bytes()
 }
 
@@ -32,6 +32,7 @@ fn is_text_of(alloc: Global, text: &str, count: usize) -> bool {
 fn reads_back(rt: HostRuntime) {
     assert!(rt; is_text_of(rt.alloc(), FIRST, 4));
     assert!(rt; is_text_of(rt.alloc(), "mach-history 1\n", 0));
+    assert!(rt; is_text_of(rt.alloc(), "mach-history 2\n", 0));
 }
 
 // Entries of every call and of every reply, parted by bars.
@@ -107,7 +108,7 @@ fn names_the_bad_line(rt: HostRuntime) {
 
 // Texts that no history begins with, parted by bars.
 const BAD_HEADINGS: &str =
-    "|\n|mach-history 1|mach-history 9\n|mach-history 01\n|mach-history 1 \n|\
+    "|\n|mach-history 1|mach-history 9\n|mach-history 3\n|mach-history 01\n|mach-history 1 \n|\
     mach-history  1\n| mach-history 1\n|mach-history 1\r\n|mach-history\n|0 task -> task 0\n";
 
 #[test]

@@ -153,12 +153,16 @@ notes_slots w n new notes = record { noted = notes.noted; had = notes.had }
 -- slots were made after room
 slots_same_room : (w mid ready : WorldView) (n : ℕ) → SameButRoom w mid → ready ≡ with_slots mid n → SameButRoom (with_slots w n) ready
 slots_same_room w mid ready n s e = subst (SameButRoom (with_slots w n)) (sym e) record {
-  tasks = s.tasks;
-  names = s.names;
-  ports = ap (λ (p : PortsView Kept). record p { spare = n }) s.ports;
-  ledger = s.ledger;
-  sets = s.sets;
-  requests = s.requests;
+  naming = record {
+    tasks = s.tasks;
+    names = s.names;
+    ports = ap (λ (p : PortsView Kept). record p { spare = n }) s.ports;
+    ledger = s.ledger;
+    sets = s.sets;
+    requests = s.requests;
+    profile = s.profile;
+  };
+  given = s.given;
 }
 
 enough_made : (w mid : WorldView) (more : ℕ) → SameButRoom w mid → w.ledger.unused + more ≤ max mid.ports.spare (mid.ledger.unused + more)
@@ -292,7 +296,7 @@ module _ (w : WorldView) (task number : ℕ) (g : Going) (goes : CanGo w number 
         insert_slots = put_slots mid new task kind g.port name puts mid_slots
 
         insert_sound : StaySound mid new
-        insert_sound = port_put_sound mid left.t left.agrees left.sound 0 k left.copies.keeps outside task kind g.port name new lie puts
+        insert_sound = port_put_sound mid left.t left.agrees left.sound 0 k left.copies.keeps outside task kind g.port name lie new puts
 
         same_target : (c : Kind) → target_of (alone c g.port) ≡ target_for c g.port
         same_target receive = refl
@@ -334,7 +338,7 @@ module _ (w : WorldView) (task number : ℕ) (g : Going) (goes : CanGo w number 
         extract_slots = mark_slots mid new task kind (mark.Port g.port) new_name gives mid_slots
 
         extract_sound : StaySound mid new
-        extract_sound = port_given_sound mid left.t left.agrees left.sound 0 k left.copies.keeps outside task kind g.port new_name new lie gives_port
+        extract_sound = port_given_sound mid left.t left.agrees left.sound 0 k left.copies.keeps outside task kind g.port new_name lie new gives_port
 
         others : Without (token kind g.port (in_message 0 k)) left.t.ledger
         others = take_lying 0 k kind g.port left.t.ledger lie

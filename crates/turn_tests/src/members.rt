@@ -1,5 +1,6 @@
 //! The order in which a receive by a set takes its members' messages.
 use crate::playing::{gives, is_traced};
+use mach_types::Profile;
 
 // Of two members the first has two messages and the second one. A receive takes the front message of the member
 // whose turn it is, and a member that still has messages takes its turn again behind the others.
@@ -35,6 +36,6 @@ const IN_TURNS: (&str, &str) = (
 /// A kernel that gives a member its turn again before the others fails here.
 #[test]
 fn members_of_a_set_take_turns(rt: HostRuntime) {
-    assert!(rt; gives(&rt, IN_TURNS.0, IN_TURNS.1));
+    assert!(rt; gives(&rt, Profile::One, IN_TURNS.0, IN_TURNS.1));
     assert!(rt; is_traced(&rt, IN_TURNS.0, "legal 13\n"));
 }

@@ -1,26 +1,12 @@
 //! One script of 200,000 lines with many ports, members, names, requests and rights in a message, one history of as
 //! many entries, and one script that is read in memory. What memory is asked for only at such sizes is given: no reply
 //! is a code for want of memory, no call goes unrecorded, and the history is judged.
-use crate::playing::prints;
+use crate::playing::{Exchange, prints};
 use mach_run_base::Job;
+use mach_types::Profile;
 use std::alloc::Global;
 use std::fmt::Write;
 use text_reader::read_script;
-
-/// A script and the replies to it, as far as they are written.
-#[derive(Drop)]
-struct Exchange {
-    script: String,
-    replies: String,
-}
-
-impl Exchange {
-    /// Writes a call and its reply; `None` where memory is refused.
-    fn add(&mut self, call: &str, reply: &str) -> Option<()> {
-        writeln!(self.script, "{call}").ok()?;
-        writeln!(self.replies, "{reply}").ok()
-    }
-}
 
 /// Writes that the task gets 35,000 ports, under the names from 1 on.
 fn add_ports(both: &mut Exchange, task: u32) -> Option<()> {
@@ -103,10 +89,7 @@ fn add_questions(both: &mut Exchange, times: u32) -> Option<()> {
 
 /// The script, of 200,000 lines, with its replies; `None` where memory is refused.
 fn large_exchange(alloc: Global) -> Option<Exchange> {
-    let mut both = Exchange {
-        script: String::new(alloc),
-        replies: String::new(alloc),
-    };
+    let mut both = Exchange::new(alloc);
     both.add("task", "task 0")?;
     both.add("task", "task 1")?;
     add_ports(&mut both, 0)?;
@@ -125,7 +108,15 @@ fn no_memory_is_lacking_at_size(rt: HostRuntime) {
     let Some(both) = large_exchange(rt.alloc()) else {
         panic!(rt; "no memory for the script");
     };
-    assert!(rt; prints(&rt, Job::Run, both.script.as_str(), both.replies.as_str()));
+    let profile = Profile::One;
+    assert!(rt;
+        prints(
+            &rt,
+            Job::Run { profile },
+            both.script.as_str(),
+            both.replies.as_str()
+        )
+    );
 }
 
 /// The text `first`, and behind it so many times the text `line`; `None` where memory is refused.

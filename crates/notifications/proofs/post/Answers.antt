@@ -11,7 +11,7 @@ use Rattle.notifications.proofs.post.Goals as goal
 
 pub enqueue-requires-clause-spare : goal.enqueue-requires-clause-spare
 enqueue-requires-clause-spare c = some_spare
-    (record { spaces = c.args.world.now.spaces; ports = c.world.inside.ports; ledger = c.world.inside.ledger; sets = c.args.world.now.sets; requests = c.args.world.now.requests })
+    (record { spaces = c.args.world.now.spaces; ports = c.world.inside.ports; ledger = c.world.inside.ledger; sets = c.args.world.now.sets; requests = c.args.world.now.requests; profile = c.args.world.now.profile })
     c.args.port c.unused.ensures.all
     (subst (λ (w : WorldView). 0 < (counts_of w.ledger c.args.port).send_once) (sym c.world.view_is) c.requires.paid)
     (subst (λ (w : WorldView). SlotsSuffice w) (sym c.world.view_is) c.requires.slots)

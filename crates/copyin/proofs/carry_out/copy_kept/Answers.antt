@@ -29,6 +29,6 @@ returns c =
     let same : c.leave_name-mark.result ≡ can.copied.mark = c.leave_name-mark.ensures.mark ∙ can.mark_is in
     subst (λ (w : WorldView). CopiesRight c.args.world.now c.args.task carried.given c.args.name carried.mark w) (sym c.count_copied.ensures)
     (copies_right c.args.world.now mid c.args.task c.args.name carried can can.copied refl (c.leave_name-mark.ensures.left can)
-    mid.spaces mid.ports mid.ledger mid.sets mid.requests refl _ _
+    mid.profile mid.spaces mid.ports mid.ledger mid.sets mid.requests refl _ _
     (ap (λ (m : Mark). ports_copied carried.given m mid.ports) same)
     (ap (λ (m : Mark). ledger_copied carried.given m mid.ledger) same))

@@ -9,8 +9,8 @@ pub returns : goal.returns
 returns c e =
     let k = c.world-inside.inside.0 in
     let r = k.1.1.1.1.0 in
-    let view : tables k.0.items k.1.0 k.1.1.0 k.1.1.1.0 (record { names = r.names; no_senders = r.no_senders; port_destroyed = r.port_destroyed }) ≡ c.args.world.now =
-    ap (λ x. tables x.spaces.items x.ports x.ledger x.sets x.requests) c.world-inside.view_is ∙ c.world.view_is in
+    let view : tables k.1.1.1.1.1.0 k.0.items k.1.0 k.1.1.0 k.1.1.1.0 (record { names = r.names; no_senders = r.no_senders; port_destroyed = r.port_destroyed }) ≡ c.args.world.now =
+    ap (λ x. tables x.profile x.spaces.items x.ports x.ledger x.sets x.requests) c.world-inside.view_is ∙ c.world.view_is in
     let named = c.is_empty.ensures.0 c.if-not-is_empty.false in
     let senders = c.len.ensures in
     let few = c.if-len-gt0.false in

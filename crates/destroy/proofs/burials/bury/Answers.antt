@@ -13,7 +13,7 @@ use Rattle.destroy.proofs.burials.bury.Goals as goal
 pub remove-requires : goal.remove-requires
 remove-requires c =
     let i = c.world.inside in
-    let view : tables i.spaces.items i.ports i.ledger i.sets i.requests ≡ c.end_requests-turns.new.world = c.world.view_is in
+    let view : tables i.profile i.spaces.items i.ports i.ledger i.sets i.requests ≡ c.end_requests-turns.new.world = c.world.view_is in
     subst (λ (w : WorldView). (p : PortView Kept) → map.get w.ports.ports c.args.port ≡ Some p → length p.queue ≡ 0) (sym view)
     (none_queued c.args.port c.end_requests-turns.new.world
     (still_next c.args.port IsAny c.args.world.now c.end_requests-turns.result c.end_requests-turns.new.world c.requires c.end_requests-turns.ensures))
@@ -21,7 +21,7 @@ remove-requires c =
 pub leave-requires : goal.leave-requires
 leave-requires c =
     let i = c.world.inside in
-    let view : tables i.spaces.items i.ports i.ledger i.sets i.requests ≡ c.end_requests-turns.new.world = c.world.view_is in
+    let view : tables i.profile i.spaces.items i.ports i.ledger i.sets i.requests ≡ c.end_requests-turns.new.world = c.world.view_is in
     subst (λ (w : WorldView). IsEntered w.ledger c.args.port) (sym view)
     (is_entered c.args.port c.end_requests-turns.new.world
     (still_next c.args.port IsAny c.args.world.now c.end_requests-turns.result c.end_requests-turns.new.world c.requires c.end_requests-turns.ensures))
@@ -29,7 +29,7 @@ leave-requires c =
 pub invariant_of-world : goal.invariant_of-world
 invariant_of-world c =
     let i = c.world.inside in
-    let view : tables i.spaces.items i.ports i.ledger i.sets i.requests ≡ c.end_requests-turns.new.world = c.world.view_is in
+    let view : tables i.profile i.spaces.items i.ports i.ledger i.sets i.requests ≡ c.end_requests-turns.new.world = c.world.view_is in
     let b = still_next c.args.port IsAny c.args.world.now c.end_requests-turns.result c.end_requests-turns.new.world c.requires c.end_requests-turns.ensures in
     left_given c.end_requests-turns.new.world i.spaces.items i.ports i.ledger i.sets i.requests view c.args.port c.remove.new.self (without c.args.port i.ports.doomed)
     (left_ports c.end_requests-turns.new.world i.spaces.items i.ports i.ledger i.sets i.requests view c.args.port b c.remove.new.self c.remove.ensures) c.world.invariant
@@ -37,7 +37,7 @@ invariant_of-world c =
 pub returns-clause-turns : goal.returns-clause-turns
 returns-clause-turns c =
     let i = c.world.inside in
-    let view : tables i.spaces.items i.ports i.ledger i.sets i.requests ≡ c.end_requests-turns.new.world = c.world.view_is in
+    let view : tables i.profile i.spaces.items i.ports i.ledger i.sets i.requests ≡ c.end_requests-turns.new.world = c.world.view_is in
     let b = still_next c.args.port IsAny c.args.world.now c.end_requests-turns.result c.end_requests-turns.new.world c.requires c.end_requests-turns.ensures in
     bury_continues c.args.port c.args.world.now c.end_requests-turns.new.world c.end_requests-turns.result c.end_requests-turns.ensures _ (without c.args.port i.ports.doomed)
     (port_left c.end_requests-turns.new.world i.spaces.items i.ports i.ledger i.sets i.requests view c.args.port c.remove.new.self (without c.args.port i.ports.doomed)
@@ -46,7 +46,7 @@ returns-clause-turns c =
 pub returns-clause-fewer : goal.returns-clause-fewer
 returns-clause-fewer c =
     let i = c.world.inside in
-    let view : tables i.spaces.items i.ports i.ledger i.sets i.requests ≡ c.end_requests-turns.new.world = c.world.view_is in
+    let view : tables i.profile i.spaces.items i.ports i.ledger i.sets i.requests ≡ c.end_requests-turns.new.world = c.world.view_is in
     let b = still_next c.args.port IsAny c.args.world.now c.end_requests-turns.result c.end_requests-turns.new.world c.requires c.end_requests-turns.ensures in
     bury_fewer c.args.port c.args.world.now c.end_requests-turns.new.world c.end_requests-turns.result c.end_requests-turns.ensures _ (without c.args.port i.ports.doomed)
     (port_left c.end_requests-turns.new.world i.spaces.items i.ports i.ledger i.sets i.requests view c.args.port c.remove.new.self (without c.args.port i.ports.doomed)
@@ -55,7 +55,7 @@ returns-clause-fewer c =
 pub returns-clause-rooms : goal.returns-clause-rooms
 returns-clause-rooms c =
     let i = c.world.inside in
-    let view : tables i.spaces.items i.ports i.ledger i.sets i.requests ≡ c.end_requests-turns.new.world = c.world.view_is in
+    let view : tables i.profile i.spaces.items i.ports i.ledger i.sets i.requests ≡ c.end_requests-turns.new.world = c.world.view_is in
     let b = still_next c.args.port IsAny c.args.world.now c.end_requests-turns.result c.end_requests-turns.new.world c.requires c.end_requests-turns.ensures in
     bury_rooms c.args.port c.args.world.now c.end_requests-turns.new.world c.end_requests-turns.result c.end_requests-turns.ensures _ (without c.args.port i.ports.doomed)
     (port_left c.end_requests-turns.new.world i.spaces.items i.ports i.ledger i.sets i.requests view c.args.port c.remove.new.self (without c.args.port i.ports.doomed)

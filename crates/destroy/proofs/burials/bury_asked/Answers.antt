@@ -10,7 +10,7 @@ use Rattle.destroy.proofs.burials.bury_asked.Goals as goal
 pub bury-requires : goal.bury-requires
 bury-requires c =
     let i = c.world.inside in
-    let view : tables i.spaces.items i.ports i.ledger i.sets i.requests ≡ c.loop-port.world = c.world.view_is in
+    let view : tables i.profile i.spaces.items i.ports i.ledger i.sets i.requests ≡ c.loop-port.world = c.world.view_is in
     record {
       at = still_at c.args.world.now c.loop-port.turns c.loop-port.world c.requires c.loop-port.invariant.0;
       doomed = subst (λ (w : WorldView). IsHeldBy w.ports c.in-Some.port holder.Doomed) view c.in-Some.ensures.some;
@@ -25,7 +25,7 @@ loop-port-preserved c = (
 pub returns-clause-continues : goal.returns-clause-continues
 returns-clause-continues c =
     let i = c.world.inside in
-    let view : tables i.spaces.items i.ports i.ledger i.sets i.requests ≡ c.loop-port.world = c.world.view_is in
+    let view : tables i.profile i.spaces.items i.ports i.ledger i.sets i.requests ≡ c.loop-port.world = c.world.view_is in
     all_buried c.args.world.now c.loop-port.turns c.loop-port.world c.loop-port.invariant.0
     (subst (λ (w : WorldView). NoneHeldBy w.ports holder.Doomed) view c.in_default.ensures.none)
     (subst (λ (w : WorldView). (p : ℕ) → Contains w.ports.doomed p ↔ IsHeldBy w.ports p holder.Doomed) view c.in_default.ensures.all)

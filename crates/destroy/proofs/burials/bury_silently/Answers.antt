@@ -13,28 +13,28 @@ use Rattle.destroy.proofs.burials.bury_silently.Goals as goal
 pub remove-requires : goal.remove-requires
 remove-requires c =
     let i = c.world.inside in
-    let view : tables i.spaces.items i.ports i.ledger i.sets i.requests ≡ c.args.world.now = c.world.view_is in
+    let view : tables i.profile i.spaces.items i.ports i.ledger i.sets i.requests ≡ c.args.world.now = c.world.view_is in
     subst (λ (w : WorldView). (p : PortView Kept) → map.get w.ports.ports c.args.port ≡ Some p → length p.queue ≡ 0) (sym view)
     (none_queued c.args.port c.args.world.now c.requires.next)
 
 pub leave-requires : goal.leave-requires
 leave-requires c =
     let i = c.world.inside in
-    let view : tables i.spaces.items i.ports i.ledger i.sets i.requests ≡ c.args.world.now = c.world.view_is in
+    let view : tables i.profile i.spaces.items i.ports i.ledger i.sets i.requests ≡ c.args.world.now = c.world.view_is in
     subst (λ (w : WorldView). IsEntered w.ledger c.args.port) (sym view)
     (is_entered c.args.port c.args.world.now c.requires.next)
 
 pub invariant_of-world : goal.invariant_of-world
 invariant_of-world c =
     let i = c.world.inside in
-    let view : tables i.spaces.items i.ports i.ledger i.sets i.requests ≡ c.args.world.now = c.world.view_is in
+    let view : tables i.profile i.spaces.items i.ports i.ledger i.sets i.requests ≡ c.args.world.now = c.world.view_is in
     left_given c.args.world.now i.spaces.items i.ports i.ledger i.sets i.requests view c.args.port c.remove.new.self (without c.args.port i.ports.doomed)
     (left_ports c.args.world.now i.spaces.items i.ports i.ledger i.sets i.requests view c.args.port c.requires.next c.remove.new.self c.remove.ensures) c.world.invariant
 
 pub returns-clause-turns : goal.returns-clause-turns
 returns-clause-turns c =
     let i = c.world.inside in
-    let view : tables i.spaces.items i.ports i.ledger i.sets i.requests ≡ c.args.world.now = c.world.view_is in
+    let view : tables i.profile i.spaces.items i.ports i.ledger i.sets i.requests ≡ c.args.world.now = c.world.view_is in
     bury_continues c.args.port c.args.world.now c.args.world.now 0 (unasked_ended c.args.port c.args.world.now c.requires.next c.requires.unasked) _ (without c.args.port i.ports.doomed)
     (port_left c.args.world.now i.spaces.items i.ports i.ledger i.sets i.requests view c.args.port c.remove.new.self (without c.args.port i.ports.doomed)
     (left_ports c.args.world.now i.spaces.items i.ports i.ledger i.sets i.requests view c.args.port c.requires.next c.remove.new.self c.remove.ensures) c.leave.new.self c.leave.ensures.after)
@@ -42,7 +42,7 @@ returns-clause-turns c =
 pub returns-clause-fewer : goal.returns-clause-fewer
 returns-clause-fewer c =
     let i = c.world.inside in
-    let view : tables i.spaces.items i.ports i.ledger i.sets i.requests ≡ c.args.world.now = c.world.view_is in
+    let view : tables i.profile i.spaces.items i.ports i.ledger i.sets i.requests ≡ c.args.world.now = c.world.view_is in
     bury_fewer c.args.port c.args.world.now c.args.world.now 0 (unasked_ended c.args.port c.args.world.now c.requires.next c.requires.unasked) _ (without c.args.port i.ports.doomed)
     (port_left c.args.world.now i.spaces.items i.ports i.ledger i.sets i.requests view c.args.port c.remove.new.self (without c.args.port i.ports.doomed)
     (left_ports c.args.world.now i.spaces.items i.ports i.ledger i.sets i.requests view c.args.port c.requires.next c.remove.new.self c.remove.ensures) c.leave.new.self c.leave.ensures.after)
@@ -50,7 +50,7 @@ returns-clause-fewer c =
 pub returns-clause-rooms : goal.returns-clause-rooms
 returns-clause-rooms c =
     let i = c.world.inside in
-    let view : tables i.spaces.items i.ports i.ledger i.sets i.requests ≡ c.args.world.now = c.world.view_is in
+    let view : tables i.profile i.spaces.items i.ports i.ledger i.sets i.requests ≡ c.args.world.now = c.world.view_is in
     bury_rooms c.args.port c.args.world.now c.args.world.now 0 (unasked_ended c.args.port c.args.world.now c.requires.next c.requires.unasked) _ (without c.args.port i.ports.doomed)
     (port_left c.args.world.now i.spaces.items i.ports i.ledger i.sets i.requests view c.args.port c.remove.new.self (without c.args.port i.ports.doomed)
     (left_ports c.args.world.now i.spaces.items i.ports i.ledger i.sets i.requests view c.args.port c.requires.next c.remove.new.self c.remove.ensures) c.leave.new.self c.leave.ensures.after)

@@ -10,7 +10,7 @@ use Rattle.destroy.proofs.burials.bury_unasked.Goals as goal
 pub bury_silently-requires-clause-next : goal.bury_silently-requires-clause-next
 bury_silently-requires-clause-next c =
     let i = c.world.inside in
-    let view : tables i.spaces.items i.ports i.ledger i.sets i.requests ≡ c.loop-port.world = c.world.view_is in
+    let view : tables i.profile i.spaces.items i.ports i.ledger i.sets i.requests ≡ c.loop-port.world = c.world.view_is in
     record {
       at = still_at c.args.world.now 0 c.loop-port.world c.requires.at c.loop-port.invariant.0;
       doomed = subst (λ (w : WorldView). IsHeldBy w.ports c.in-Some.port holder.Doomed) view c.in-Some.ensures.some;
@@ -26,7 +26,7 @@ loop-port-preserved c = (
 pub returns-clause-continues : goal.returns-clause-continues
 returns-clause-continues c =
     let i = c.world.inside in
-    let view : tables i.spaces.items i.ports i.ledger i.sets i.requests ≡ c.loop-port.world = c.world.view_is in
+    let view : tables i.profile i.spaces.items i.ports i.ledger i.sets i.requests ≡ c.loop-port.world = c.world.view_is in
     all_buried c.args.world.now 0 c.loop-port.world c.loop-port.invariant.0
     (subst (λ (w : WorldView). NoneHeldBy w.ports holder.Doomed) view c.in_default.ensures.none)
     (subst (λ (w : WorldView). (p : ℕ) → Contains w.ports.doomed p ↔ IsHeldBy w.ports p holder.Doomed) view c.in_default.ensures.all)

@@ -16,8 +16,8 @@ pub put_left-requires : goal.put_left-requires
 put_left-requires c =
     let k = c.world-inside.inside.0 in
     let r = k.1.1.1.1.0 in
-    let view : tables k.0.items k.1.0 k.1.1.0 k.1.1.1.0 (record { names = r.names; no_senders = r.no_senders; port_destroyed = r.port_destroyed }) ≡ c.args.world.now =
-    ap (λ x. tables x.spaces.items x.ports x.ledger x.sets x.requests) c.world-inside.view_is ∙ c.world.view_is in
+    let view : tables k.1.1.1.1.1.0 k.0.items k.1.0 k.1.1.0 k.1.1.1.0 (record { names = r.names; no_senders = r.no_senders; port_destroyed = r.port_destroyed }) ≡ c.args.world.now =
+    ap (λ x. tables x.profile x.spaces.items x.ports x.ledger x.sets x.requests) c.world-inside.view_is ∙ c.world.view_is in
     let taken = name_taken c.args.world.now k.0.items k.1.0 k.1.1.0 k.1.1.1.0 r.names r.no_senders r.port_destroyed view c.args.request c.requires.is_on.there c.remove.new.self c.remove.result c.remove.ensures.kept c.remove.ensures.some in
     let dead : c.dead_name.result ≡ DeadName (dead_count (send_references c.in-Some.entry)) = c.dead_name.ensures ∙ ap (λ (n : ℕ). DeadName (dead_count n)) c.send_references.ensures.value in
     can_put c.args.port c.args.request c.args.world.now c.requires _ taken c.in-Some.entry (sym c.lookup-entry.ensures ∙ c.in-Some.is) c.dead_name.result dead
@@ -26,8 +26,8 @@ pub pay-requires : goal.pay-requires
 pay-requires c =
     let k = c.world-inside.inside.0 in
     let r = k.1.1.1.1.0 in
-    let view : tables k.0.items k.1.0 k.1.1.0 k.1.1.1.0 (record { names = r.names; no_senders = r.no_senders; port_destroyed = r.port_destroyed }) ≡ c.args.world.now =
-    ap (λ x. tables x.spaces.items x.ports x.ledger x.sets x.requests) c.world-inside.view_is ∙ c.world.view_is in
+    let view : tables k.1.1.1.1.1.0 k.0.items k.1.0 k.1.1.0 k.1.1.1.0 (record { names = r.names; no_senders = r.no_senders; port_destroyed = r.port_destroyed }) ≡ c.args.world.now =
+    ap (λ x. tables x.profile x.spaces.items x.ports x.ledger x.sets x.requests) c.world-inside.view_is ∙ c.world.view_is in
     let taken = name_taken c.args.world.now k.0.items k.1.0 k.1.1.0 k.1.1.1.0 r.names r.no_senders r.port_destroyed view c.args.request c.requires.is_on.there c.remove.new.self c.remove.result c.remove.ensures.kept c.remove.ensures.some in
     let some = entry_there c.args.port c.args.request c.args.world.now c.requires _ taken in
     elim c.match-entry.branch [
@@ -42,8 +42,8 @@ pub returns-clause-ends : goal.returns-clause-ends
 returns-clause-ends c =
     let k = c.world-inside.inside.0 in
     let r = k.1.1.1.1.0 in
-    let view : tables k.0.items k.1.0 k.1.1.0 k.1.1.1.0 (record { names = r.names; no_senders = r.no_senders; port_destroyed = r.port_destroyed }) ≡ c.args.world.now =
-    ap (λ x. tables x.spaces.items x.ports x.ledger x.sets x.requests) c.world-inside.view_is ∙ c.world.view_is in
+    let view : tables k.1.1.1.1.1.0 k.0.items k.1.0 k.1.1.0 k.1.1.1.0 (record { names = r.names; no_senders = r.no_senders; port_destroyed = r.port_destroyed }) ≡ c.args.world.now =
+    ap (λ x. tables x.profile x.spaces.items x.ports x.ledger x.sets x.requests) c.world-inside.view_is ∙ c.world.view_is in
     let taken = name_taken c.args.world.now k.0.items k.1.0 k.1.1.0 k.1.1.1.0 r.names r.no_senders r.port_destroyed view c.args.request c.requires.is_on.there c.remove.new.self c.remove.result c.remove.ensures.kept c.remove.ensures.some in
     let some = entry_there c.args.port c.args.request c.args.world.now c.requires _ taken in
     elim c.match-entry.branch [
@@ -59,8 +59,8 @@ pub returns-clause-fewer : goal.returns-clause-fewer
 returns-clause-fewer c =
     let k = c.world-inside.inside.0 in
     let r = k.1.1.1.1.0 in
-    let view : tables k.0.items k.1.0 k.1.1.0 k.1.1.1.0 (record { names = r.names; no_senders = r.no_senders; port_destroyed = r.port_destroyed }) ≡ c.args.world.now =
-    ap (λ x. tables x.spaces.items x.ports x.ledger x.sets x.requests) c.world-inside.view_is ∙ c.world.view_is in
+    let view : tables k.1.1.1.1.1.0 k.0.items k.1.0 k.1.1.0 k.1.1.1.0 (record { names = r.names; no_senders = r.no_senders; port_destroyed = r.port_destroyed }) ≡ c.args.world.now =
+    ap (λ x. tables x.profile x.spaces.items x.ports x.ledger x.sets x.requests) c.world-inside.view_is ∙ c.world.view_is in
     let taken = name_taken c.args.world.now k.0.items k.1.0 k.1.1.0 k.1.1.1.0 r.names r.no_senders r.port_destroyed view c.args.request c.requires.is_on.there c.remove.new.self c.remove.result c.remove.ensures.kept c.remove.ensures.some in
     let some = entry_there c.args.port c.args.request c.args.world.now c.requires _ taken in
     elim c.match-entry.branch [

@@ -19,8 +19,8 @@ returns-in-Err-clause-err c =
     ap (map.get c.world.inside.ledger.counts) c.next_id-id.ensures ∙ ap (λ (w : WorldView). map.get w.ledger.counts w.ports.made) c.world.view_is ∙ c.requires.unknown in
     let ledger : c.leave.new.self ≡ c.world.inside.ledger =
     c.leave.ensures.after ∙ ap (λ l. left l c.next_id-id.result) c.in_ok-enter.ensures.ok ∙ came_and_left c.world.inside.ledger c.next_id-id.result none in
-    ap (λ (x : PortsView Kept). tables c.world.inside.spaces.items x c.leave.new.self c.world.inside.sets c.world.inside.requests) c.in-Err.ensures.err
-    ∙ ap (λ (x : LedgerView). tables c.world.inside.spaces.items c.world.inside.ports x c.world.inside.sets c.world.inside.requests) ledger ∙ c.world.view_is
+    ap (λ (x : PortsView Kept). tables c.world.inside.profile c.world.inside.spaces.items x c.leave.new.self c.world.inside.sets c.world.inside.requests) c.in-Err.ensures.err
+    ∙ ap (λ (x : LedgerView). tables c.world.inside.profile c.world.inside.spaces.items c.world.inside.ports x c.world.inside.sets c.world.inside.requests) ledger ∙ c.world.view_is
 
 pub invariant_of-world-in-Ok : goal.invariant_of-world-in-Ok
 invariant_of-world-in-Ok c =
@@ -35,7 +35,7 @@ returns-in-Ok-clause-ok c =
     ∙ ap (λ (n : ℕ). made (entered c.world.inside.ledger n) n right.Receive 1) c.next_id-id.ensures
     ∙ ap (λ (w : WorldView). made (entered w.ledger w.ports.made) w.ports.made right.Receive 1) c.world.view_is in (
       c.in-Ok.ensures.identity ∙ ap (λ (w : WorldView). w.ports.made) c.world.view_is,
-      ap (λ (l : LedgerView). tables c.world.inside.spaces.items c.allocate.new.self l c.world.inside.sets c.world.inside.requests) ledger
+      ap (λ (l : LedgerView). tables c.world.inside.profile c.world.inside.spaces.items c.allocate.new.self l c.world.inside.sets c.world.inside.requests) ledger
           ∙ ap (λ (w : WorldView). record w { ledger = made (entered old.ledger old.ports.made) old.ports.made right.Receive 1 })
           (made_written old c.world.inside.spaces.items c.world.inside.ports c.world.inside.ledger c.world.inside.sets c.world.inside.requests c.world.view_is c.world.invariant
           (first_port c.args.task) c.allocate.new.self c.in-Ok.ensures.ok),

@@ -1,5 +1,5 @@
-use Rattle.std.proofs.Common.{rules, ◌≡◌, ◌++◌, ◌∙◌, subst}
-use Rattle.tracer.specs.Histories.{heading, HasNoHeading}
+use Rattle.std.proofs.Common.{rules, ◌∙◌, subst}
+use Rattle.tracer.specs.Histories.{HasNoHeading}
 use Rattle.mach_run_base.proofs.HistoryLemmas.{heading-read, no-heading, told-bad}
 use Rattle.mach_run_base.proofs.checking.judge_lines.Goals as goal
 
@@ -10,6 +10,7 @@ returns-in_default g c =
 
 pub returns : goal.returns
 returns g c =
+    let profile = c.in-Some.profile in
     let line = c.next_line.new.line.items in
-    let begins : heading ++ c.in-Some.field-0.now ≡ line = c.in-Some.ensures.some ∙ c.as_slice.ensures.value in
-    c.judge_entries.ensures _ (heading-read _ _ line c.in-Some.field-0.now c.in_ok-next_line.ensures.taken c.in_ok-next_line.ensures.left begins)
+    let read = c.in_ok-next_line.ensures in
+    c.judge_entries.ensures _ profile c.in-Some.ensures.had c.new-judge.ensures (heading-read profile _ _ line _ read.taken read.left (c.in-Some.ensures.some ∙ c.as_slice.ensures.value))

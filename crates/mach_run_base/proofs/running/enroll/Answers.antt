@@ -17,12 +17,12 @@ loop-block-preserved c =
     let one : Enrolled = record { number = block.number; pass = c.in_ok-pass.pass; calls = block.calls } in
     let pushed : c.push.new.self.items ≡ l.all.items ++ one ∷ [] = c.in_ok-push.ensures.items in
     let first = c.args.held.now.kernel.passes in (
-      c.pass.ensures.same.0 ∙ l.invariant.0,
-      c.pass.ensures.same.1 ∙ l.invariant.1,
-      (let longer = length_push l.yielded block in let more = new.3 in let many = l.invariant.2 in omega (arith, longer, more, many)),
+      c.pass.ensures.same.table ∙ l.invariant.0,
+      c.pass.ensures.same.log ∙ l.invariant.1,
+      (let longer = length_push l.yielded block in let more = new.1 in let many = l.invariant.2 in omega (arith, longer, more, many)),
       subst (All (λ (x : Enrolled). x.pass.table ≡ c.args.shared.now.table)) (sym pushed)
-          (All-push (λ (x : Enrolled). x.pass.table ≡ c.args.shared.now.table) l.all.items one l.invariant.3 (new.0 ∙ c.board.ensures)),
-      subst (AreEnrolled first (l.yielded ++ block ∷ [])) (sym pushed) (enrolled_push first l.yielded l.all.items block one l.invariant.4 (refl, refl, new.1 ∙ l.invariant.2, new.2)),
+          (All-push (λ (x : Enrolled). x.pass.table ≡ c.args.shared.now.table) l.all.items one l.invariant.3 (new.0.table ∙ l.invariant.0)),
+      subst (AreEnrolled first (l.yielded ++ block ∷ [])) (sym pushed) (enrolled_push first l.yielded l.all.items block one l.invariant.4 (refl, refl, new.0.caller ∙ l.invariant.2, new.0.nothing)),
     )
 
 pub returns-clause-enrolled : goal.returns-clause-enrolled

@@ -8,7 +8,7 @@ use Rattle.mach_run_base.proofs.running.run_script.Goals as goal
 pub run_opening-requires-clause-empty : goal.run_opening-requires-clause-empty
 run_opening-requires-clause-empty g c =
     let held = c.with_passes-held in
-    (c.enroll.ensures.same.1 ∙ c.pass.ensures.same.1 ∙ no_calls held.result.kernel.log (λ k. held.ensures.others k (omega arith)), c.in_ok-pass.ensures.new.2)
+    (c.enroll.ensures.same.1 ∙ c.pass.ensures.same.log ∙ no_calls held.result.kernel.log (λ k. held.ensures.others k (omega arith)), c.in_ok-pass.ensures.new.0.nothing)
 
 pub run_threads-requires-clause-tied : goal.run_threads-requires-clause-tied
 run_threads-requires-clause-tied g c κs within = (c.run_calls.ensures.tied, c.in_ok-enrolled.ensures.tied)
@@ -21,16 +21,17 @@ returns-clause-answered g c =
     let first = c.in_ok-run_opening.ensures.answered in
     let next = c.in_ok-run_calls.ensures.answered in
     let enrolled : AreEnrolled 1 script.blocks.items c.in_ok-enrolled.enrolled.items =
-    subst (λ (k : ℕ). AreEnrolled k script.blocks.items c.in_ok-enrolled.enrolled.items) (new.3 ∙ ap (λ n. n + 1) none) c.in_ok-enrolled.ensures.enrolled in
+    subst (λ (k : ℕ). AreEnrolled k script.blocks.items c.in_ok-enrolled.enrolled.items) (new.1 ∙ ap (λ n. n + 1) none) c.in_ok-enrolled.ensures.enrolled in
     let last = c.in_ok-ran.ensures.ran 1 script.blocks.items enrolled in
-    let answered : IsAnswered script (first.0 ++ next.0 ++ last.0) c.run_threads.new.main (map pass_of c.in_ok-ran.ran.items) = record {
+    let answered : IsAnswered c.args.shared.now.profile script (first.0 ++ next.0 ++ last.0) c.run_threads.new.main (map pass_of c.in_ok-ran.ran.items) = record {
       opening = first.0;
       further = next.0;
       behind = last.0;
       parts = refl;
       pass = c.in_ok-pass.pass;
-      number = new.1 ∙ none;
-      begins = new.2;
+      of = new.0.profile ∙ c.with_passes-held.ensures.profile;
+      number = new.0.caller ∙ none;
+      begins = new.0.nothing;
       opened = c.run_opening.new.pass;
       first = first.1;
       ended = c.run_calls.new.pass;

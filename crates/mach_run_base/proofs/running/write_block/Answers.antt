@@ -1,5 +1,4 @@
 use Rattle.std.proofs.Common.{rules, ◌≡◌, ◌++◌, flat_map, take, get_or, sym, ap, ◌∙◌, subst, append_assoc, append-nil, arith}
-use Rattle.std.proofs.lemmas.List.{take_all}
 use Rattle.std.specs.Io.KnownBytes.{Appends}
 use Rattle.tracer_base.specs.Blocks.{thread_line}
 use Rattle.tracer_base.proofs.ReplyLemmas.{appends-more}

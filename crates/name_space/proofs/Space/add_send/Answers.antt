@@ -24,7 +24,7 @@ returns-clause-port c = sym (ap (option_and_then port_named) c.add_send-entry.en
 
 pub returns-clause-after : goal.returns-clause-after
 returns-clause-after c =
-    c.add_send-entry.ensures.after ∙ ap (λ (v : SpaceView). let w : SpaceView = record { names = map.insert v.names c.in_ok-name.name (with_send c.add_send-entry.result); room = v.room; kept = v.kept } in w) c.self.view_is
+    c.add_send-entry.ensures.after ∙ ap (λ (v : SpaceView). let w : SpaceView = record { names = map.insert v.names c.in_ok-name.name (with_send c.add_send-entry.result); room = v.room; kept = v.kept; given = v.given } in w) c.self.view_is
 
 pub returns-in_err-name-clause-none : goal.returns-in_err-name-clause-none
 returns-in_err-name-clause-none c = for_none c.from_residual.result (λ name h. leads_nowhere c.self.inside.table c.self.inside.ports c.self.inside.len c.self.invariant c.args.port (sym c.name_of.ensures ∙ c.in_err-name.was) name (ap (λ (v : SpaceView). port_at v.names name) c.self.view_is ∙ h))

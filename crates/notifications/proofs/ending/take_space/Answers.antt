@@ -12,5 +12,5 @@ invariant_of-world c = subst (λ (o : Option SpaceView). AreGiven (slice_set c.w
 
 pub returns-clause-taken : goal.returns-clause-taken
 returns-clause-taken c =
-    ap (λ (o : Option SpaceView). tables (slice_set c.world.inside.spaces.items c.number.result o) c.world.inside.ports c.world.inside.ledger c.world.inside.sets c.world.inside.requests) c.take.ensures.after
+    ap (λ (o : Option SpaceView). tables c.world.inside.profile (slice_set c.world.inside.spaces.items c.number.result o) c.world.inside.ports c.world.inside.ledger c.world.inside.sets c.world.inside.requests) c.take.ensures.after
     ∙ closed_written c.args.world.now c.args.task c.world.inside.spaces.items c.world.inside.ports c.world.inside.ledger c.world.inside.sets c.world.inside.requests c.number.result c.world.view_is c.number.ensures

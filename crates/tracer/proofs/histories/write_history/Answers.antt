@@ -13,10 +13,10 @@ loop-entry-preserved g c =
     let low : i < length c.args.entries.now = search rules in
     let here : get_or c.args.entries.now i e ≡ e = search rules in
     let written : Appends (g.W.Write.contents c.loop-entry.out) (g.W.Write.contents c.line.new.out) (entry_line e) = search rules in
-    subst (Appends (g.W.Write.contents c.args.out.now) (g.W.Write.contents c.line.new.out)) (sym (history_more c.args.entries.now i e low here))
-    (appends-more _ _ _ (history_text (take i c.args.entries.now)) (entry_line e) c.loop-entry.invariant written)
+    subst (Appends (g.W.Write.contents c.args.out.now) (g.W.Write.contents c.line.new.out)) (sym (history_more c.args.profile c.args.entries.now i e low here))
+    (appends-more _ _ _ (history_text c.args.profile (take i c.args.entries.now)) (entry_line e) c.loop-entry.invariant written)
 
 pub returns : goal.returns
 returns g c =
     let all : take c.loop-entry.entry-index c.args.entries.now ≡ c.args.entries.now = search (rules, take_all) in
-    subst (λ entries. Appends (g.W.Write.contents c.args.out.now) (g.W.Write.contents c.loop-entry.out) (history_text entries)) all c.loop-entry.invariant
+    subst (λ entries. Appends (g.W.Write.contents c.args.out.now) (g.W.Write.contents c.loop-entry.out) (history_text c.args.profile entries)) all c.loop-entry.invariant

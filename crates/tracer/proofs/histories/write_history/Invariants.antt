@@ -6,4 +6,4 @@ use Rattle.tracer.proofs.histories.write_history.Given as goal
 -- the entries before this one are written
 abbrev pub invariant-loop-entry : goal.invariant-loop-entry
 invariant-loop-entry g l =
-    Appends (g.W.Write.contents l.fn.out) (g.W.Write.contents l.out) (history_text (take l.entry-index l.fn.entries))
+    Appends (g.W.Write.contents l.fn.out) (g.W.Write.contents l.out) (history_text l.fn.profile (take l.entry-index l.fn.entries))

@@ -1,7 +1,8 @@
-use Rattle.std.proofs.Common.{◌∙◌, ap, sym, Some}
-use Rattle.name_space.specs.Names.{SpaceView}
+use Rattle.std.proofs.Common.{◌∙◌, ◌⊎◌, ap, sym, subst, Some}
+use Rattle.name_space_base.specs.High.{KeepsUsed}
+use Rattle.name_space.specs.Names.{SpaceView, MayWantIn}
 use Rattle.copyin_base.specs.Reading.{live_in, read_space}
-use Rattle.copyin_base.specs.Wanted.{kept_in}
+use Rattle.copyin_base.proofs.Reading.{place_wanted}
 use Rattle.copyin_base.proofs.Told.{space_there}
 use Rattle.copyin_base.proofs.Written.{lent_read, space_written}
 use Rattle.copyin_base.proofs.world.World.reserve_name.Goals as goal
@@ -25,5 +26,10 @@ returns-clause-lacks c = elim c.match-reserve_name.branch [
   | in-Err w ↦ rw w.result-is (
       let x = space_there c.args.self.now c.args.task c.requires.there in
       let here = lent_read c.args.self.now c.args.task x.0 c.self.inside.spaces.items c.self.inside.ports c.self.inside.ledger c.self.inside.sets c.self.inside.requests _ _ c.in-Some.space x.1 c.self.view_is c.number.ensures c.index_mut.ensures.value c.in-Some.is in
-      λ kept. w.in-Err.ensures.wanted (ap (λ (y : SpaceView). y.kept) (sym here) ∙ ap kept_in (sym x.1) ∙ kept))
+      record {
+        space = x.0;
+        there = x.1;
+        none_kept = λ kept. w.in-Err.ensures.wanted (ap (λ (y : SpaceView). y.kept) (sym here) ∙ kept);
+        wanted = subst (λ (y : SpaceView). KeepsUsed y.names y.kept ⊎ MayWantIn y.given y c.args.name) (sym here) (place_wanted (live_in c.self.inside.ports) c.in-Some.space c.args.name w.in-Err.ensures.place);
+      })
 ]

@@ -9,7 +9,7 @@ use Rattle.kernel_lock.proofs.board.Board.publish.Goals as goal
 
 pub split_seat-before-requires : goal.split_seat-before-requires
 split_seat-before-requires c =
-    (c.requires.pass.0 ∙ sym c.self.view_is, omega (arith, c.self.invariant), leaves_as _ _ _ _ _ (ap (λ m. m.0) c.requires.pass.1))
+    (c.requires.pass.0 ∙ sym c.self.view_is, omega (arith, c.self.invariant), leaves_as _ _ _ _ _ _ _ (ap (λ m. m.0) c.requires.pass.1))
 
 pub join_seat-requires : goal.join_seat-requires
 join_seat-requires c =
@@ -18,15 +18,15 @@ join_seat-requires c =
       s.3 ∙ c.requires.pass.0 ∙ sym c.self.view_is,
       ap (λ m. m.1) s.4,
       omega (arith, c.self.invariant),
-      takes_in_as _ _ _ _ _ _ _ _ _ (ap (λ m. m.0) c.requires.desk.1) (ap (λ m. m.0) s.4 ∙ ap (λ m. m.0) c.requires.pass.1),
+      takes_in_as _ _ _ _ _ _ _ _ _ _ _ _ (ap (λ m. m.0) c.requires.desk.1) (ap (λ m. m.0) s.4 ∙ ap (λ m. m.0) c.requires.pass.1),
     )
 
 pub compare_exchange_with-requires : goal.compare_exchange_with-requires
 compare_exchange_with-requires c =
     let d = c.args.desk.now.me.0 in
     let p = c.args.pass.now.me.0 in
-    let D : View = desk_view d.seen d.made in
-    let P : View = pass_view c.args.entry.now.caller p.mine p.seen in
+    let D : View = desk_view d.profile d.seen d.made in
+    let P : View = pass_view p.profile c.args.entry.now.caller p.mine p.seen in
     let s = c.split_seat-before.ensures in
     let j = c.join_seat.ensures in
     let desk_is : d ≡ D = ap (λ m. m.0) c.requires.desk.1 in
@@ -35,15 +35,15 @@ compare_exchange_with-requires c =
     let is : c.join_seat.new.seat.me ≡ (taken_in D P, []) = j.2 ∙ (λ i. (taken_in (desk_is i) (pass_is i), none i)) in (
       j.0 ∙ c.requires.desk.0 ∙ sym c.self.view_is,
       omega (arith, c.self.invariant),
-      publishes_as _ _ _ (taken_in D P) _ _ is refl refl c.requires.count refl c.requires.legal,
+      publishes_as _ _ _ _ (taken_in D P) _ _ is refl refl refl c.requires.count refl c.requires.legal,
     )
 
 pub split_seat-requires : goal.split_seat-requires
 split_seat-requires c =
     let d = c.args.desk.now.me.0 in
     let p = c.args.pass.now.me.0 in
-    let D : View = desk_view d.seen d.made in
-    let P : View = pass_view c.args.entry.now.caller p.mine p.seen in
+    let D : View = desk_view d.profile d.seen d.made in
+    let P : View = pass_view p.profile c.args.entry.now.caller p.mine p.seen in
     let s = c.split_seat-before.ensures in
     let j = c.join_seat.ensures in
     let desk_is : d ≡ D = ap (λ m. m.0) c.requires.desk.1 in
@@ -52,14 +52,14 @@ split_seat-requires c =
     let is : c.join_seat.new.seat.me ≡ (taken_in D P, []) = j.2 ∙ (λ i. (taken_in (desk_is i) (pass_is i), none i)) in
     let x = c.compare_exchange_with.ensures in
     let told = subst (λ (m : Me Entry View). PublishesThis m c.compare_exchange_with.new.seat.me c.args.entry.now) is x.2 in
-    (x.0 ∙ j.0 ∙ c.requires.desk.0 ∙ sym c.self.view_is, omega (arith, c.self.invariant), gives_back _ _ (ap (λ m. m.0.desk) told.0) (ap (λ m. m.0.calls) told.0))
+    (x.0 ∙ j.0 ∙ c.requires.desk.0 ∙ sym c.self.view_is, omega (arith, c.self.invariant), gives_back _ _ _ (ap (λ m. m.0.desk) told.0) (ap (λ m. m.0.calls) told.0))
 
 pub returns : goal.returns
 returns c =
     let d = c.args.desk.now.me.0 in
     let p = c.args.pass.now.me.0 in
-    let D : View = desk_view d.seen d.made in
-    let P : View = pass_view c.args.entry.now.caller p.mine p.seen in
+    let D : View = desk_view d.profile d.seen d.made in
+    let P : View = pass_view p.profile c.args.entry.now.caller p.mine p.seen in
     let s = c.split_seat-before.ensures in
     let j = c.join_seat.ensures in
     let desk_is : d ≡ D = ap (λ m. m.0) c.requires.desk.1 in
@@ -75,5 +75,6 @@ returns c =
       seen = told.1;
       mine = told.2;
       made = told.3;
+      profile = told.4;
       room = omega (arith, c.requires.room, c.requires.count);
     }

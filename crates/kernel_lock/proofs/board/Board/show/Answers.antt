@@ -9,7 +9,7 @@ use Rattle.kernel_lock.proofs.board.Board.show.Goals as goal
 
 pub split_seat-before-requires : goal.split_seat-before-requires
 split_seat-before-requires c =
-    (c.requires.pass.0 ∙ sym c.self.view_is, omega (arith, c.self.invariant), leaves_as _ _ _ _ _ (ap (λ m. m.0) c.requires.pass.1))
+    (c.requires.pass.0 ∙ sym c.self.view_is, omega (arith, c.self.invariant), leaves_as _ _ _ _ _ _ _ (ap (λ m. m.0) c.requires.pass.1))
 
 pub join_seat-requires : goal.join_seat-requires
 join_seat-requires c =
@@ -18,29 +18,29 @@ join_seat-requires c =
       s.3 ∙ c.requires.pass.0 ∙ sym c.self.view_is,
       ap (λ m. m.1) s.4,
       omega (arith, c.self.invariant),
-      takes_in_as _ _ _ _ _ _ _ _ _ (ap (λ m. m.0) c.requires.desk.1) (ap (λ m. m.0) s.4 ∙ ap (λ m. m.0) c.requires.pass.1),
+      takes_in_as _ _ _ _ _ _ _ _ _ _ _ _ (ap (λ m. m.0) c.requires.desk.1) (ap (λ m. m.0) s.4 ∙ ap (λ m. m.0) c.requires.pass.1),
     )
 
 pub load-requires : goal.load-requires
 load-requires c =
     let d = c.args.desk.now.me.0 in
     let p = c.args.pass.now.me.0 in
-    let D : View = desk_view d.seen d.made in
-    let P : View = pass_view p.caller p.mine p.seen in
+    let D : View = desk_view d.profile d.seen d.made in
+    let P : View = pass_view p.profile p.caller p.mine p.seen in
     let s = c.split_seat-before.ensures in
     let j = c.join_seat.ensures in
     let desk_is : d ≡ D = ap (λ m. m.0) c.requires.desk.1 in
     let pass_is : c.split_seat-before.result.me.0 ≡ P = ap (λ m. m.0) s.4 ∙ ap (λ m. m.0) c.requires.pass.1 in
     let none : c.args.desk.now.me.1 ≡ [] = ap (λ m. m.1) c.requires.desk.1 in
     let is : c.join_seat.new.seat.me ≡ (taken_in D P, []) = j.2 ∙ (λ i. (taken_in (desk_is i) (pass_is i), none i)) in
-    (j.0 ∙ c.requires.desk.0 ∙ sym c.self.view_is, omega (arith, c.self.invariant), confirms_as _ _ _ (taken_in D P) is refl refl)
+    (j.0 ∙ c.requires.desk.0 ∙ sym c.self.view_is, omega (arith, c.self.invariant), confirms_as _ _ _ _ (taken_in D P) is refl refl refl)
 
 pub split_seat-requires : goal.split_seat-requires
 split_seat-requires c =
     let d = c.args.desk.now.me.0 in
     let p = c.args.pass.now.me.0 in
-    let D : View = desk_view d.seen d.made in
-    let P : View = pass_view p.caller p.mine p.seen in
+    let D : View = desk_view d.profile d.seen d.made in
+    let P : View = pass_view p.profile p.caller p.mine p.seen in
     let s = c.split_seat-before.ensures in
     let j = c.join_seat.ensures in
     let desk_is : d ≡ D = ap (λ m. m.0) c.requires.desk.1 in
@@ -49,14 +49,14 @@ split_seat-requires c =
     let is : c.join_seat.new.seat.me ≡ (taken_in D P, []) = j.2 ∙ (λ i. (taken_in (desk_is i) (pass_is i), none i)) in
     let x = c.load.ensures in
     let now : c.load.new.seat.me ≡ (taken_in D P, []) = x.2.0 ∙ is in
-    (x.0 ∙ j.0 ∙ c.requires.desk.0 ∙ sym c.self.view_is, omega (arith, c.self.invariant), gives_back _ _ (ap (λ m. m.0.desk) now) (ap (λ m. m.0.calls) now))
+    (x.0 ∙ j.0 ∙ c.requires.desk.0 ∙ sym c.self.view_is, omega (arith, c.self.invariant), gives_back _ _ _ (ap (λ m. m.0.desk) now) (ap (λ m. m.0.calls) now))
 
 pub returns : goal.returns
 returns c =
     let d = c.args.desk.now.me.0 in
     let p = c.args.pass.now.me.0 in
-    let D : View = desk_view d.seen d.made in
-    let P : View = pass_view p.caller p.mine p.seen in
+    let D : View = desk_view d.profile d.seen d.made in
+    let P : View = pass_view p.profile p.caller p.mine p.seen in
     let s = c.split_seat-before.ensures in
     let j = c.join_seat.ensures in
     let desk_is : d ≡ D = ap (λ m. m.0) c.requires.desk.1 in
@@ -65,11 +65,12 @@ returns c =
     let is : c.join_seat.new.seat.me ≡ (taken_in D P, []) = j.2 ∙ (λ i. (taken_in (desk_is i) (pass_is i), none i)) in
     let x = c.load.ensures in
     let now : c.load.new.seat.me ≡ (taken_in D P, []) = x.2.0 ∙ is in
-    let told = subst (λ (m : Me Entry View). StartsWith m.0.seen m.0.told × (calls_by m.0.caller m.0.seen ≡ m.0.mine)) is (x.2.1, x.2.2) in
+    let told = subst (λ (m : Me Entry View). StartsWith m.0.seen m.0.told × (calls_by m.0.caller m.0.seen ≡ m.0.mine) × (m.0.told_profile ≡ m.0.profile)) is (x.2.1, x.2.2, x.2.3) in
     let l = c.split_seat.ensures in
     let table = x.0 ∙ j.0 ∙ c.requires.desk.0 in record {
       desk = (l.0 ∙ table, l.2 ∙ (λ i. (desk_of ((now i).0), (now i).1)) ∙ sym c.requires.desk.1);
       pass = (l.3 ∙ table, l.4 ∙ (λ i. (pass_of ((now i).0), [])));
       seen = told.0;
       mine = told.1;
+      profile = told.2;
     }

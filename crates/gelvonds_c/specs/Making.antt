@@ -1,0 +1,25 @@
+-- A kernel is made, by its profile, in a handle that holds none.
+use Rattle.std.specs.Prelude.{◌≡◌, ◌==◌, ℕ, ℤ, Option, None, Some, if◌then◌else◌}
+use Rattle.mach_types.specs.declared.profiles.Profile.{Profile}
+use Rattle.mach_types.specs.declared.profiles.Profile.TheVariants.{One, Two}
+use Rattle.mach_types.specs.declared.codes.KernReturn.TheVariants.{Success, InvalidArgument, ResourceShortage}
+use Rattle.mach_types.specs.Codes.{kern_number}
+use Rattle.mach_model.specs.State.{opening_in}
+use Rattle.copyin_base.specs.Shows.{Shows}
+use Rattle.gelvonds_c.specs.Held.{Kept}
+use Rattle.gelvonds_c.specs.Calls.{signed}
+
+abbrev pub in_use : ℕ
+in_use = 0x47000002  -- GELVONDS_IN_USE
+
+-- the profile that a kernel can have of this number, if any
+abbrev pub profile_numbered : ℕ → Option Profile
+profile_numbered number = if number == 1 then Some One else if number == 2 then Some Two else None
+
+-- A kernel stays, whatever is asked for. A handle without one has after success a kernel of the profile in which nothing was
+-- made yet, and else still none, for want of a profile or of memory.
+abbrev pub Makes : Option Profile → (old : Kept) → (code : ℤ) → (new : Kept) → Type 0
+Makes profile (Some kernel) code new = (code ≡ signed in_use) × (new ≡ Some kernel)
+Makes None None code new = (code ≡ signed (kern_number InvalidArgument)) × (new ≡ None)
+Makes (Some profile) None code (Some kernel) = (code ≡ signed (kern_number Success)) × Shows kernel.tables (opening_in profile)
+Makes (Some profile) None code None = code ≡ signed (kern_number ResourceShortage)
