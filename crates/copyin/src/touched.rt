@@ -44,6 +44,7 @@ pub(crate) fn standing_after(space: &TaskNames<'_>, touch: &Touch, name: Name) -
 }
 
 // What stands under the name after the first few: what the last of them left that touched it.
+#[inline(always)]
 fn after_few(space: &TaskNames<'_>, few: &[Touch], name: Name) -> Option<Entry>
     ensures { result ≡ map.get (puts space.now.names few.now) name }
 {

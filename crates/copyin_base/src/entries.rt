@@ -86,6 +86,7 @@ impl World {
     ///
     /// `KERN_RESOURCE_SHORTAGE` where there was less room and memory was refused; all is then as
     /// before. Constant time, but where memory is taken.
+    #[inline(always)]
     pub fn reserve_names(&mut self, task: TaskId, number: usize) -> Result<(), KernReturn>
         requires { HasTask self.old task }
         ensures ok { OnOk result (MakesRoom self.old task number self.new) }

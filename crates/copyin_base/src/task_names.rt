@@ -89,6 +89,7 @@ impl<'a> TaskNames<'a> {
 
     /// What stands under the name, if anything does. Constant time, and logarithmic for a name above
     /// 65,535.
+    #[inline(always)]
     pub fn lookup(&self, name: Name) -> Option<Entry>
         ensures { result ≡ map.get self.now.names name }
     {
@@ -98,6 +99,7 @@ impl<'a> TaskNames<'a> {
 
     /// The fresh name, less than 2^24, where there are fewer than 65,535: the least number from 1 that is no
     /// name, or where names have a generation that of the least index from 1 that no name has. Constant time.
+    #[inline(always)]
     pub fn fresh(&self) -> Name
         requires not_full { map.len self.now.names < most_names }
         ensures fresh { IsFreshFor self.now result }

@@ -206,6 +206,7 @@ fn add_right(world: &mut World, task: TaskId, right: NewRight, name: Name) -> Re
 }
 
 // What is made, before it stands under its name.
+#[inline(always)]
 fn make_right(
     world: &mut World,
     task: TaskId,

@@ -213,11 +213,13 @@ fn judge_joining(
     ensures ok { IfOk result (λ m. MayMove world.now task member after m.port m.set) }
     ensures err { IfErr result (λ code. IsRefused world.now (λ s. move_guards s task member after) (kern_number code)) }
 {
-    world.find(task, after)?;
+    let entry = world.find(task, after)?;
     let port = world.find_receive(task, member)?;
-    let set = world.find_set(task, after)?;
-    Ok(Moving {
-        port,
-        set: Some(set),
-    })
+    match entry.set() {
+        Some(set) => Ok(Moving {
+            port,
+            set: Some(set),
+        }),
+        None => Err(KernReturn::InvalidRight),
+    }
 }

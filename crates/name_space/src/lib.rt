@@ -286,6 +286,7 @@ impl Space {
 
     /// What stands under the name, if it is in use. Constant time; in the tree logarithmic in the
     /// number of names there.
+    #[inline(always)]
     pub fn lookup(&self, name: Name) -> Option<Entry>
         ensures { result ≡ map.get self.now.names name }
     {
@@ -295,6 +296,7 @@ impl Space {
     /// The fresh name, where fewer than 65,535 names are in use: the least unused number from 1, or with a
     /// generation the least unused index from 1, times 256, and in the low 8 bits how often a fresh name was
     /// counted at this index ([`Space::count`]), modulo 256. Less than 2^24. Constant time.
+    #[inline(always)]
     pub fn fresh(&self) -> Name
         requires not_full { map.len self.now.names < most_names }
         ensures fresh { IsFreshFor self.now result }
@@ -307,6 +309,7 @@ impl Space {
 
     /// Counts a fresh name at its index, before it is put in or after, so that the next fresh name of the
     /// index is another. Without a generation there is nothing to count. Takes no memory; constant time.
+    #[inline(always)]
     pub fn count(&mut self, name: Name)
         requires { CanCountIn self.old.given self.old name }
         ensures { self.new ≡ record self.old { given = given_after self.old.given name } }
@@ -329,6 +332,7 @@ impl Space {
     ///
     /// An error means that memory was refused; the names are then as before, and so is the room. Where
     /// fewer names up to 65,535 are unused, there is room for those that get free.
+    #[inline(always)]
     pub fn reserve(&mut self, additional: usize) -> Result<(), AllocError>
         ensures ok { OnOk result (self.new ≡ record self.old { room = max self.old.room additional }) }
         ensures err { OnErr result (self.new ≡ self.old) }

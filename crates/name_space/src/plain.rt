@@ -75,6 +75,7 @@ impl Plain {
     }
 
     // For how many more fresh names there is room.
+    #[inline(always)]
     pub(crate) fn room(&self) -> usize
         ensures { result ≡ self.now.room }
     {
@@ -82,6 +83,7 @@ impl Plain {
     }
 
     // Whether a place is kept for the name.
+    #[inline(always)]
     pub(crate) fn keeps(&self, name: Name) -> bool
         ensures { IsTrue result ↔ (self.now.kept ≡ Some name) }
     {
@@ -92,12 +94,14 @@ impl Plain {
     }
 
     // The name for which a place is kept, if there is one.
+    #[inline(always)]
     pub(crate) fn kept(&self) -> Option<Name>
         ensures { result ≡ self.now.kept }
     {
         self.kept
     }
 
+    #[inline(always)]
     pub(crate) fn get(&self, name: Name) -> Option<Entry>
         ensures { result ≡ map.get self.now.names name }
     {
@@ -110,6 +114,7 @@ impl Plain {
     }
 
     // The least unused number from 1.
+    #[inline(always)]
     pub(crate) fn fresh(&self) -> Name
         ensures fresh { map.len self.now.names ≤ most_names → IsFreshName self.now.names result }
         ensures small { result ≤ 65536 }
@@ -129,6 +134,7 @@ impl Plain {
     }
 
     // Makes room for so many fresh names. An error means that memory was refused for a page.
+    #[inline(always)]
     pub(crate) fn reserve(&mut self, additional: usize) -> Result<(), AllocError>
         ensures ok { OnOk result (self.new ≡ record self.old { room = max self.old.room additional }) }
         ensures err { OnErr result (self.new ≡ self.old) }
@@ -144,6 +150,7 @@ impl Plain {
     }
 
     // Keeps a place for the name. An error means that memory was refused for its page, or above all pages.
+    #[inline(always)]
     pub(crate) fn keep(&mut self, name: Name) -> Result<(), AllocError>
         ensures ok { OnOk result (self.new ≡ record self.old { kept = Some name }) }
         ensures err { OnErr result (self.new ≡ self.old) }

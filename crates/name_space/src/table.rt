@@ -42,6 +42,7 @@ impl Model for Table {
 }
 
 // Adds a send reference under a name with a generation, and answers what stood there.
+#[inline(never)]
 fn add_send_tagged(names: &mut TaggedNames<Entry>, name: u32) -> Entry
     requires { map.contains_key names.old.names name ≡ true }
     ensures value { map.get names.old.names name ≡ Some result }
@@ -69,6 +70,7 @@ impl Table {
     }
 
     // For how many more fresh names there is room.
+    #[inline(always)]
     pub(crate) fn room(&self) -> usize
         ensures { result ≡ self.now.room }
     {
@@ -79,6 +81,7 @@ impl Table {
     }
 
     // Whether a place is kept for the name.
+    #[inline(always)]
     pub(crate) fn keeps(&self, name: Name) -> bool
         ensures { IsTrue result ↔ (self.now.kept ≡ Some name) }
     {
@@ -89,6 +92,7 @@ impl Table {
     }
 
     // The name for which a place is kept, if there is one.
+    #[inline(always)]
     pub(crate) fn kept(&self) -> Option<Name>
         ensures { result ≡ self.now.kept }
     {
@@ -101,6 +105,7 @@ impl Table {
         }
     }
 
+    #[inline(always)]
     pub(crate) fn get(&self, name: Name) -> Option<Entry>
         ensures { result ≡ map.get self.now.names name }
     {
@@ -111,6 +116,7 @@ impl Table {
     }
 
     // The fresh name.
+    #[inline(always)]
     pub(crate) fn fresh(&self) -> Name
         requires { map.len self.now.names < most_names }
         ensures fresh { IsFreshFor self.now result }
@@ -123,6 +129,7 @@ impl Table {
     }
 
     // Counts a fresh name, where names have a generation. Takes no memory.
+    #[inline(always)]
     pub(crate) fn count(&mut self, name: Name)
         requires { CanCountIn self.old.given self.old name }
         ensures { self.new ≡ record self.old { given = given_after self.old.given name } }
@@ -144,6 +151,7 @@ impl Table {
     }
 
     // Makes room for so many fresh names. An error means that memory was refused.
+    #[inline(always)]
     pub(crate) fn reserve(&mut self, additional: usize) -> Result<(), AllocError>
         ensures ok { OnOk result (self.new ≡ record self.old { room = max self.old.room additional }) }
         ensures err { OnErr result (self.new ≡ self.old) }
@@ -156,6 +164,7 @@ impl Table {
     }
 
     // Keeps a place for the name. An error means that memory was refused for it.
+    #[inline(always)]
     pub(crate) fn keep(&mut self, name: Name) -> Result<(), AllocError>
         ensures ok { OnOk result (self.new ≡ record self.old { kept = Some name }) }
         ensures err { OnErr result (self.new ≡ self.old) }
@@ -183,6 +192,7 @@ impl Table {
     }
 
     // Puts an entry in place of what stands under a name. Takes no memory.
+    #[inline(always)]
     pub(crate) fn set(&mut self, name: Name, entry: Entry)
         requires { map.contains_key self.old.names name ≡ true }
         ensures { self.new ≡ record self.old { names = map.insert self.old.names name entry } }
@@ -194,6 +204,7 @@ impl Table {
     }
 
     // Adds a send reference to what stands under a name, and answers what stood there. Takes no memory.
+    #[inline(always)]
     pub(crate) fn add_send(&mut self, name: Name) -> Entry
         requires { map.contains_key self.old.names name ≡ true }
         ensures value { map.get self.old.names name ≡ Some result }

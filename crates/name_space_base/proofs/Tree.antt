@@ -1,5 +1,5 @@
 -- A tree's entries as a finite map, and its first entry from a key on.
-use Rattle.std.proofs.Common.{◌≡◌, ℕ, ◌<◌, ◌≤◌, false, cond, List, [], ◌∷◌, refl, ap, sym, ◌∙◌, Option, Some, None, is_some, arith}
+use Rattle.std.proofs.Common.{◌≡◌, ℕ, ◌<◌, ◌≤◌, false, cond, List, [], ◌∷◌, length, refl, ap, sym, ◌∙◌, Option, Some, None, is_some, arith}
 use Rattle.std.proofs.lemmas.Cmp.{ranked}
 use Rattle.std.specs.declared.cmp.Ordering.{Ordering}
 use Rattle.std.specs.declared.cmp.Ordering.TheVariants.{Less, Equal, Greater}
@@ -54,6 +54,11 @@ module _ {V : Type 0} where
       let none : Option V = None in
       same_gets _ _ (λ q. get-tree fs q ∙ is q ∙ ap (λ b. cond b none (lookup (is_at (nat_cmp q)) es)) (turned k q)
       ∙ ap (cond (eq_by_cmp nat_cmp q k) none) (sym (get-tree es q)) ∙ sym (map.get-remove nat_cmp_total (tree es) k q))
+
+  -- without entries it has no value
+  pub none_where_empty : (es : List (ℕ × V)) → length es ≡ 0 → (q : ℕ) → map.get (tree es) q ≡ None
+  none_where_empty [] e q = get-tree [] q
+  none_where_empty (x ∷ es) e q = absurd (omega (arith, e))
 
   module _ (m : BTreeMap ℕ V) (start : ℕ) (r : List (ℕ × V)) (x : IsRangeOf nat_cmp (Included start) Unbounded m r) where
     pub none_in_range : r ≡ [] → (n : ℕ) → start ≤ n → map.get (tree m.entries) n ≡ None

@@ -80,6 +80,7 @@ impl Bits {
     }
 
     // The least number that is not in the set, or 256 where all are.
+    #[inline(always)]
     pub(crate) fn first_absent(&self) -> usize
         ensures bound { result ≤ 256 }
         ensures below { (i : ℕ) → i < result → has self.now.words i ≡ true }

@@ -139,6 +139,7 @@ impl<T: Copy> Pages<T> {
 
     /// The least number from 1 that has no value, at most 65,536. Constant time: at most eight words
     /// are read.
+    #[inline(always)]
     pub fn first_free(&self) -> u32
         ensures first { IsFirstFree self.now.values result }
         ensures bound { result ≤ 65536 }
@@ -182,6 +183,7 @@ impl<T: Copy> Pages<T> {
     /// An error means that memory was refused for a page; values and room are then as before, and pages
     /// that were made stay. Where all pages are made it never comes, though fewer numbers be free: a
     /// number that gets free then has its place.
+    #[inline(always)]
     pub fn reserve(&mut self, additional: usize) -> Result<(), AllocError>
         ensures values { self.new.values ≡ self.old.values }
         ensures made { (page : ℕ) → set.contains self.old.made page ≡ true → set.contains self.new.made page ≡ true }
@@ -232,6 +234,7 @@ impl<T: Copy> Pages<T> {
 
     /// Puts a value under a free number from 1 to 65,535: the least one, where there is room, or one
     /// whose page is made. Takes no memory; constant time.
+    #[inline(always)]
     pub fn insert(&mut self, number: u32, value: T)
         requires positive { 0 < number }
         requires small { number < 65536 }

@@ -89,6 +89,7 @@ impl<V: Copy> TaggedNames<V> {
     }
 
     /// The value under the name, if the name is in use. Constant time for a name that was fresh.
+    #[inline(always)]
     pub fn get(&self, name: u32) -> Option<V>
         ensures { result ≡ map.get self.now.names name }
     {
@@ -99,6 +100,7 @@ impl<V: Copy> TaggedNames<V> {
     /// Linear in the number of pages of 256 indices that are made, and in the number of indices.
     ///
     /// An error means that memory was refused; names, counts and room are then as before.
+    #[inline(always)]
     pub fn reserve(&mut self, additional: usize) -> Result<(), AllocError>
         ensures ok { OnOk result (self.new ≡ record self.old { room = max self.old.room additional }) }
         ensures err { OnErr result (self.new ≡ self.old) }
@@ -114,6 +116,7 @@ impl<V: Copy> TaggedNames<V> {
     }
 
     /// The fresh name, less than 2^24, where fewer than 65,535 names are in use. Constant time.
+    #[inline(always)]
     pub fn fresh(&self) -> u32
         requires not_full { map.len self.now.names < 65535 }
         ensures fresh { IsFreshName self.now result }
@@ -125,6 +128,7 @@ impl<V: Copy> TaggedNames<V> {
 
     /// Counts a fresh name at the name's index, before the name is put in or after. Takes no memory;
     /// constant time.
+    #[inline(always)]
     pub fn count(&mut self, name: u32)
         requires { CanCount self.old (name / 256) }
         ensures { self.new ≡ record self.old { given = counted self.old.given (name / 256) } }
@@ -133,6 +137,7 @@ impl<V: Copy> TaggedNames<V> {
     }
 
     /// The name for which a place is kept, if there is one. Constant time.
+    #[inline(never)]
     pub fn kept(&self) -> Option<u32>
         ensures { result ≡ self.now.kept }
     {
@@ -140,6 +145,7 @@ impl<V: Copy> TaggedNames<V> {
     }
 
     /// Whether a place is kept for the name. Constant time.
+    #[inline(never)]
     pub fn keeps(&self, name: u32) -> bool
         ensures { IsTrue result ↔ (self.now.kept ≡ Some name) }
     {
@@ -154,6 +160,7 @@ impl<V: Copy> TaggedNames<V> {
     /// An error means that memory was refused, and that the place was not kept before; all is then as it
     /// was. It comes only where there is no room, where the name that gives up the place is in use, or
     /// where no name with an index in the same page of 256 indices is in use.
+    #[inline(never)]
     pub fn keep(&mut self, name: u32) -> Result<(), AllocError>
         ensures ok { OnOk result (self.new ≡ record self.old { kept = Some name }) }
         ensures err { OnErr result (self.new ≡ self.old) }
@@ -172,6 +179,7 @@ impl<V: Copy> TaggedNames<V> {
     /// where there is room for one, as the fresh name is, or the name for which a place is kept. Takes one
     /// from the room, where there is some. Takes no memory. Constant time, but logarithmic in the number of
     /// names in the tree for the kept name.
+    #[inline(always)]
     pub fn insert(&mut self, name: u32, value: V)
         requires unused { map.get self.old.names name ≡ None }
         requires not_full { map.len self.old.names < 65535 }
@@ -185,6 +193,7 @@ impl<V: Copy> TaggedNames<V> {
 
     /// Puts a value in place of the one under a name. Takes no memory. Constant time for a name that was
     /// fresh.
+    #[inline(never)]
     pub fn set(&mut self, name: u32, value: V)
         requires { map.contains_key self.old.names name ≡ true }
         ensures { self.new ≡ record self.old { names = map.insert self.old.names name value } }
@@ -194,6 +203,7 @@ impl<V: Copy> TaggedNames<V> {
 
     /// Takes out the value under a name, and returns it. Counts, room and the kept place stay. Takes no
     /// memory. Constant time for a name that was fresh, while the tree is empty.
+    #[inline(always)]
     pub fn remove(&mut self, name: u32) -> Option<V>
         ensures value { result ≡ map.get self.old.names name }
         ensures after { self.new ≡ record self.old { names = map.remove self.old.names name } }
@@ -205,6 +215,7 @@ impl<V: Copy> TaggedNames<V> {
 
     /// The least name from this one on that is in use. Constant time, but for four words of each page
     /// without such a name, while the tree is empty.
+    #[inline(never)]
     pub fn next(&self, from: u32) -> Option<u32>
         ensures found { IfSome result (λ name. IsNextUsed self.now.names from name) }
         ensures none { IfNone result ((n : ℕ) → from ≤ n → map.get self.now.names n ≡ None) }

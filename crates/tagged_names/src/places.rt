@@ -45,6 +45,7 @@ impl<V: Copy> Model for Places<V> {
 }
 
 // The value under a name that has the place of its index.
+#[inline(always)]
 fn value_placed<V: Copy>(slots: &Pages<Slot<V>>, name: u32) -> Option<V>
     ensures { result ≡ placed slots.now.values name }
 {
@@ -84,6 +85,7 @@ fn least(a: Option<u32>, b: Option<u32>) -> Option<u32>
 }
 
 // A name of the index in the tree.
+#[inline(always)]
 fn name_of_index<V: Copy>(others: &High<V>, index: u32) -> Option<u32>
     requires { index < 65536 }
     ensures found { IfSome result (λ name. (name / 256 ≡ index) × (map.contains_key others.now.names name ≡ true)) }
@@ -97,6 +99,7 @@ fn name_of_index<V: Copy>(others: &High<V>, index: u32) -> Option<u32>
 }
 
 // Takes a name from the place of its index. Another name of the index takes the place, if there is one.
+#[inline(always)]
 fn vacate<V: Copy>(slots: &mut Pages<Slot<V>>, others: &mut High<V>, name: u32)
     requires ready { IsReady slots.old others.old }
     requires placed { is_some (placed slots.old.values name) ≡ true }
@@ -116,6 +119,7 @@ fn vacate<V: Copy>(slots: &mut Pages<Slot<V>>, others: &mut High<V>, name: u32)
 }
 
 // Whether the index lies in a page, and no name has its place.
+#[inline(always)]
 fn is_open<V: Copy>(slots: &Pages<Slot<V>>, index: u32) -> bool
     ensures { IsTrue result ↔ IsOpen slots.now.values index }
 {
@@ -149,6 +153,7 @@ impl<V: Copy> Places<V> {
     }
 
     // The value under the name.
+    #[inline(always)]
     pub(crate) fn get(&self, name: u32) -> Option<V>
         ensures { result ≡ map.get self.now.names name }
     {
@@ -159,6 +164,7 @@ impl<V: Copy> Places<V> {
     }
 
     // The least index from 1 under which no name is in use.
+    #[inline(always)]
     pub(crate) fn fresh_index(&self) -> u32
         requires { map.len self.now.names < 65535 }
         ensures fresh { IsFreshIndex self.now.names result }
@@ -176,6 +182,7 @@ impl<V: Copy> Places<V> {
     }
 
     // Makes room for so many more names of fresh indices. An error means that memory was refused.
+    #[inline(always)]
     pub(crate) fn reserve(&mut self, additional: usize) -> Result<(), AllocError>
         ensures ok { OnOk result (self.new ≡ record self.old { room = max self.old.room additional }) }
         ensures err { OnErr result (self.new ≡ self.old) }
@@ -211,6 +218,7 @@ impl<V: Copy> Places<V> {
 
     // Puts a value under an unused name: in the place of its index where that is free, else in the tree.
     // Takes no memory.
+    #[inline(always)]
     pub(crate) fn insert(&mut self, name: u32, value: V)
         requires unused { map.get self.old.names name ≡ None }
         requires not_full { map.len self.old.names < 65535 }
@@ -240,6 +248,7 @@ impl<V: Copy> Places<V> {
     }
 
     // Takes out the value under a name. Takes no memory.
+    #[inline(always)]
     pub(crate) fn remove(&mut self, name: u32) -> Option<V>
         ensures value { result ≡ map.get self.old.names name }
         ensures after { self.new ≡ record self.old { names = map.remove self.old.names name } }
