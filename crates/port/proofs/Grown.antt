@@ -4,8 +4,8 @@ use Rattle.std.specs.Option.{SomeIff}
 use Rattle.std.specs.Ordering.{nat_cmp}
 use Rattle.std.specs.FinMap as map
 use Rattle.slab.specs.Slab.{Slab, get}
-use Rattle.port.specs.declared.Record.{Record}
-use Rattle.port.specs.Turns.{ReadyLists}
+use Rattle.port_base.specs.declared.Record.{Record}
+use Rattle.port_base.specs.Turns.{ReadyLists}
 use Rattle.port.specs.Ports.{PortView, PortsView}
 use Rattle.port.specs.Records.{ports_of, port_in, queued_in, IsIndexed, IsSound, made_of}
 use Rattle.port.proofs.Keys.{same_some, some_or_none, equal_or_not, out_here, out_other, same_gets}

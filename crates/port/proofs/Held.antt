@@ -4,13 +4,14 @@ use Rattle.std.proofs.lemmas.Option.{slice_get_within, get_or_from_slice_get}
 use Rattle.std.specs.FinMap as map
 use Rattle.member_lists.specs.Lists.{ListsView, list_of, without}
 use Rattle.slab.specs.Slab.{Slab, get, with_value}
-use Rattle.port.specs.declared.Holder.{Holder}
-use Rattle.port.specs.declared.Holder.TheVariants as holder
-use Rattle.port.specs.declared.Record.{Record}
-use Rattle.port.specs.Holding.{held_by}
+use Rattle.port_base.specs.declared.Holder.{Holder}
+use Rattle.port_base.specs.declared.Holder.TheVariants as holder
+use Rattle.port_base.specs.declared.Record.{Record}
+use Rattle.port_base.specs.Attributes.{held_by}
 use Rattle.port.specs.Ports.{PortView, PortsView, turned}
-use Rattle.port.specs.Ready.{IsMoved, out_of, at_end}
-use Rattle.port.specs.Records.{ports_of, turns_at, ids_in, made_of, lost_list, doomed_list, noted_list, waits_in, lost_with, doomed_with, ready_set, member_set, waiting_list, noting_list, with_holder, IsReadied, IsMembered, IsAwaited, IsNoted, IsSound, IsKept}
+use Rattle.port_base.specs.Ready.{IsMoved, out_of, at_end}
+use Rattle.port_base.specs.Records.{lost_list, doomed_list, noted_list, waits_in, ready_set, member_set, waiting_list, noting_list}
+use Rattle.port.specs.Records.{ports_of, turns_at, ids_in, made_of, lost_with, doomed_with, with_holder, IsReadied, IsMembered, IsAwaited, IsNoted, IsSound, IsKept}
 use Rattle.port.proofs.Readied.{listed-set, listed-stays}
 use Rattle.port.proofs.Records.{Keyed, port_of}
 use Rattle.port.proofs.Sound.{is_port, sound-set, view-set, turns-set}

@@ -3,10 +3,11 @@ use Rattle.std.proofs.Common.{◌≡◌, ◌⊎◌, eqb, length, inl, inr, ℕ, 
 use Rattle.std.specs.Prelude as std
 use Rattle.std.proofs.lemmas.Option.{slice_get_within, get_or_from_slice_get}
 use Rattle.member_lists.specs.Lists.{ListsView, list_of}
-use Rattle.port.specs.declared.Holder.{Holder}
-use Rattle.port.specs.declared.Holder.TheVariants.{Task, QueueOf, Nobody, Doomed}
-use Rattle.port.specs.declared.Record.{Record}
-use Rattle.port.specs.Records.{ids_at, ids_in, waits_in, lost_list, doomed_list, noted_list, IsAwaited, IsNoted}
+use Rattle.port_base.specs.declared.Holder.{Holder}
+use Rattle.port_base.specs.declared.Holder.TheVariants.{Task, QueueOf, Nobody, Doomed}
+use Rattle.port_base.specs.declared.Record.{Record}
+use Rattle.port_base.specs.Records.{ids_at, waits_in, lost_list, doomed_list, noted_list}
+use Rattle.port.specs.Records.{ids_in, IsAwaited, IsNoted}
 use Rattle.member_lists.proofs.Times.{eqb_is}
 use Rattle.port.proofs.Keys.{same_some}
 

@@ -2,7 +2,7 @@
 use Rattle.std.proofs.Common.{arith, ◌≡◌, ◌≢◌, ℕ, Option, Some, None, List, [], ◌∷◌, ◌++◌, refl, ap, sym}
 use Rattle.std.specs.Prelude.{unwrap_or}
 use Rattle.member_lists.specs.Lists.{without}
-use Rattle.port.specs.Turns.{ReadyLists, turns_of, with_turns, left, joined, ready_if}
+use Rattle.port_base.specs.Turns.{ReadyLists, turns_of, with_turns, left, joined, ready_if}
 use Rattle.port.specs.Ports.{PortView, ready_in, turned}
 use Rattle.port.proofs.Keys.{put_here, put_other, out_here, out_other}
 

@@ -1,10 +1,10 @@
 -- The list of a port's set once a message more lies in the port's queue.
 use Rattle.std.proofs.Common.{arith, ◌≡◌, ℕ, cond, Option, None, IsSome, List, [], ◌∷◌, ◌++◌}
 use Rattle.member_lists.specs.Lists.{ListsView}
-use Rattle.port.specs.Ready.{StandsIn, IsMoved, out_of, at_end}
-use Rattle.port.specs.Records.{readied_if}
-use Rattle.port.specs.Turns.{ready_if, same_set}
-use Rattle.port.proofs.Moved.{moved_none}
+use Rattle.port_base.specs.Ready.{StandsIn, IsMoved, out_of, at_end}
+use Rattle.port_base.specs.Records.{readied_if}
+use Rattle.port_base.specs.Turns.{ready_if, same_set}
+use Rattle.port_base.proofs.Moved.{moved_none}
 use Rattle.port.proofs.Sound.{no_true}
 use Rattle.port.proofs.Turned.{same_set-same}
 

@@ -7,12 +7,13 @@ use Rattle.std.proofs.lemmas.List.Elements.{Contains-get_or}
 use Rattle.member_lists.specs.Lists.{ListsView, list_of}
 use Rattle.member_lists.proofs.Listed.{apart_if_none}
 use Rattle.slab.specs.Slab.{Slab, get, with_value}
-use Rattle.port.specs.declared.Record.{Record}
-use Rattle.port.specs.Turns.{ReadyLists, turns_of, ready_if}
+use Rattle.port_base.specs.declared.Record.{Record}
+use Rattle.port_base.specs.Turns.{ReadyLists, turns_of, ready_if}
 use Rattle.port.specs.Ports.{PortView, PortsView, IsReadyIn, NoneReadyIn, IsIn, NoneIn}
-use Rattle.port.specs.Ready.{StandsIn, IsMoved}
-use Rattle.port.proofs.Moved.{moved_none}
-use Rattle.port.specs.Records.{ports_of, made_of, id_in, ids_at, ready_set, IsListed, IsReadied, IsMembered, IsSound, IsKept}
+use Rattle.port_base.specs.Ready.{StandsIn, IsMoved}
+use Rattle.port_base.proofs.Moved.{moved_none}
+use Rattle.port_base.specs.Records.{id_in, ids_at, ready_set}
+use Rattle.port.specs.Records.{ports_of, made_of, IsListed, IsReadied, IsMembered, IsSound, IsKept}
 use Rattle.port.proofs.Keys.{same_some, some_or_none, equal_or_not}
 use Rattle.port.proofs.Records.{Keyed, port_of, Turns}
 use Rattle.port.proofs.Sound.{turns-set, live_port, live_at, record_at}

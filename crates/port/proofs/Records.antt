@@ -3,7 +3,7 @@ use Rattle.std.proofs.Common.{◌≡◌, ◌≢◌, inl, inr, ℕ, ◌+◌, true
 use Rattle.std.specs.Option.{option_map}
 use Rattle.std.specs.Ordering.{nat_cmp}
 use Rattle.std.specs.FinMap as map
-use Rattle.port.specs.declared.Record.{Record}
+use Rattle.port_base.specs.declared.Record.{Record}
 use Rattle.port.specs.Ports.{PortView}
 use Rattle.port.specs.Records.{ports_of, port_in, IsIndexed}
 use Rattle.member_lists.proofs.Values.{get-with_values}

@@ -7,8 +7,8 @@ use Rattle.std.specs.FinMap as map
 use Rattle.std.proofs.lemmas.List.{get_or-set_same, get_or-set_other}
 use Rattle.std.proofs.lemmas.List.Sums.{sum_by-set, sum_by-cons}
 use Rattle.slab.specs.Slab.{Slab, get, with_value}
-use Rattle.port.specs.declared.Record.{Record}
-use Rattle.port.specs.Turns.{ReadyLists}
+use Rattle.port_base.specs.declared.Record.{Record}
+use Rattle.port_base.specs.Turns.{ReadyLists}
 use Rattle.port.specs.Ports.{PortView, PortsView, turned}
 use Rattle.port.specs.Records.{ports_of, queued_in, IsSound, made_of}
 use Rattle.port.proofs.Keys.{same_some, some_or_none}

@@ -9,11 +9,12 @@ use Rattle.member_lists.specs.Lists.{ListsView, list_of, with_list, without}
 use Rattle.member_lists.specs.Chains.{times}
 use Rattle.member_lists.proofs.Times.{times_here, times_more, Contains_from_times, eqb_same}
 use Rattle.slab.specs.Slab.{Slab, get, with_value}
-use Rattle.port.specs.declared.Record.{Record}
-use Rattle.port.specs.Turns.{ReadyLists, turns_of, with_turns, left, joined, same_set}
-use Rattle.port.specs.Ready.{out_of, at_end}
+use Rattle.port_base.specs.declared.Record.{Record}
+use Rattle.port_base.specs.Turns.{ReadyLists, turns_of, with_turns, left, joined, same_set}
+use Rattle.port_base.specs.Ready.{out_of, at_end}
 use Rattle.port.specs.Ports.{PortsView, turned}
-use Rattle.port.specs.Records.{ports_of, id_in, ids_at, turns_at, made_of, ready_set, IsIndexed, IsListed, IsReadied, IsSound}
+use Rattle.port_base.specs.Records.{id_in, ids_at, ready_set}
+use Rattle.port.specs.Records.{ports_of, turns_at, made_of, IsIndexed, IsListed, IsReadied, IsSound}
 use Rattle.port.proofs.Keys.{some_or_none, equal_or_not, put_here, put_other, out_here, out_other, same_gets}
 use Rattle.member_lists.proofs.Values.{get-with_values, len-with_values}
 use Rattle.port.proofs.Records.{Keyed, port_of}

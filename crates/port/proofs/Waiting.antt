@@ -10,14 +10,15 @@ use Rattle.member_lists.specs.Chains.{times}
 use Rattle.member_lists.proofs.Times.{times_here, times_more, Contains_from_times, eqb_other}
 use Rattle.member_lists.proofs.Listed.{list_same, list_other}
 use Rattle.slab.specs.Slab.{Slab, get, with_value}
-use Rattle.port.specs.declared.Holder.{Holder}
-use Rattle.port.specs.declared.Holder.TheVariants.{Task, QueueOf, Nobody, Doomed}
-use Rattle.port.specs.declared.Record.{Record}
-use Rattle.port.specs.Turns.{ReadyLists}
-use Rattle.port.specs.Ready.{StandsIn, IsMoved, out_of, at_end}
+use Rattle.port_base.specs.declared.Holder.{Holder}
+use Rattle.port_base.specs.declared.Holder.TheVariants.{Task, QueueOf, Nobody, Doomed}
+use Rattle.port_base.specs.declared.Record.{Record}
+use Rattle.port_base.specs.Turns.{ReadyLists}
+use Rattle.port_base.specs.Ready.{StandsIn, IsMoved, out_of, at_end}
 use Rattle.port.specs.Ports.{PortView, PortsView}
 use Rattle.port.specs.Holding.{CanHold, IsHeldBy, NoneHeldBy}
-use Rattle.port.specs.Records.{ports_of, turns_at, id_in, ids_at, ids_in, made_of, lost_list, doomed_list, noted_list, waits_in, lost_with, doomed_with, waiting_list, noting_list, IsIndexed, IsListed, IsAwaited, IsNoted, IsSound}
+use Rattle.port_base.specs.Records.{id_in, ids_at, lost_list, doomed_list, noted_list, waits_in, waiting_list, noting_list}
+use Rattle.port.specs.Records.{ports_of, turns_at, ids_in, made_of, lost_with, doomed_with, IsIndexed, IsListed, IsAwaited, IsNoted, IsSound}
 use Rattle.port.proofs.Keys.{same_some, some_or_none, equal_or_not, put_here, put_other, same_gets}
 use Rattle.port.proofs.Records.{Keyed, port_of, port_at, ports-changed}
 use Rattle.port.proofs.Sound.{no_true, AreSame, relisted, turns-set, live_port, live_at, record_at}

@@ -1,9 +1,10 @@
 -- Who holds a port's receive right, and which ports nobody holds.
 use Rattle.std.specs.Prelude.{◌≡◌, ◌≢◌, ℕ, Some}
 use Rattle.std.specs.FinMap as map
-use Rattle.port.specs.declared.Attributes.{Attributes}
-use Rattle.port.specs.declared.Holder.{Holder}
-use Rattle.port.specs.declared.Holder.TheVariants.{Task, QueueOf, Nobody, Doomed}
+use Rattle.port_base.specs.Attributes.{held_by}
+use Rattle.port_base.specs.declared.Attributes.{Attributes}
+use Rattle.port_base.specs.declared.Holder.{Holder}
+use Rattle.port_base.specs.declared.Holder.TheVariants.{Task, QueueOf, Nobody, Doomed}
 use Rattle.port.specs.Ports.{PortView, PortsView}
 
 -- a task or a queue
@@ -12,10 +13,6 @@ CanHold (Task task) = Unit {0}
 CanHold (QueueOf port) = Unit {0}
 CanHold Nobody = ⊥
 CanHold Doomed = ⊥
-
--- the same attributes with another holder
-abbrev pub held_by : Attributes → Holder → Attributes
-held_by a holder = record a { holder = holder }
 
 module _ {M : Type 0} where
   -- the same port with another holder

@@ -1,12 +1,11 @@
 -- What contracts see of ports: each live port's queue and attributes, the ready ports of each set in their turns, how many were made, how many slots are spare, the messages that were destroyed, and the ports that the end of a step looks at.
-use Rattle.std.specs.Prelude.{◌≡◌, ◌≢◌, ℕ, ◌+◌, ◌<◌, ◌%◌, ◌^◌, ◌&&◌, ◌++◌, ◌∷◌, Bool, leb, cond, List, [], Option, Some, None, true, length, slice_get, refl}
+use Rattle.std.specs.Prelude.{◌≡◌, ◌≢◌, ℕ, ◌<◌, ◌&&◌, ◌++◌, ◌∷◌, Bool, leb, cond, List, [], Option, Some, None, true, length, slice_get, refl}
 use Rattle.std.specs.Coded.{Coded, code_by, coded×, coded_ℕ, coded_list}
 use Rattle.std.specs.FinMap as map
 use Rattle.std.specs.Ordering.{nat_cmp}
-use Rattle.mach_types.specs.Numbers.{first_limit}
-use Rattle.port.specs.declared.Attributes.{Attributes}
-use Rattle.port.specs.declared.Holder.TheVariants as Holder
-use Rattle.port.specs.Turns.{ReadyLists, turns_of, left, joined, ready_if, same_set}
+use Rattle.port_base.specs.declared.Attributes.{Attributes}
+use Rattle.port_base.specs.Turns.{ReadyLists, turns_of, left, joined, ready_if, same_set}
+pub use Rattle.port_base.specs.Attributes.{first_attributes}
 
 pub record PortView (M : Type 0) : Type 0 where
   pub queue : List M
@@ -35,18 +34,6 @@ ports_code {M} m a = code_by
     (λ v. (v.ports, (v.ready, (v.made, (v.spare, (v.destroyed, (v.lost, (v.doomed, v.noted))))))))
     (λ p. record { ports = p.0; ready = p.1.0; made = p.1.1.0; spare = p.1.1.1.0; destroyed = p.1.1.1.1.0; lost = p.1.1.1.1.1.0; doomed = p.1.1.1.1.1.1.0; noted = p.1.1.1.1.1.1.1 })
     (λ _. refl)
-
--- a new port's attributes: limit 5, no message yet sent, made or received, and its receive right with the task
-abbrev pub first_attributes : (task : ℕ) → Attributes
-first_attributes task = record { limit = first_limit; make_send = 0; sequence = 0; set = None; holder = Holder.Task task }
-
--- a send right more was made from the receive right
-abbrev pub one_made : Attributes → Attributes
-one_made a = record a { make_send = (a.make_send + 1) % 2 ^ 32 }
-
--- a message more was received
-abbrev pub one_received : Attributes → Attributes
-one_received a = record a { sequence = (a.sequence + 1) % 2 ^ 32 }
 
 module _ {M : Type 0} where
   abbrev pub IsLive : PortsView M → ℕ → Type 0

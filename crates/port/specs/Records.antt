@@ -1,41 +1,25 @@
 -- How ports are kept. No public clause cites this module.
-use Rattle.std.specs.Prelude.{◌≡◌, ℕ, ◌+◌, ◌<◌, ◌≤◌, ◌^◌, ◌++◌, cond, List, [], ◌∷◌, Option, Some, None, length}
-use Rattle.std.specs.Prelude as std
+use Rattle.std.specs.Prelude.{◌≡◌, ℕ, ◌+◌, ◌<◌, ◌≤◌, ◌^◌, ◌++◌, List, [], ◌∷◌, Option, Some, None, length}
 use Rattle.std.specs.List.{sum_by, Contains}
 use Rattle.std.specs.FinMap as map
 use Rattle.std.specs.Ordering.{nat_cmp}
 use Rattle.slab.specs.Slab.{Slab, get}
 use Rattle.member_lists.specs.Lists.{ListsView, list_of, without}
 use Rattle.member_lists.specs.Values.{with_values}
-use Rattle.port.specs.declared.Holder.{Holder}
-use Rattle.port.specs.declared.Holder.TheVariants.{Task, QueueOf, Nobody, Doomed}
-use Rattle.port.specs.declared.Record.{Record}
+use Rattle.port_base.specs.declared.Holder.{Holder}
+use Rattle.port_base.specs.declared.Holder.TheVariants.{Task, QueueOf, Nobody, Doomed}
+use Rattle.port_base.specs.declared.Record.{Record}
 use Rattle.port.specs.Holding.{held}
-use Rattle.port.specs.Ready.{StandsIn}
-use Rattle.port.specs.Turns.{ReadyLists, ready_if}
-use Rattle.port.specs.Ports.{PortView, PortsView, first_attributes, with_port}
+use Rattle.port_base.specs.Ready.{StandsIn}
+use Rattle.port_base.specs.Turns.{ReadyLists}
+use Rattle.port_base.specs.Attributes.{first_attributes}
+use Rattle.port_base.specs.Records.{ids_at, ready_set, member_set, waiting_list, noting_list}
+use Rattle.port.specs.Ports.{PortView, PortsView, with_port}
 
 -- how many numbers were given out, where the next is this, or none is left
 abbrev pub made_of : Option ℕ → ℕ
 made_of None = 2 ^ 64
 made_of (Some next) = next
-
--- the numbers of the lists that ports without a holder, and those noted, stand in
-abbrev pub lost_list : ℕ
-lost_list = 0
-
-abbrev pub doomed_list : ℕ
-doomed_list = 1
-
-abbrev pub noted_list : ℕ
-noted_list = 0
-
--- the list that a port with this holder waits in, if nobody holds it
-abbrev pub waits_in : Holder → Option ℕ
-waits_in (Task task) = None
-waits_in (QueueOf port) = None
-waits_in Nobody = Some lost_list
-waits_in Doomed = Some doomed_list
 
 -- the ports that were lost, once this one has the holder and is no longer among them
 abbrev pub lost_with : Holder → (port : ℕ) → List ℕ → List ℕ
@@ -51,11 +35,6 @@ doomed_with (QueueOf q) port doomed = doomed
 doomed_with Nobody port doomed = doomed
 doomed_with Doomed port doomed = doomed ++ port ∷ []
 
--- the set that a port gets ready in by a message: the one that it is in, if it has none
-abbrev pub readied_if : {M : Type 0} → List M → Option ℕ → Option ℕ
-readied_if [] set = set
-readied_if (m ∷ ms) set = None
-
 module _ {M : Type 0} where
   abbrev pub port_in : Option (Record M) → PortView M
   port_in None = record { queue = []; attributes = first_attributes 0 }
@@ -63,14 +42,6 @@ module _ {M : Type 0} where
 
   abbrev pub ports_of : (ℕ → Option (Record M)) → map.FinMap nat_cmp ℕ → map.FinMap nat_cmp (PortView M)
   ports_of at keys = with_values (λ key. port_in (at key)) keys
-
-  abbrev pub id_in : Option (Record M) → ℕ
-  id_in None = 0
-  id_in (Some r) = r.id
-
-  -- the identities of the ports under the keys
-  abbrev pub ids_at : (ℕ → Option (Record M)) → List ℕ → List ℕ
-  ids_at at keys = std.map (λ key. id_in (at key)) keys
 
   -- the identities of the ports in a list
   abbrev pub ids_in : (ℕ → Option (Record M)) → ListsView → (list : ℕ) → List ℕ
@@ -95,25 +66,6 @@ module _ {M : Type 0} where
     pub counted : sum_by queued_in s.slots + length spare + length destroyed ≡ slots
     pub few : slots < 2 ^ 63
     pub next_fits : (n : ℕ) → next ≡ Some n → n < 2 ^ 64
-
-  abbrev pub ready_set : Record M → Option ℕ
-  ready_set r = ready_if r.queue r.kept.attributes.set
-
-  -- the set that a port gets ready in by a message
-  abbrev pub readied_set : Record M → Option ℕ
-  readied_set r = readied_if r.queue r.kept.attributes.set
-
-  -- the set that a port is in
-  abbrev pub member_set : Record M → Option ℕ
-  member_set r = r.kept.attributes.set
-
-  -- the list that a port waits in, if nobody holds it
-  abbrev pub waiting_list : Record M → Option ℕ
-  waiting_list r = waits_in r.kept.attributes.holder
-
-  -- the list of the noted ports, if a port is noted
-  abbrev pub noting_list : Record M → Option ℕ
-  noting_list r = cond r.kept.is_noted (Some noted_list) None
 
   -- The ports stand by their keys in the lists where they belong, and nothing else does.
   pub record IsListed (home : Record M → Option ℕ) (at : ℕ → Option (Record M)) (lists : ListsView) : Type 0 where

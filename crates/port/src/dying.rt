@@ -3,16 +3,16 @@ ghost use Rattle.std.specs.Prelude.{◌≡◌, ◌↔◌, ℕ, ◌<◌, ◌++◌
 ghost use Rattle.std.specs.List.{Contains};
 ghost use Rattle.std.specs.FinMap as map;
 
-use crate::by_key::{DOOMED, LOST, hold_at};
-use crate::moves::{rejoin_first, rejoin_two};
 use crate::{Holder, Message, Ports, key_of};
 use mach_types::PortId;
+use port_base::by_key::{DOOMED, LOST, hold_at};
+use port_base::moves::{rejoin_first, rejoin_two};
 
 impl<M: Message> Ports<M> {
     ghost use Rattle.member_lists.specs.Lists.{without};
     ghost use Rattle.port.specs.Holding.{CanHold, IsHeldBy, NoneHeldBy, held};
     ghost use Rattle.port.specs.Ports.{PortView, with_port};
-    ghost use Rattle.port.specs.declared.Holder.TheVariants as Holder;
+    ghost use Rattle.port_base.specs.declared.Holder.TheVariants as Holder;
 
     /// Says that a port's receive right was lost, as [`Ports::lose`] does, where the port is there, and
     /// answers whether it is. Where it is gone, nothing changes. Takes no memory. Constant time.

@@ -12,303 +12,35 @@ ghost use Rattle.std.specs.FinMap as map;
 ghost use Rattle.std.specs.Ordering.{nat_cmp};
 ghost use Rattle.number_map.specs.Maps.{MapView};
 ghost use Rattle.slab.specs.Slab.{get, with_value, HasRoomFor};
-ghost use Rattle.port.specs.declared.Record.{Record as AnyRecord};
-ghost use Rattle.port.specs.Ready.{StandsIn, IsMoved, out_of, at_end};
-ghost use Rattle.port.specs.Turns.{turns_of, same_set};
-ghost use Rattle.port.specs.Holding.{held_by};
+ghost use Rattle.port_base.specs.declared.Record.{Record as AnyRecord};
+ghost use Rattle.port_base.specs.Ready.{StandsIn, IsMoved, out_of, at_end};
+ghost use Rattle.port_base.specs.Turns.{turns_of, same_set};
+ghost use Rattle.port_base.specs.Attributes.{held_by, one_made, one_received};
 ghost use Rattle.port.specs.Idle.{IsIdle};
-ghost use Rattle.port.specs.Ports.{one_made, one_received};
-ghost use Rattle.port.specs.Records.{ready_set, member_set, ids_at};
+ghost use Rattle.port_base.specs.Records.{ready_set, member_set, ids_at};
 
-mod by_key;
 mod dying;
 mod looks;
-mod moves;
-mod slots;
 
-use by_key::{
+pub use looks::Standing;
+use mach_types::{PortId, SetId, TaskId};
+use member_lists::{MarkedLists, TwoLists};
+use number_map::NumberMap;
+use port_base::by_key::{
     DOOMED, LOST, NOTED, count_at, destroy_at, has_messages, hold_at, ids_of, member_at, narrow,
     note_at, noted_at, pop_at, push_at, ready_at, reserve_record, set_at, take_at,
 };
-pub use looks::Standing;
-use mach_types::limits::FIRST_LIMIT;
-use mach_types::{PortId, SetId, TaskId};
-use member_lists::{MarkedLists, TwoLists};
-use moves::{join_two, leave, leave_two, ready, rejoin_two, renew, reready};
-use number_map::NumberMap;
+use port_base::moves::{join_two, leave, leave_two, ready, rejoin_two, renew, reready};
+use port_base::slots::{blank_slots, pop};
+pub use port_base::{Attributes, Holder, Message};
+use port_base::{Kept, Record};
 use slab::Slab;
-use slots::{blank_slots, pop};
 use std::alloc::{AllocError, Global};
 use std::collections::LinkedList;
 use std::marker::Model;
-use std::mem;
 
 // A list has fewer elements than this.
 const MOST_SLOTS: usize = 1 << 63;
-
-// A task's number is less than this.
-const TASK_NUMBERS: u64 = 1 << 32;
-
-/// A message that can lie in a slot.
-pub trait Message: Drop {
-    /// What lies in a slot that no message is in. Takes no memory.
-    fn blank(alloc: Global) -> Self;
-}
-
-/// Who holds a port's receive right.
-#[derive(Clone, Copy, Debug, PartialEq, Eq)]
-pub enum Holder {
-    /// The task: it stands under a name of it.
-    Task(TaskId),
-    /// A message in the queue of the port.
-    QueueOf(PortId),
-    /// Nobody: the right was lost, and the port is yet to be judged.
-    Nobody,
-    /// Nobody, and the port is to be removed: it was judged, and nobody can hold it again.
-    Doomed,
-}
-
-// What the number of a holder is of.
-#[derive(Clone, Copy)]
-enum HolderKind {
-    Task,
-    Queue,
-    Nobody,
-    Doomed,
-}
-
-impl Holder {
-    ghost use Rattle.port.specs.Holders.{holder_of};
-
-    // What it is, and its number.
-    fn parts(self) -> (HolderKind, u64)
-        ensures { holder_of result.0 result.1 ≡ self }
-    {
-        match self {
-            Holder::Task(task) => (HolderKind::Task, task.number() as u64),
-            Holder::QueueOf(port) => (HolderKind::Queue, port.number()),
-            Holder::Nobody => (HolderKind::Nobody, 0),
-            Holder::Doomed => (HolderKind::Doomed, 0),
-        }
-    }
-}
-
-/// What a port has beside its queue. Setting it changes nothing else.
-#[derive(Clone, Copy, Debug, PartialEq, Eq)]
-pub struct Attributes {
-    /// How many messages the queue takes from send rights, 0 to 16.
-    pub limit: u32,
-    /// How many send rights were made from the receive right, modulo 2^32.
-    pub make_send: u32,
-    /// The sequence number of the next message received, modulo 2^32.
-    pub sequence: u32,
-    /// The port set that the port is in.
-    pub set: Option<SetId>,
-    /// Who holds the port's receive right.
-    pub holder: Holder,
-}
-
-impl Attributes {
-    ghost use Rattle.port.specs.Ports.{first_attributes};
-
-    // Those of a new port, whose receive right the task holds.
-    fn first(task: TaskId) -> Attributes
-        ensures { result ≡ first_attributes task }
-    {
-        Attributes {
-            limit: FIRST_LIMIT,
-            make_send: 0,
-            sequence: 0,
-            set: None,
-            holder: Holder::Task(task),
-        }
-    }
-}
-
-// What is kept of a port beside its queue: its attributes, and whether it is noted, in 32 bytes.
-#[derive(Drop)]
-struct Kept {
-    set: u64,
-    holder: u64,
-    limit: u32,
-    make_send: u32,
-    sequence: u32,
-    is_member: bool,
-    is_noted: bool,
-    holder_kind: HolderKind,
-}
-
-impl Model for Kept {
-    ghost use Rattle.std.specs.Prelude.{cond, Some, None};
-    ghost use Rattle.port.specs.contracts.Attributes as attributes;
-    ghost use Rattle.port.specs.Holders.{KeptView, kept_code, holder_of};
-
-    ghost Value = { KeptView };
-
-    ghost coded = { kept_code attributes.the_row.coded };
-
-    ghost view = { λ a. record {
-      attributes = record {
-        limit = a.limit;
-        make_send = a.make_send;
-        sequence = a.sequence;
-        set = cond a.is_member (Some a.set) None;
-        holder = holder_of a.holder_kind a.holder;
-      };
-      is_noted = a.is_noted;
-    } };
-}
-
-impl Kept {
-    ghost use Rattle.port.specs.Records.{waits_in, noted_list};
-
-    // Of a port that isn't noted.
-    fn new(attributes: Attributes) -> Kept
-        ensures { result ≡ record { attributes = attributes; is_noted = false } }
-    {
-        let (set, is_member) = match attributes.set {
-            Some(set) => (set.number(), true),
-            None => (0, false),
-        };
-        let (holder_kind, holder) = attributes.holder.parts();
-        Kept {
-            set,
-            holder,
-            limit: attributes.limit,
-            make_send: attributes.make_send,
-            sequence: attributes.sequence,
-            is_member,
-            is_noted: false,
-            holder_kind,
-        }
-    }
-
-    fn attributes(&self) -> Attributes
-        ensures { result ≡ self.now.attributes }
-    {
-        Attributes {
-            limit: self.limit,
-            make_send: self.make_send,
-            sequence: self.sequence,
-            set: self.set(),
-            holder: self.holder(),
-        }
-    }
-
-    fn set(&self) -> Option<SetId>
-        ensures { result ≡ self.now.attributes.set }
-    {
-        if self.is_member {
-            Some(SetId::new(self.set))
-        } else {
-            None
-        }
-    }
-
-    fn holder(&self) -> Holder
-        ensures { result ≡ self.now.attributes.holder }
-    {
-        match self.holder_kind {
-            HolderKind::Task => Holder::Task(TaskId::new((self.holder % TASK_NUMBERS) as u32)),
-            HolderKind::Queue => Holder::QueueOf(PortId::new(self.holder)),
-            HolderKind::Nobody => Holder::Nobody,
-            HolderKind::Doomed => Holder::Doomed,
-        }
-    }
-
-    // The number of the port's set.
-    fn member_list(&self) -> Option<u64>
-        ensures { result ≡ self.now.attributes.set }
-    {
-        let set = self.set()?;
-        Some(set.number())
-    }
-
-    // The list that the port waits in, if nobody holds it.
-    fn waiting_list(&self) -> Option<u64>
-        ensures { result ≡ waits_in self.now.attributes.holder }
-    {
-        match self.holder_kind {
-            HolderKind::Task => None,
-            HolderKind::Queue => None,
-            HolderKind::Nobody => Some(LOST),
-            HolderKind::Doomed => Some(DOOMED),
-        }
-    }
-
-    // The list of the noted ports, if the port is noted.
-    fn noting_list(&self) -> Option<u64>
-        ensures { result ≡ cond self.now.is_noted (Some noted_list) None }
-    {
-        if self.is_noted { Some(NOTED) } else { None }
-    }
-
-    fn is_member(&self) -> bool
-        ensures { result ≡ is_some self.now.attributes.set }
-    {
-        self.is_member
-    }
-
-    fn sequence(&self) -> u32
-        ensures { result ≡ self.now.attributes.sequence }
-    {
-        self.sequence
-    }
-
-    fn limit(&self) -> u32
-        ensures { result ≡ self.now.attributes.limit }
-    {
-        self.limit
-    }
-
-    fn count_made(&mut self)
-        ensures { self.new ≡ record self.old { attributes = one_made self.old.attributes } }
-    {
-        self.make_send = self.make_send.wrapping_add(1);
-    }
-
-    fn count_received(&mut self)
-        ensures { self.new ≡ record self.old { attributes = one_received self.old.attributes } }
-    {
-        self.sequence = self.sequence.wrapping_add(1);
-    }
-
-    // Sets the attributes; whether the port is noted stays.
-    fn set_attributes(&mut self, attributes: Attributes)
-        ensures { self.new ≡ record self.old { attributes = attributes } }
-    {
-        let is_noted = self.is_noted;
-        *self = Kept::new(attributes);
-        self.is_noted = is_noted;
-    }
-
-    // Says who holds the receive right now.
-    fn set_holder(&mut self, holder: Holder)
-        ensures { self.new ≡ record self.old { attributes = held_by self.old.attributes holder } }
-    {
-        let (kind, number) = holder.parts();
-        self.holder_kind = kind;
-        self.holder = number;
-    }
-
-    // Says whether the port is noted now.
-    fn set_noted(&mut self, is_noted: bool)
-        ensures { self.new ≡ record self.old { is_noted = is_noted } }
-    {
-        self.is_noted = is_noted;
-    }
-}
-
-// A port under its key.
-#[derive(Drop)]
-struct Record<M> {
-    id: PortId,
-    queue: LinkedList<M>,
-    kept: Kept,
-}
-
-// A port without messages takes its record in the slab, and its place in the index.
-const _: () = prove!(mem::size_of::<Record<u8>>() <= 64);
 
 /// Ports by identity, messages that were destroyed, and spare message slots. Without ports and slots
 /// nothing is allocated.
@@ -331,14 +63,15 @@ pub struct Ports<M: Message> {
 impl<M: Message> Model for Ports<M> {
     ghost use Rattle.std.specs.Prelude.{length};
     ghost use Rattle.port.specs.Ports.{PortsView, ports_code};
-    ghost use Rattle.port.specs.contracts.Attributes as attributes;
+    ghost use Rattle.port_base.specs.contracts.Attributes as attributes;
 
     ghost Value = { PortsView M };
 
     ghost coded = { ports_code M.code attributes.the_row.coded };
 
     ghost use Rattle.slab.specs.Slab.{get};
-    ghost use Rattle.port.specs.Records.{ports_of, turns_at, ids_in, made_of, lost_list, doomed_list, noted_list, IsKept};
+    ghost use Rattle.port_base.specs.Records.{lost_list, doomed_list, noted_list};
+    ghost use Rattle.port.specs.Records.{ports_of, turns_at, ids_in, made_of, IsKept};
 
     ghost view = { λ a. record {
       ports = ports_of (get a.records) a.by_id.map;
@@ -368,9 +101,10 @@ impl<M: Message> Ports<M> {
     ghost use Rattle.mach_types.specs.Numbers.{most_identities};
     ghost use Rattle.member_lists.specs.Lists.{without};
     ghost use Rattle.port.specs.Holding.{CanHold, held, KeepsHolder, IsHeldBy, NoneHeldBy};
-    ghost use Rattle.port.specs.Ports.{PortView, IsLive, with_port, first_attributes, IsReadyIn, NoneReadyIn, IsIn, NoneIn, DestroysFirst, NoneQueued};
+    ghost use Rattle.port_base.specs.Attributes.{first_attributes};
+    ghost use Rattle.port.specs.Ports.{PortView, IsLive, with_port, IsReadyIn, NoneReadyIn, IsIn, NoneIn, DestroysFirst, NoneQueued};
     ghost use Rattle.port.specs.Records.{with_holder};
-    ghost use Rattle.port.specs.declared.Holder.TheVariants as Holder;
+    ghost use Rattle.port_base.specs.declared.Holder.TheVariants as Holder;
 
     /// No ports, and no slots. Allocates nothing; constant time.
     pub fn new(alloc: Global) -> Ports<M>

@@ -3,11 +3,13 @@ use Rattle.std.specs.FinMap as map
 use Rattle.member_lists.specs.Lists.{MarkedView}
 use Rattle.number_map.specs.Maps.{MapView}
 use Rattle.slab.specs.Slab.{Slab, get}
-use Rattle.port.specs.declared.Attributes.{Attributes}
-use Rattle.port.specs.declared.Record.{Record}
-use Rattle.port.specs.Holders.{KeptView}
-use Rattle.port.specs.Ports.{PortView, PortsView, first_attributes}
-use Rattle.port.specs.Records.{turns_at, made_of, noted_list, waits_in, ready_set, member_set, waiting_list, noting_list, IsReadied, IsMembered, IsAwaited, IsNoted}
+use Rattle.port_base.specs.declared.Attributes.{Attributes}
+use Rattle.port_base.specs.declared.Record.{Record}
+use Rattle.port_base.specs.Holders.{KeptView}
+use Rattle.port_base.specs.Attributes.{first_attributes}
+use Rattle.port.specs.Ports.{PortView, PortsView}
+use Rattle.port_base.specs.Records.{noted_list, waits_in, ready_set, member_set, waiting_list, noting_list}
+use Rattle.port.specs.Records.{turns_at, made_of, IsReadied, IsMembered, IsAwaited, IsNoted}
 use Rattle.port.proofs.Readied.{ready_none, listed-came, kept-then, on_err}
 use Rattle.port.proofs.Waiting.{came-same, view-then}
 use Rattle.port.proofs.Turned.{turns-apart, apart-vacant}

@@ -1,7 +1,7 @@
 use Rattle.std.proofs.Common.{◌≡◌, Some, None, is_some, ap, sym, ◌∙◌}
 use Rattle.std.specs.FinMap as map
 use Rattle.std.specs.Option.{option_map}
-use Rattle.port.specs.declared.Attributes.{Attributes}
+use Rattle.port_base.specs.declared.Attributes.{Attributes}
 use Rattle.port.specs.Ports.{PortView}
 use Rattle.port.proofs.Sound.{record_at, live_port, gone_port}
 use Rattle.port.proofs.Ports.attributes.Goals as goal

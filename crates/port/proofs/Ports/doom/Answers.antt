@@ -1,6 +1,6 @@
 use Rattle.std.proofs.Common.{◌≡◌, List, ℕ, is_some, ap, sym, ◌∙◌, refl, ◌∷◌, ◌++◌, []}
 use Rattle.member_lists.specs.Lists.{without}
-use Rattle.port.specs.declared.Holder.TheVariants as Holder
+use Rattle.port_base.specs.declared.Holder.TheVariants as Holder
 use Rattle.port.specs.Holding.{held}
 use Rattle.port.specs.Ports.{PortView, with_port}
 use Rattle.port.proofs.Keys.{same_some}

@@ -3,12 +3,12 @@ use Rattle.std.specs.FinMap as map
 use Rattle.std.specs.Option.{option_map}
 use Rattle.member_lists.specs.Lists.{list_of, without}
 use Rattle.slab.specs.Slab.{Slab, get}
-use Rattle.port.specs.declared.Holder.TheVariants as holder
-use Rattle.port.specs.declared.Record.{Record}
+use Rattle.port_base.specs.declared.Holder.TheVariants as holder
+use Rattle.port_base.specs.declared.Record.{Record}
 use Rattle.port.specs.Holding.{held}
 use Rattle.port.specs.Ports.{PortView, with_port}
-use Rattle.port.specs.Ready.{StandsIn, out_of, at_end}
-use Rattle.port.specs.Records.{id_in, lost_list, doomed_list, waiting_list}
+use Rattle.port_base.specs.Ready.{StandsIn, out_of, at_end}
+use Rattle.port_base.specs.Records.{id_in, lost_list, doomed_list, waiting_list}
 use Rattle.port.proofs.Held.{first_record, first_home, as_held, held-here, held_port, doomed-apart, kept-held, view-held}
 use Rattle.port.proofs.Keys.{same_some}
 use Rattle.port.proofs.Records.{port_of}

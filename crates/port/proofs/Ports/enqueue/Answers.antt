@@ -1,10 +1,11 @@
 use Rattle.std.proofs.Common.{◌≡◌, ◌+◌, ℕ, Some, is_some, ap, sym, subst, ◌∙◌, refl, ◌∷◌, ◌++◌, [], length, length-append, arith}
 use Rattle.std.specs.FinMap as map
 use Rattle.slab.specs.Slab.{Slab, get, with_value}
-use Rattle.port.specs.declared.Record.{Record}
+use Rattle.port_base.specs.declared.Record.{Record}
 use Rattle.port.specs.Ports.{PortView, PortsView, turned}
-use Rattle.port.specs.Records.{ports_of, turns_at, made_of, ready_set, IsReadied, IsMembered, IsSound, ids_in, lost_list, doomed_list, noted_list, member_set, waiting_list, noting_list, IsAwaited, IsNoted}
-use Rattle.port.specs.Ready.{IsMoved, at_end}
+use Rattle.port_base.specs.Records.{ready_set, lost_list, doomed_list, noted_list, member_set, waiting_list, noting_list}
+use Rattle.port.specs.Records.{ports_of, turns_at, made_of, IsReadied, IsMembered, IsSound, ids_in, IsAwaited, IsNoted}
+use Rattle.port_base.specs.Ready.{IsMoved, at_end}
 use Rattle.port.proofs.Joined.{joined-apart, joined-moved, joined-turned}
 use Rattle.port.proofs.Readied.{listed-set, listed-stays}
 use Rattle.port.proofs.Records.{port_of}

@@ -3,8 +3,8 @@ use Rattle.std.proofs.lemmas.Option.{slice_get_within, get_or_from_slice_get}
 use Rattle.std.specs.Option.{option_map}
 use Rattle.member_lists.specs.Lists.{list_of}
 use Rattle.slab.specs.Slab.{get}
-use Rattle.port.specs.declared.Holder.TheVariants as Holder
-use Rattle.port.specs.Records.{id_in, lost_list}
+use Rattle.port_base.specs.declared.Holder.TheVariants as Holder
+use Rattle.port_base.specs.Records.{id_in, lost_list}
 use Rattle.port.proofs.Waiting.{lost_now, held_told, first_told, none_told, waits_lost}
 use Rattle.port.proofs.Ports.first_lost.Goals as goal
 

@@ -2,7 +2,7 @@ use Rattle.std.proofs.Common.{◌≡◌, Some, None, is_some, ap, sym, ◌∙◌
 use Rattle.member_lists.specs.Lists.{list_of}
 use Rattle.std.specs.Option.{option_map}
 use Rattle.slab.specs.Slab.{get}
-use Rattle.port.specs.Records.{id_in}
+use Rattle.port_base.specs.Records.{id_in}
 use Rattle.port.proofs.Turned.{first_turn}
 use Rattle.port.proofs.Readied.{first_held, ready_first, none_ready}
 use Rattle.port.proofs.Ports.first_ready.Goals as goal

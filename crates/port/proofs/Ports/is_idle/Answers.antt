@@ -1,9 +1,9 @@
 use Rattle.std.proofs.Common.{refl, ap, sym, ◌∙◌, ◌&&◌}
 use Rattle.std.proofs.lemmas.Bool.{and_from, and_parts}
 use Rattle.slab.specs.Slab.{get}
-use Rattle.port.specs.declared.Holder.TheVariants as Holder
+use Rattle.port_base.specs.declared.Holder.TheVariants as Holder
 use Rattle.port.specs.Ports.{PortsView}
-use Rattle.port.specs.Records.{lost_list, doomed_list, noted_list}
+use Rattle.port_base.specs.Records.{lost_list, doomed_list, noted_list}
 use Rattle.port.proofs.Idle.{none_listed, none_waits, none_noted, none_of, no_length}
 use Rattle.port.proofs.Waiting.{lost_now, doomed_now, noted_now, held_told, waits_lost, waits_doomed}
 use Rattle.port.proofs.Ports.is_idle.Goals as goal

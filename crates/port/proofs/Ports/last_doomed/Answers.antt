@@ -1,8 +1,8 @@
 use Rattle.std.proofs.Common.{is_some, ap, refl}
 use Rattle.member_lists.specs.Lists.{list_of}
 use Rattle.slab.specs.Slab.{get}
-use Rattle.port.specs.declared.Holder.TheVariants as Holder
-use Rattle.port.specs.Records.{doomed_list, ids_at}
+use Rattle.port_base.specs.declared.Holder.TheVariants as Holder
+use Rattle.port_base.specs.Records.{doomed_list, ids_at}
 use Rattle.port.proofs.Waiting.{doomed_now, held_told, last_told, empty_told, holds_last, waits_doomed}
 use Rattle.port.proofs.Ports.last_doomed.Goals as goal
 

@@ -1,6 +1,6 @@
 use Rattle.std.proofs.Common.{List, ℕ, ap, ◌∙◌, refl, ◌∷◌, ◌++◌, []}
 use Rattle.member_lists.specs.Lists.{without}
-use Rattle.port.specs.declared.Holder.TheVariants as Holder
+use Rattle.port_base.specs.declared.Holder.TheVariants as Holder
 use Rattle.port.specs.Holding.{held}
 use Rattle.port.specs.Ports.{with_port}
 use Rattle.port.proofs.Sound.{relisted}

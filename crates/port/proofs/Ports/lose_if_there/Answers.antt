@@ -2,12 +2,12 @@ use Rattle.std.proofs.Common.{◌≡◌, ℕ, List, [], ◌∷◌, ◌++◌, Som
 use Rattle.std.specs.FinMap as map
 use Rattle.member_lists.specs.Lists.{without}
 use Rattle.slab.specs.Slab.{get}
-use Rattle.port.specs.declared.Holder.TheVariants as holder
-use Rattle.port.specs.declared.Record.{Record}
+use Rattle.port_base.specs.declared.Holder.TheVariants as holder
+use Rattle.port_base.specs.declared.Record.{Record}
 use Rattle.port.specs.Holding.{held}
 use Rattle.port.specs.Ports.{PortView, with_port}
-use Rattle.port.specs.Ready.{StandsIn, IsMoved, out_of, at_end}
-use Rattle.port.specs.Records.{lost_list, waiting_list}
+use Rattle.port_base.specs.Ready.{StandsIn, IsMoved, out_of, at_end}
+use Rattle.port_base.specs.Records.{lost_list, waiting_list}
 use Rattle.port.proofs.Held.{held_port, lost-apart, doomed-apart, kept-held, view-held}
 use Rattle.port.proofs.Keys.{some_or_none}
 use Rattle.port.proofs.Records.{port_of}

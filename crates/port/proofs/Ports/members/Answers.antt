@@ -1,7 +1,7 @@
 use Rattle.std.proofs.Common.{◌≡◌, is_some, ap, sym, subst, ◌∙◌, Contains}
 use Rattle.member_lists.specs.Lists.{list_of}
 use Rattle.slab.specs.Slab.{get}
-use Rattle.port.specs.Records.{ids_at}
+use Rattle.port_base.specs.Records.{ids_at}
 use Rattle.port.proofs.Readied.{if_ok, members_only, members_all}
 use Rattle.port.proofs.Ports.members.Goals as goal
 

@@ -1,14 +1,15 @@
 use Rattle.std.proofs.Common.{◌∙◌, ap, length, ℕ, [], List, Option, None, get_or}
 use Rattle.member_lists.specs.Lists.{ListsView, MarkedView, list_of}
 use Rattle.member_lists.proofs.Listed.{list_none}
-use Rattle.port.specs.declared.Record.{Record}
+use Rattle.port_base.specs.declared.Record.{Record}
 use Rattle.port.proofs.Readied.{listed-none}
 use Rattle.std.specs.FinMap as map
 use Rattle.std.specs.Ordering.{nat_cmp}
 use Rattle.slab.specs.Slab.{get}
 use Rattle.port.specs.Ports.{PortView, PortsView}
 use Rattle.number_map.specs.Maps.{MapView}
-use Rattle.port.specs.Records.{turns_at, ids_at, ids_in, lost_list, doomed_list, noted_list, ready_set, member_set, waiting_list, noting_list}
+use Rattle.port_base.specs.Records.{ids_at, lost_list, doomed_list, noted_list, ready_set, member_set, waiting_list, noting_list}
+use Rattle.port.specs.Records.{turns_at, ids_in}
 use Rattle.port.proofs.Turned.{turns-none}
 use Rattle.port.proofs.Grown.{sound-empty, ports-empty}
 use Rattle.port.proofs.Ports.new.Goals as goal

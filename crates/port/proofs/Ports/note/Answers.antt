@@ -1,10 +1,11 @@
 use Rattle.std.proofs.Common.{◌≡◌, true, Some, None, is_some, ap, sym, subst, ◌∙◌, refl, ◌∷◌, ◌++◌, [], length, Contains}
 use Rattle.std.specs.FinMap as map
 use Rattle.slab.specs.Slab.{Slab, get}
-use Rattle.port.specs.declared.Record.{Record}
+use Rattle.port_base.specs.declared.Record.{Record}
 use Rattle.port.specs.Ports.{PortsView}
-use Rattle.port.specs.Records.{ports_of, turns_at, id_in, ids_in, made_of, lost_list, doomed_list, noted_list, ready_set, member_set, waiting_list, noting_list, IsReadied, IsMembered, IsAwaited, IsNoted, IsSound}
-use Rattle.port.specs.Ready.{StandsIn}
+use Rattle.port_base.specs.Records.{id_in, lost_list, doomed_list, noted_list, ready_set, member_set, waiting_list, noting_list}
+use Rattle.port.specs.Records.{ports_of, turns_at, ids_in, made_of, IsReadied, IsMembered, IsAwaited, IsNoted, IsSound}
+use Rattle.port_base.specs.Ready.{StandsIn}
 use Rattle.port.proofs.Keys.{some_or_none}
 use Rattle.port.proofs.Readied.{listed-set, listed-stays}
 use Rattle.port.proofs.Records.{port_of}

@@ -4,13 +4,14 @@ use Rattle.std.specs.Ordering.{nat_cmp}
 use Rattle.number_map.specs.Maps.{MapView}
 use Rattle.slab.specs.Slab.{get}
 use Rattle.port.specs.Ports.{PortView, PortsView}
-use Rattle.port.specs.Records.{ports_of, turns_at, ids_in, made_of, lost_list, doomed_list, noted_list, ready_set, member_set, waiting_list, noting_list, IsReadied, IsKept}
+use Rattle.port_base.specs.Records.{lost_list, doomed_list, noted_list, ready_set, member_set, waiting_list, noting_list}
+use Rattle.port.specs.Records.{ports_of, turns_at, ids_in, made_of, IsReadied, IsKept}
 use Rattle.port.proofs.Records.{port_of}
 use Rattle.port.proofs.Sound.{record_at, live_port, gone_port, relisted}
 use Rattle.port.proofs.Waiting.{gone-same, went-same, waits_in_two, noted_in_two}
-use Rattle.port.specs.Ready.{StandsIn, out_of}
+use Rattle.port_base.specs.Ready.{StandsIn, out_of}
 use Rattle.member_lists.specs.Lists.{ListsView, without}
-use Rattle.port.proofs.Moved.{moved_none}
+use Rattle.port_base.proofs.Moved.{moved_none}
 use Rattle.port.proofs.Readied.{ready_none, listed-went}
 use Rattle.port.proofs.Turned.{turns-apart, apart-quiet}
 use Rattle.port.proofs.Grown.{sound-went, view-went, remove-absent}

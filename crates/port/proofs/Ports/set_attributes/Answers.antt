@@ -1,11 +1,12 @@
 use Rattle.std.proofs.Common.{◌≡◌, cond, arith, ℕ, Some, None, is_some, ap, sym, subst, ◌∙◌, refl, length}
 use Rattle.std.specs.FinMap as map
 use Rattle.slab.specs.Slab.{Slab, get, with_value}
-use Rattle.port.specs.declared.Record.{Record}
+use Rattle.port_base.specs.declared.Record.{Record}
 use Rattle.port.specs.Ports.{PortView, PortsView, turned}
-use Rattle.port.specs.Records.{ports_of, turns_at, made_of, ready_set, member_set, IsReadied, IsMembered, IsSound, ids_in, lost_list, doomed_list, noted_list, waiting_list, noting_list, IsAwaited, IsNoted, waits_in}
-use Rattle.port.specs.Ready.{StandsIn, IsMoved, out_of, at_end}
-use Rattle.port.specs.Turns.{same_set, ready_if}
+use Rattle.port_base.specs.Records.{ready_set, member_set, lost_list, doomed_list, noted_list, waiting_list, noting_list, waits_in}
+use Rattle.port.specs.Records.{ports_of, turns_at, made_of, IsReadied, IsMembered, IsSound, ids_in, IsAwaited, IsNoted}
+use Rattle.port_base.specs.Ready.{StandsIn, IsMoved, out_of, at_end}
+use Rattle.port_base.specs.Turns.{same_set, ready_if}
 use Rattle.port.proofs.Readied.{listed-set, listed-stays}
 use Rattle.port.proofs.Records.{port_of}
 use Rattle.port.proofs.Sound.{record_at, live_port, live_at, is_port, turns-set, sound-set, view-set}

@@ -2,11 +2,12 @@ use Rattle.std.proofs.Common.{◌≡◌, arith, ℕ, Some, is_some, ap, sym, sub
 use Rattle.std.specs.FinMap as map
 use Rattle.member_lists.specs.Lists.{without}
 use Rattle.slab.specs.Slab.{Slab, get, with_value}
-use Rattle.port.specs.declared.Record.{Record}
-use Rattle.port.specs.Holding.{held_by}
+use Rattle.port_base.specs.declared.Record.{Record}
+use Rattle.port_base.specs.Attributes.{held_by}
 use Rattle.port.specs.Ports.{PortView, PortsView, turned}
-use Rattle.port.specs.Records.{ports_of, turns_at, ids_in, made_of, lost_list, doomed_list, noted_list, lost_with, doomed_with, ready_set, member_set, waiting_list, noting_list, IsReadied, IsMembered, IsAwaited, IsNoted, IsSound}
-use Rattle.port.specs.Ready.{StandsIn, IsMoved, out_of, at_end}
+use Rattle.port_base.specs.Records.{lost_list, doomed_list, noted_list, ready_set, member_set, waiting_list, noting_list}
+use Rattle.port.specs.Records.{ports_of, turns_at, ids_in, made_of, lost_with, doomed_with, IsReadied, IsMembered, IsAwaited, IsNoted, IsSound}
+use Rattle.port_base.specs.Ready.{StandsIn, IsMoved, out_of, at_end}
 use Rattle.port.proofs.Keys.{same_some}
 use Rattle.port.proofs.Readied.{listed-set, listed-stays}
 use Rattle.port.proofs.Records.{port_of}

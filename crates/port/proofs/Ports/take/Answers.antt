@@ -3,11 +3,13 @@ use Rattle.std.proofs.lemmas.Bool.{eqb-true}
 use Rattle.std.specs.FinMap as map
 use Rattle.std.specs.Option.{option_and_then}
 use Rattle.slab.specs.Slab.{Slab, get, with_value}
-use Rattle.port.specs.declared.Attributes.{Attributes}
-use Rattle.port.specs.declared.Record.{Record}
-use Rattle.port.specs.Ports.{PortView, PortsView, turned, one_received}
-use Rattle.port.specs.Records.{ports_of, turns_at, made_of, ready_set, IsReadied, IsMembered, IsSound, ids_in, lost_list, doomed_list, noted_list, member_set, waiting_list, noting_list, IsAwaited, IsNoted}
-use Rattle.port.specs.Ready.{IsMoved}
+use Rattle.port_base.specs.declared.Attributes.{Attributes}
+use Rattle.port_base.specs.declared.Record.{Record}
+use Rattle.port_base.specs.Attributes.{one_received}
+use Rattle.port.specs.Ports.{PortView, PortsView, turned}
+use Rattle.port_base.specs.Records.{ready_set, lost_list, doomed_list, noted_list, member_set, waiting_list, noting_list}
+use Rattle.port.specs.Records.{ports_of, turns_at, made_of, IsReadied, IsMembered, IsSound, ids_in, IsAwaited, IsNoted}
+use Rattle.port_base.specs.Ready.{IsMoved}
 use Rattle.port.proofs.Readied.{listed-set, listed-stays}
 use Rattle.port.proofs.Records.{port_of}
 use Rattle.port.proofs.Sound.{record_at, live_port, gone_port, is_port, sound-set, view-set, no_front}

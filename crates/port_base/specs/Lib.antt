@@ -1,0 +1,5 @@
+pub mod Attributes
+pub mod Holders
+pub mod Turns
+pub mod Ready
+pub mod Records
