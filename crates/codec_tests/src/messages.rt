@@ -1,4 +1,7 @@
 //! Messages read, and made those that a receiver gets.
+ghost use Rattle.std.specs.Prelude.{◌≡◌, ◌<◌, ◌^◌, length};
+ghost use Rattle.message_codec.specs.Spans.{word_count};
+
 use mach_types::{MsgReturn, Name};
 use message_codec::{Header, Lone, Parsed, PortWord, Span, Spans, parse, parse_lone, put_received};
 use smallvec::SmallVec;
@@ -254,15 +257,28 @@ const RECEIVED: [u8; 64] = [
     0, 0x30, 0x12, 0, 0x20, 0, 1, 0, 0, 0, 2, 0, 0, 0,
 ];
 
+/// How many port words the items have.
+fn count_words(spans: &[Span]) -> u64
+    requires { length spans.now < 2 ^ 32 }
+    ensures { result ≡ word_count spans.now }
+{
+    let mut count = 0;
+    for span in spans {
+        count += u64::from(span.number);
+    }
+    count
+}
+
 /// Makes the message the one that a receiver gets, where it has as many port words as names.
 fn receive(alloc: Global, bytes: &mut [u8], header: &Header, names: &[Name]) -> bool {
     let Ok(parsed) = parse(alloc, bytes) else {
         return false;
     };
-    if parsed.spans.as_slice().len() > 100 || parsed.spans.word_count() != names.len() as u64 {
+    let spans = parsed.spans.as_slice();
+    if spans.len() > 100 || count_words(spans) != names.len() as u64 {
         return false;
     }
-    put_received(bytes, parsed.spans.as_slice(), header, names);
+    put_received(bytes, spans, header, names);
     true
 }
 

@@ -5,14 +5,26 @@ ghost use Rattle.rights.specs.Counts.{number_of};
 ghost use Rattle.rights.specs.Ledger.{counts_of};
 
 use mach_types::PortId;
-use rights::{Ledger, RightKind};
+use rights::{Counts, Ledger, RightKind};
+
+/// How many rights of this kind there are.
+fn count_of(counts: &Counts, kind: RightKind) -> u32
+    ensures { result ≡ number_of kind counts.now }
+{
+    match kind {
+        RightKind::Receive => counts.receive,
+        RightKind::Send => counts.send,
+        RightKind::SendOnce => counts.send_once,
+        RightKind::Destination => counts.destination,
+    }
+}
 
 fn has(ledger: &Ledger, port: PortId, kind: RightKind, number: u32) -> bool
     ensures entered { IsTrue result → map.contains_key ledger.now.counts port ≡ true }
     ensures there { IsTrue result → number ≤ number_of kind (counts_of ledger.now port) }
 {
     match ledger.counts(port) {
-        Some(counts) => counts.number_of(kind) >= number,
+        Some(counts) => count_of(&counts, kind) >= number,
         None => false,
     }
 }

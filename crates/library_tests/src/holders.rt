@@ -66,9 +66,10 @@ fn send(ports: &mut Ports<Empty>, port: u64, queue: u64) -> bool {
 }
 
 /// Dooms the port that was lost first, and answers its number.
+#[tactic(auto, using(std::proofs::lemmas::Option::slice_get_within))]
 fn doom_first(ports: &mut Ports<Empty>) -> Option<u64> {
     let port = ports.first_lost()?;
-    ports.doom(port);
+    ports.doom_first();
     Some(port.number())
 }
 

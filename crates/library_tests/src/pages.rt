@@ -11,9 +11,15 @@ fn put_first(pages: &mut Pages<u32>, value: u32) -> Option<u32> {
     Some(number)
 }
 
-// Puts a value under a number, where its page is made.
+// Puts a value under a number that has none. Its page is made first.
 fn put(pages: &mut Pages<u32>, number: u32, value: u32) -> bool {
-    if number == 0 || number > 65535 || !pages.has_page(number) || pages.get(number).is_some() {
+    if number == 0 || number > 65535 {
+        return false;
+    }
+    let Ok(()) = pages.make_page(number) else {
+        return false;
+    };
+    if pages.get(number).is_some() {
         return false;
     }
     pages.insert(number, value);
@@ -36,11 +42,11 @@ fn first_is_removed(pages: &mut Pages<u32>) -> bool {
         && pages.get(2) == Some(20)
 }
 
-/// Whether a value is put under a far number once its page is made.
+/// Whether a value is put under a far number, and only once.
 fn far_is_put(pages: &mut Pages<u32>) -> bool {
-    !put(pages, 40_000, 7)
-        && pages.make_page(40_000).is_ok()
-        && put(pages, 40_000, 7)
+    put(pages, 40_000, 7)
+        && !put(pages, 40_000, 8)
+        && pages.get(40_000) == Some(7)
         && pages.next_used(3) == Some(40_000)
         && pages.next_used(40_001).is_none()
 }

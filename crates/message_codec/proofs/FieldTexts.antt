@@ -45,14 +45,6 @@ with_text-next at s t bytes room =
     let end : at + length s + length t ≡ at + length (s ++ t) = omega (arith, length-append s t) in
     rw (kept, after) (ap (λ (n : ℕ). (front ++ t) ++ drop n bytes) end ∙ ap (λ (r : List ℕ). r ++ drop (at + length (s ++ t)) bytes) (append_assoc (take at bytes) s t))
 
--- nothing more is to be written
-pub with_text-none : (at : ℕ) (bytes : List ℕ) → with_text at [] bytes ≡ bytes
-with_text-none at bytes = rw (append-nil (take at bytes)) (let e : at + 0 ≡ at = omega arith in rw e (take-append-drop at bytes))
-
--- what is written up to the end
-pub with_text-end : (at : ℕ) (t bytes : List ℕ) → at + length t ≡ length bytes → with_text at t bytes ≡ take at bytes ++ t
-with_text-end at t bytes end = ap (λ (r : List ℕ). (take at bytes ++ t) ++ r) (drop_all (at + length t) bytes (omega arith)) ∙ append-nil (take at bytes ++ t)
-
 -- ---- items
 
 pub items_text-drop : (xs : List SendItem) (i : ℕ) (x : SendItem) → i < length xs → x ≡ get_or xs i x
@@ -63,16 +55,6 @@ pub length-items_text-drop : (xs : List SendItem) (i : ℕ) (x : SendItem) → i
     → length (items_text (drop i xs)) ≡ length (wire_text (item_wire x)) + length (items_text (drop (i + 1) xs))
 length-items_text-drop xs i x within value =
     ap length (items_text-drop xs i x within value) ∙ length-append (wire_text (item_wire x)) (items_text (drop (i + 1) xs))
-
--- an item written where the last one ended
-pub items-step : (xs : List SendItem) (i at next : ℕ) (x : SendItem) (old new : List ℕ) → i < length xs → x ≡ get_or xs i x
-    → next ≡ at + length (wire_text (item_wire x)) → new ≡ with_text at (wire_text (item_wire x)) old → at + length (items_text (drop i xs)) ≡ length old
-    → with_text next (items_text (drop (i + 1) xs)) new ≡ with_text at (items_text (drop i xs)) old
-items-step xs i at next x old new within value next_is new_is room = grind (arith, with_text-next, length-items_text-drop, items_text-drop)
-
-pub items-fit : (xs : List SendItem) (i : ℕ) (x : SendItem) → i < length xs → x ≡ get_or xs i x → IsWire (item_wire x)
-    → (All IsWire (map item_wire (drop i xs)) → All IsWire (map item_wire xs)) → All IsWire (map item_wire (drop (i + 1) xs)) → All IsWire (map item_wire xs)
-items-fit xs i x within value fits before rest = grind (arith, drop_more, map)
 
 -- ---- lengths
 
@@ -89,11 +71,6 @@ items-whole (x ∷ xs) = omega (arith, length-append (wire_text (item_wire x)) (
 
 some_order : (a b : ℕ) → (a ≤ b) ⊎ (b < a)
 some_order a b = elim (cases_eq (a - b) 0) [ inl h ↦ inl (omega arith) | inr h ↦ inr (omega arith) ]
-
-pub length-step : (total len more this left rest : ℕ) → left ≡ this + rest → IsLength more this
-    → (total ≤ most_bytes → len + left ≡ total) × (most_bytes < total → most_bytes < len + left)
-    → (total ≤ most_bytes → len + more + rest ≡ total) × (most_bytes < total → most_bytes < len + more + rest)
-length-step total len more this left rest split told before = grind (arith, some_order)
 
 -- a length that is told, and that a message may have, is meant
 pub short_length : (told meant : ℕ) → IsLength told meant → told ≤ most_bytes → meant ≤ most_bytes

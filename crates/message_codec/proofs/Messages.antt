@@ -52,9 +52,6 @@ long_enough bytes none = let h : length bytes < 24 → ⊥ = λ few. none.0 (inl
 pub in_words : (bytes : List ℕ) → NoneHolds (header_guards bytes) → length bytes % 4 ≡ 0
 in_words bytes none = elim (cases_eq (length bytes % 4) 0) [ inl h ↦ h | inr h ↦ absurd (none.0 (inr h)) ]
 
-pub short_enough : (bytes : List ℕ) → NoneHolds (header_guards bytes) → length bytes ≤ 65536
-short_enough bytes none = let h : 65536 < length bytes → ⊥ = none.1.0 in omega arith
-
 pub header-spells : (bytes : List ℕ) (written : WireBody) → AreBytes bytes → 24 ≤ length bytes → word_at bytes 0 / 2 ^ 16 % 2 ^ 15 ≡ 0
     → drop 24 bytes ≡ body_text written → IsWireBody written → complex_bit written ≡ word_at bytes 0 / 2 ^ 31 * 2 ^ 31
     → Spells bytes (header_at bytes) written
@@ -127,11 +124,6 @@ items-crowded bytes are none complex many = record {
   message = items-message bytes many.xs are none complex many.text many.fits;
   many = many.many;
 }
-
--- what the flag says
-pub flag-is_items : (b : Bool) (bytes : List ℕ) (spans : List Span) (r : ReadsBody bytes spans) → IsTrue b ↔ is_bit (word_at bytes 0) 31 → b ≡ is_items r.written
-flag-is_items true bytes spans r both = sym (r.if_complex (both.0 refl))
-flag-is_items false bytes spans r both = sym (r.if_plain (λ h. absurd (let e : false ≡ true = both.1 h in cc)))
 
 -- ---- what the walk over the items answers
 

@@ -97,11 +97,6 @@ pub record IsRead (bytes : List ℕ) (spans rest : List Span) (words : List Port
 pub read-none : (bytes : List ℕ) (spans : List Span) → SpansFit (length bytes) spans → IsRead bytes spans spans []
 read-none bytes spans fit = record { fit = fit; whole = λ ws say. (ws, say, refl) }
 
-pub read-more : (bytes : List ℕ) (spans rest : List Span) (s : Span) (words more : List PortWord) → IsRead bytes spans (s ∷ rest) words
-    → ((names : List ℕ) → StandsAt bytes (words_place s) names → length names ≡ s.number → more ≡ words ++ named s.disposition names)
-    → IsRead bytes spans rest more
-read-more bytes spans rest s words more is reads = grind (arith, append_assoc)
-
 pub read-all : (bytes : List ℕ) (spans : List Span) (words : List PortWord) (written : WireBody) → IsRead bytes spans [] words → IsLaidOut bytes spans written
     → words ≡ body_words written
 read-all bytes spans words written is laid =

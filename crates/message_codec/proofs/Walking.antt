@@ -39,10 +39,6 @@ pub record IsWalk (bytes : List ℕ) (at : ℕ) (spans : List Span) (capacity : 
   pub many : lacks ≡ true → 8 < length (spans_at 24 xs)
   pub room : 8 ≤ capacity
 
-pub walk-start : (bytes : List ℕ) (spans : List Span) (capacity : ℕ) → 24 ≤ length bytes → length bytes % 4 ≡ 0 → spans ≡ [] → capacity ≡ 8
-    → IsWalk bytes 24 spans capacity false
-walk-start bytes spans capacity room whole none inline = grind arith
-
 -- one item more
 pub record IsGrown (bytes : List ℕ) (at end : ℕ) (span : Option Span) (xs : List Wire) : Type 0 where
   pub all : List Wire
@@ -126,10 +122,6 @@ walk-lacks bytes at end span spans new capacity more lacks w item full some grow
       room = omega (arith, w.room);
     }
 
--- each item takes some bytes
-pub item-longer : (bytes : List ℕ) (at end : ℕ) (span : Option Span) → ReadsItem bytes at span end → at < end
-item-longer bytes at end span item = grind (arith, shape_of, length-wire_text, form_length-ge)
-
 -- ---- the end of the walk
 
 all_read : (bytes : List ℕ) (at : ℕ) (spans : List Span) (capacity : ℕ) (lacks : Bool) → (w : IsWalk bytes at spans capacity lacks) → length bytes ≤ at
@@ -153,11 +145,6 @@ walk-many bytes at spans capacity lacks w done some = record {
   fits = w.fits;
   many = w.many some;
 }
-
--- an item that is refused, after these
-pub walk-refused : (bytes : List ℕ) (at : ℕ) (spans : List Span) (capacity : ℕ) (lacks : Bool) (code : ℕ) → IsWalk bytes at spans capacity lacks → at < length bytes
-    → ItemRefuses (drop at bytes) code → ItemsRefuse (drop 24 bytes) code
-walk-refused bytes at spans capacity lacks code w more refused = grind (arith, length-drop)
 
 -- ---- what a test of a result tells
 

@@ -68,8 +68,7 @@ impl Model for Spans {
 }
 
 impl Spans {
-    ghost use Rattle.std.specs.Prelude.{◌≡◌, ◌<◌, ◌^◌, length};
-    ghost use Rattle.message_codec.specs.Spans.{word_count};
+    ghost use Rattle.std.specs.Prelude.{◌≡◌};
 
     /// These spans. Takes no memory.
     pub fn from_small_vec(spans: SmallVec<Span, 8>) -> Spans
@@ -83,17 +82,5 @@ impl Spans {
         ensures { result.now ≡ self.now }
     {
         self.spans.as_slice()
-    }
-
-    /// How many port words the message has. There are fewer than 2^32 spans in a message.
-    pub fn word_count(&self) -> u64
-        requires { length self.now < 2 ^ 32 }
-        ensures { result ≡ word_count self.now }
-    {
-        let mut count = 0;
-        for span in self.spans.as_slice() {
-            count += u64::from(span.number);
-        }
-        count
     }
 }

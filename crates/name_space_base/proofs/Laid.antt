@@ -64,10 +64,6 @@ module _ {T : Type 0} where
     | inr h ↦ chosen-above (is_made ps) (length ps) p h ∙ sym (le-ltb 0 (length (page_at ps p)) (let e : length (page_at ps p) ≡ 0 = ap length (page_at-past ps p h) in omega arith))
   ]
 
-  -- the same pages
-  pub look-same : (ps qs : Sheets T) → ((p : ℕ) → page_at qs p ≡ page_at ps p) → (n : ℕ) → look qs n ≡ look ps n
-  look-same ps qs same n = ap (λ (l : List (Option T)). get_or l (n % 256) None) (same (n / 256))
-
   pub values-same : (ps qs : Sheets T) → ((n : ℕ) → look qs n ≡ look ps n) → values_of qs ≡ values_of ps
   values-same ps qs same = same_gets _ _ (λ n. get-values qs n ∙ same n ∙ sym (get-values ps n))
 

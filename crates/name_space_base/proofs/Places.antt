@@ -70,9 +70,6 @@ module _ {T : Type 0} where
   all-used_after (None ∷ l) (suc i) e f h k = all-used l i (omega arith) (omega arith)
   all-used_after (Some x ∷ l) i e f h k = cc
 
-  pub used-le_after : (l : List (Option T)) → get_or l 0 None ≡ None → used_in l + 1 ≤ length l + 1
-  used-le_after l e = let h = used-le l in omega arith
-
   pub used-lt : (l : List (Option T)) → get_or l 0 None ≡ None → 0 < length l → used_in l + 1 ≤ length l
   used-lt [] e h = absurd (omega arith)
   used-lt (None ∷ l) e h = let k = used-le l in omega arith

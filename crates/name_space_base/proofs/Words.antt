@@ -51,22 +51,6 @@ has_changed words n word b long small changed i small_i =
       | inr d ↦ rw (ne_eqb i n (λ q. d (ap (λ x. x / 64) q)), get_or-set_other words (n / 64) (i / 64) word 0 d) refl
     ]
 
--- a number by its word and its place there
-pub has_at : (words : List ℕ) (index place : ℕ) → place < 64 → has words (64 * index + place) ≡ (bit_at (get_or words index 0) place == 1)
-has_at words index place h =
-    let d : (64 * index + place) / 64 ≡ index = omega arith in
-    let m : (64 * index + place) % 64 ≡ place = omega arith in
-    rw (d, m) refl
-
--- a number of the word after the ones before
-pub in_word : (i index : ℕ) → 64 * index ≤ i → i < 64 * (index + 1) → i ≡ 64 * index + i % 64
-in_word i index h k = omega arith
-
-pub has_in_word : (words : List ℕ) (i index b : ℕ) → 64 * index ≤ i → i < 64 * (index + 1) → bit_at (get_or words index 0) (i % 64) ≡ b → has words i ≡ (b == 1)
-has_in_word words i index b h k e =
-    let d : i / 64 ≡ index = omega arith in
-    rw (d, e) refl
-
 -- the least bit from one on, by a mask
 pub record IsNextBit (word start place : ℕ) : Type 0 where
   pub from : start ≤ place

@@ -204,19 +204,6 @@ impl<T: Copy> Pages<T> {
         Ok(())
     }
 
-    /// Whether the page of the number is made, so that [`Pages::insert`] takes no memory. The page of
-    /// a used number is. Constant time.
-    pub fn has_page(&self, number: u32) -> bool
-        ensures value { IsTrue result ↔ HasPage self.now number }
-        ensures used { (n : ℕ) → map.contains_key self.now.values n ≡ true → HasPage self.now n }
-    {
-        let page = number as usize / PAGE;
-        if page >= self.pages.len() {
-            return false;
-        }
-        self.pages[page].is_made()
-    }
-
     /// Makes the page of a number, at most 65,535, where it isn't made. Constant time, but for the
     /// pages before it that were never named.
     ///

@@ -34,10 +34,6 @@ module _ {M : Type 0} where
   ready_none [] set e = refl
   ready_none (m ∷ ms) set e = absurd (omega arith)
 
-  pub ready_some : (ms : List M) (set : Option ℕ) → 0 < length ms → ready_if ms set ≡ set
-  ready_some [] set h = absurd (omega arith)
-  ready_some (m ∷ ms) set h = refl
-
   ready_is : (ms : List M) (set : Option ℕ) (s : ℕ) → ready_if ms set ≡ Some s → (set ≡ Some s) × (0 < length ms)
   ready_is [] set s e = absurd (no_some s e)
   ready_is (m ∷ ms) set s e = (e, omega arith)

@@ -32,8 +32,9 @@ impl<M: Message> Ports<M> {
         true
     }
 
-    /// Dooms the port that was lost first, as [`Ports::doom`] does. Answers whether it has messages.
-    /// Takes no memory. Constant time.
+    /// Dooms the port that was lost first: nobody can hold its receive right again, and it is to be
+    /// removed, as the last of those that are doomed. Until then it stays in its set, and keeps its
+    /// messages. Answers whether it has any. Takes no memory. Constant time.
     #[inline(always)]
     pub fn doom_first(&mut self) -> bool
         requires { 0 < length self.old.lost }

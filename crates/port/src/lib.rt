@@ -284,19 +284,17 @@ impl<M: Message> Ports<M> {
     }
 
     // Says who holds a port's receive right now; the port leaves the lost and the doomed ones, and
-    // is the last of those where it belongs now. Answers whether it has messages.
+    // is the last of those where it belongs now.
     #[inline(always)]
-    fn set_holder(&mut self, port: PortId, holder: Holder) -> bool
+    fn set_holder(&mut self, port: PortId, holder: Holder)
         requires { IsLive self.old port }
         ensures held { (p : PortView M) → map.get self.old.ports port ≡ Some p → self.new ≡ with_holder self.old port p holder }
         ensures lost { (p : PortView M) → map.get self.old.ports port ≡ Some p → p.attributes.holder ≢ Holder.Nobody → without port self.old.lost ≡ self.old.lost }
         ensures doomed { (p : PortView M) → map.get self.old.ports port ≡ Some p → p.attributes.holder ≢ Holder.Doomed → without port self.old.doomed ≡ self.old.doomed }
-        ensures queued { (p : PortView M) → map.get self.old.ports port ≡ Some p → (IsTrue result ↔ (0 < length p.queue)) }
     {
         let key = key_of(&self.by_id, port).unwrap();
         let (was, now) = hold_at(&mut self.records, key, holder);
         rejoin_two(&mut self.waiting, key, was, now);
-        !self.records[key].queue.is_empty()
     }
 
     /// Says that a port's receive right was lost: nobody holds it, and the port is to be judged, as
@@ -333,18 +331,6 @@ impl<M: Message> Ports<M> {
     {
         let key = self.waiting.first(LOST)?;
         Some(self.records[key].id)
-    }
-
-    /// Dooms a port that was lost: nobody can hold its receive right again, and it is to be removed,
-    /// as the last of those that are doomed. Until then it stays in its set, and keeps its messages.
-    /// Answers whether it has any. Takes no memory. Constant time.
-    pub fn doom(&mut self, port: PortId) -> bool
-        requires { IsHeldBy self.old port Holder.Nobody }
-        ensures doomed { (p : PortView M) → map.get self.old.ports port ≡ Some p →
-            self.new ≡ record (with_port self.old port (held p Holder.Doomed)) { lost = without port self.old.lost; doomed = self.old.doomed ++ port ∷ [] } }
-        ensures queued { (p : PortView M) → map.get self.old.ports port ≡ Some p → (IsTrue result ↔ (0 < length p.queue)) }
-    {
-        self.set_holder(port, Holder::Doomed)
     }
 
     /// The port that was doomed first of those that weren't removed. Constant time.

@@ -158,9 +158,6 @@ module _ (entries : MapView Entry) (lists : ListsView) (keys free : List ℕ) (c
       | inr new ↦ (let c = so.counted in let a = new.0 in let b = new.1 in omega arith)
     ]
 
-    pub item-in_lists : item < lists.items
-    item-in_lists = let b = taken.below in let f = fresh_fits in let l = so.in_lists in omega arith
-
     pub item-in_keys : item < length keys
     item-in_keys = let b = taken.below in let f = fresh_fits in let l = so.in_keys in omega arith
 

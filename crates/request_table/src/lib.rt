@@ -194,22 +194,6 @@ impl Requests {
         self.by_name.insert(key, Entry { request, item });
     }
 
-    /// Another port is told, by the request on a task's name; where there is none, nothing changes.
-    /// Its place among those of its port stays. Constant time.
-    pub fn set_notify(&mut self, task: TaskId, name: Name, notify: PortId)
-        ensures there { (r : AnyRequest) → map.get self.old.requests (name_key task name) ≡ Some r → self.new ≡ record self.old { requests = map.insert self.old.requests (name_key task name) (record r { notify = notify }) } }
-        ensures absent { map.get self.old.requests (name_key task name) ≡ None → self.new ≡ self.old }
-    {
-        let key = key_of(task, name);
-        if let Some(entry) = self.by_name.get(key) {
-            let request = Request {
-                notify,
-                ..entry.request
-            };
-            self.by_name.set(key, Entry { request, ..entry });
-        }
-    }
-
     /// Takes the request on a task's name out, if there is one, and answers it; its place is room for
     /// another. `None` leaves all as it was. Constant time.
     pub fn remove(&mut self, task: TaskId, name: Name) -> Option<Request>

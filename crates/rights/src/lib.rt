@@ -60,18 +60,6 @@ impl Counts {
         }
     }
 
-    /// How many of this kind.
-    pub fn number_of(&self, kind: RightKind) -> u32
-        ensures { result ≡ number_of kind self.now }
-    {
-        match kind {
-            RightKind::Receive => self.receive,
-            RightKind::Send => self.send,
-            RightKind::SendOnce => self.send_once,
-            RightKind::Destination => self.destination,
-        }
-    }
-
     fn add(&mut self, kind: RightKind, number: u32)
         requires { all_of self.old + number < 2 ^ 32 }
         ensures value { self.new ≡ with_more kind number self.old }

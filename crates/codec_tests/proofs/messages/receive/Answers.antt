@@ -9,5 +9,5 @@ use Rattle.codec_tests.proofs.messages.receive.Goals as goal
 pub put_received-requires-clause-laid_out : goal.put_received-requires-clause-laid_out
 put_received-requires-clause-laid_out c =
     let p : Parses c.args.bytes.now c.in-Ok.parsed = c.in-Ok.ensures.ok in
-    subst (λ (spans : List Span). (written : WireBody) × IsLaidOut c.args.bytes.now spans written) (sym c.as_slice-2.ensures)
+    subst (λ (spans : List Span). (written : WireBody) × IsLaidOut c.args.bytes.now spans written) (sym c.as_slice-spans.ensures)
     (p.written, laid_out-parsed c.args.bytes.now c.in-Ok.parsed p)

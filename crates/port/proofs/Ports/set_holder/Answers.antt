@@ -8,12 +8,11 @@ use Rattle.port.specs.Ports.{PortView, PortsView, turned}
 use Rattle.port_base.specs.Records.{lost_list, doomed_list, noted_list, ready_set, member_set, waiting_list, noting_list}
 use Rattle.port.specs.Records.{ports_of, turns_at, ids_in, made_of, lost_with, doomed_with, IsReadied, IsMembered, IsAwaited, IsNoted, IsSound}
 use Rattle.port_base.specs.Ready.{StandsIn, IsMoved, out_of, at_end}
-use Rattle.port.proofs.Keys.{same_some}
 use Rattle.port.proofs.Readied.{listed-set, listed-stays}
 use Rattle.port.proofs.Records.{port_of}
 use Rattle.port.proofs.Sound.{record_at, live_at, is_port, sound-set, view-set, turns-set}
 use Rattle.port.proofs.Turned.{turned-same}
-use Rattle.port.proofs.Waiting.{held-same, ids-apart, lost_now, doomed_now, waits_lost, waits_doomed, waits_in_two, some_queued}
+use Rattle.port.proofs.Waiting.{held-same, ids-apart, lost_now, doomed_now, waits_lost, waits_doomed, waits_in_two}
 use Rattle.port.proofs.Ports.set_holder.Goals as goal
 
 pub unwrap-key-requires : goal.unwrap-key-requires
@@ -101,23 +100,3 @@ returns-clause-doomed g c p h not =
     ∙ ids-apart (get c.self.inside.records) waiting_list c.self.inside.waiting c.self.invariant.awaited c.self.inside.by_id.map (made_of c.self.inside.next) c.self.invariant.sound.indexed c.args.port c.unwrap-key.result r found there.1 doomed_list
     (λ e. not (ap (λ (q : PortView g.row.M.Denot). q.attributes.holder) is ∙ waits_doomed r.kept.attributes.holder e))
     ∙ doomed_now c.self.inside.records c.self.inside.by_id.map c.self.inside.next c.self.inside.spare c.self.inside.destroyed c.self.inside.slots c.self.invariant.sound c.self.inside.waiting c.self.inside.noted c.args.self.now c.self.view_is
-
-pub index-requires : goal.index-requires
-index-requires g c =
-    let found : map.get c.self.inside.by_id.map c.args.port ≡ Some c.unwrap-key.result = sym (sym c.unwrap-key.ensures ∙ c.key_of.ensures) in
-    let there = record_at c.self.inside.records c.self.inside.by_id.map c.self.inside.next c.self.inside.spare c.self.inside.destroyed c.self.inside.slots c.self.invariant.sound c.args.self.now c.self.view_is c.args.port c.unwrap-key.result found in
-    let r : Record g.row.M.Denot = there.0 in
-    let a : Record g.row.M.Denot = record { id = r.id; queue = r.queue; kept = record { attributes = held_by r.kept.attributes c.args.holder; is_noted = r.kept.is_noted } } in
-    let now : get c.hold_at-was.new.records c.unwrap-key.result ≡ Some a = ap (λ (t : Slab (Record g.row.M.Denot)). get t c.unwrap-key.result) (c.hold_at-was.ensures.after r there.1) ∙ (turns-set c.self.inside.records c.unwrap-key.result r a there.1).changed in
-    ap is_some now
-
-pub returns-clause-queued : goal.returns-clause-queued
-returns-clause-queued g c p h =
-    let found : map.get c.self.inside.by_id.map c.args.port ≡ Some c.unwrap-key.result = sym (sym c.unwrap-key.ensures ∙ c.key_of.ensures) in
-    let there = record_at c.self.inside.records c.self.inside.by_id.map c.self.inside.next c.self.inside.spare c.self.inside.destroyed c.self.inside.slots c.self.invariant.sound c.args.self.now c.self.view_is c.args.port c.unwrap-key.result found in
-    let r : Record g.row.M.Denot = there.0 in
-    let a : Record g.row.M.Denot = record { id = r.id; queue = r.queue; kept = record { attributes = held_by r.kept.attributes c.args.holder; is_noted = r.kept.is_noted } } in
-    let now : get c.hold_at-was.new.records c.unwrap-key.result ≡ Some a = ap (λ (t : Slab (Record g.row.M.Denot)). get t c.unwrap-key.result) (c.hold_at-was.ensures.after r there.1) ∙ (turns-set c.self.inside.records c.unwrap-key.result r a there.1).changed in
-    let is : p ≡ port_of r = is_port c.self.inside.records c.self.inside.by_id.map c.self.inside.next c.self.inside.spare c.self.inside.spare c.self.inside.destroyed c.self.inside.slots c.self.invariant.sound c.args.self.now c.self.view_is c.args.port c.unwrap-key.result r r found there.1 refl refl p h in
-    let same : c.index.result.now ≡ a = same_some c.index.result.now a (sym c.index.ensures ∙ now) in
-    some_queued c.index.result.now.queue p.queue (ap (λ (b : Record g.row.M.Denot). b.queue) same ∙ sym (ap (λ (q : PortView g.row.M.Denot). q.queue) is)) c.is_empty.result c.is_empty.ensures
