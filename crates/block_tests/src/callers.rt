@@ -93,7 +93,7 @@ fn finds_none<R: Wait>(rt: &R, shared: &Shared, pass: &mut Pass, event: Event) -
     matches!(reply, Reply::Empty(_))
 }
 
-/// Whether the count that the watch reads never goes down.
+/// Returns whether the count that the watch reads never goes down.
 fn rises(shared: &Shared, mut watch: Watch) -> bool
     requires { watch.table ≡ shared.now.table }
 {
@@ -198,7 +198,7 @@ fn four<R: Wait>(rt: &R, alloc: Global, shared: &Shared, work: Work) -> Result<C
     })
 }
 
-/// Whether the caller's entries are the types that it asked for, each once and in their order.
+/// Returns whether the caller's entries are the types that it asked for, each once and in their order.
 fn asked_in_order(entries: &[Entry], caller: u64) -> bool {
     let mut next: u32 = 0;
     for entry in entries {
@@ -215,7 +215,7 @@ fn asked_in_order(entries: &[Entry], caller: u64) -> bool {
     next == CALLS
 }
 
-/// Whether the caller's entries are a receive and two later tries, none of which found a message.
+/// Returns whether the caller's entries are a receive and two later tries, none of which found a message.
 fn tried_in_order(entries: &[Entry], caller: u64) -> bool {
     let mut place: u32 = 0;
     for entry in entries {

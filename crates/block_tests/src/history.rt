@@ -38,7 +38,7 @@ fn reads_back(rt: HostRuntime) -> Result<(), Fail> {
     Ok(())
 }
 
-/// Whether the entry at this place is the caller's.
+/// Returns whether the entry at this place is the caller's.
 fn is_by(entries: &[Entry], place: usize, caller: u64) -> bool {
     match entries.get(place) {
         Some(entry) => entry.caller == caller,

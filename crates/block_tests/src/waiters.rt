@@ -31,7 +31,7 @@ impl<'a> Gate for Meets<'a> {
     fn stepped(&mut self, _changed: bool) {}
 }
 
-/// Whether another thread sets the flag while this one looks.
+/// Returns whether another thread sets the flag while this one looks.
 fn sees(flag: &AtomicBool) -> bool {
     for _ in 0..LOOKS {
         if flag.load(Ordering::SeqCst) {
@@ -73,7 +73,7 @@ fn waiter<'a, R: Wait>(
     Ok(Block { pass, calls, gate })
 }
 
-/// Whether these are the answers to one call, to which no message came.
+/// Returns whether these are the answers to one call, to which no message came.
 fn none_came(answers: &[Answer]) -> bool {
     let outcome = Outcome {
         code: 0x1000_4003,

@@ -37,14 +37,14 @@ fn is_any_queued<M: Message>(ports: &Ports<M>, carried: &[PortId]) -> bool
     false
 }
 
-/// Whether a message to `destination` that carries the receive rights of the ports `carried` would
-/// close a loop (IPC Interface, `mach_msg`; the rule is this project's own): whether the way from the
-/// destination to the port in whose queue its receive right lies, and so on, comes to one of them. The
-/// destination is on that way itself.
+/// Returns whether a message to `destination` that carries the receive rights of the ports `carried` would
+/// close a loop (IPC Interface, `mach_msg`; the rule is this project's own). Follow the way from the
+/// destination to the port in whose queue its receive right is, and so on. The message closes a loop where
+/// this way comes to a port of `carried`. The destination itself is on the way.
 ///
-/// Takes no memory. The way is followed for no more steps than there are ports, also where it runs in
-/// a circle. Linear in the way and in the ports carried; in their product only where the receive right
-/// of one of these lies in a queue, and not with a task.
+/// Takes no memory. The way is followed for no more steps than there are ports, even where it runs in a
+/// circle. Linear in the way and in the ports carried. It takes their product only where the receive right of
+/// one of these is in a queue, and not with a task.
 pub fn closes_loop<M: Message>(ports: &Ports<M>, destination: PortId, carried: &[PortId]) -> bool
     ensures { IsTrue result ↔ LeadsToAny ports.now destination carried.now }
 {

@@ -46,7 +46,7 @@ fn judged_items(alloc: Global, body: &[u8]) -> Result<(), MsgReturn> {
     }
 }
 
-/// Whether a message says what the smallest one says, with these dispositions and local name.
+/// Returns whether a message says what the smallest one says, with these dispositions and local name.
 fn is_header(parsed: &Parsed, kinds: (u8, u8), local: u32) -> bool {
     parsed.remote_kind == kinds.0
         && parsed.local_kind == kinds.1

@@ -47,7 +47,7 @@ fn is_copied<T: Clone + PartialEq + Drop>(value: &T) -> bool {
     }
 }
 
-/// Whether the line is the text of what it reads as, and that is equal to its copy.
+/// Returns whether the line is the text of what it reads as, and that is equal to its copy.
 fn reads_back(alloc: Global, line: &str) -> bool {
     match read_call(alloc, line.as_bytes()) {
         Ok(call) => is_copied(&call) && is_written(alloc, &call, line),
@@ -172,7 +172,7 @@ fn is_reply_written(alloc: Global, reply: &Reply, text: &str) -> bool {
     write_reply(reply, &mut page).is_ok() && page.as_slice() == text.as_bytes()
 }
 
-/// Whether the reply is equal to its copy, and written as this text, which reads as the reply.
+/// Returns whether the reply is equal to its copy, and written as this text, which reads as the reply.
 fn is_told(alloc: Global, reply: Reply, text: &str) -> bool {
     is_copied(&reply) && is_reply_written(alloc, &reply, text) && is_read(alloc, &reply, text)
 }

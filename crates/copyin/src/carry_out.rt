@@ -121,13 +121,13 @@ fn count_copied(world: &mut World, carried: Carried)
     count_right(&mut world.ledger, carried.given, carried.mark);
 }
 
-/// The right under the name goes by its disposition: what is left stays under the name, the port
-/// changes as the disposition says, and a right that is made is counted. Where nothing is left the name
-/// goes, and the request on it ends: its right is kept until the step's end pays with it. A send right
-/// that moves is counted as before, and a receive right has the holder that it had.
+/// Sends the right under the name by its disposition. What is left stays under the name, the port changes as
+/// the disposition says, and a right that is made is counted. Where nothing is left the name is removed, and
+/// the request on it ends; its right is kept until the step's end pays with it. A send right that moves is
+/// counted as before, and a receive right has the holder that it had.
 ///
-/// Takes no memory. Constant time, and logarithmic for a name above 65,535. A right that is made
-/// from one that stays looks up no name.
+/// Takes no memory. Constant time, and logarithmic for a name above 65,535. A right that is made from one
+/// that stays looks up no name.
 #[inline(always)]
 pub fn copy_name(world: &mut World, task: TaskId, name: Name, carried: Carried)
     requires { CanCopy world.old task name carried }
@@ -231,9 +231,9 @@ fn hold_rights(world: &mut World, queue: PortId, rights: &[Carried])
     }
 }
 
-/// Sends a message by its plan: its rights go from the sender, and it joins the end of its port's
-/// queue, in a spare slot; the queue holds the receive rights that it carries. Takes no memory. Constant
-/// time for each right, and logarithmic for a name above 65,535.
+/// Sends a message by its plan. Its rights leave the sender, and it joins the end of its port's queue, in a
+/// spare slot. The queue holds the receive rights that it carries. Takes no memory. Constant time for each
+/// right, and logarithmic for a name above 65,535.
 #[inline(always)]
 pub fn commit(world: &mut World, plan: Plan)
     requires planned { (task : ℕ) × (parsed : AnyParsed) × (written : WireBody) × (bytes : List ℕ) × IsPlan world.old task parsed written bytes plan }

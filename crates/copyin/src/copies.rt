@@ -101,9 +101,8 @@ fn make(entry: &Entry) -> Option<Copied>
     }
 }
 
-/// The right that goes by the disposition from what stands under a name, and what it leaves there
-/// (IPC Interface, `mach_msg_type_name_t`); `None` where the disposition can't be met. Takes no
-/// memory; constant time.
+/// The right that goes by the disposition from what is under a name, and what it leaves there (IPC Interface,
+/// `mach_msg_type_name_t`); `None` where the disposition can't be met. Takes no memory; constant time.
 pub fn copy_right(disposition: Disposition, entry: &Entry) -> Option<Copied>
     ensures { result ≡ copied_from disposition entry.now }
 {

@@ -44,14 +44,14 @@ use std::boxed::Box;
 pub struct Words {
     /// The destination's.
     pub destination: PortWord,
-    /// The word of the right to answer with, where there is one.
+    /// The word of the reply right, where there is one.
     pub reply: Option<PortWord>,
     /// The body's, from the front.
     pub body: SmallVec<PortWord, INLINE_WORDS>,
 }
 
-/// What is done when the message is sent: every right that goes, and the message that is queued. It
-/// holds all memory that sending takes, but for the slot in the queue.
+/// What is done when the message is sent: every right that goes, and the message that is queued. It holds all
+/// memory that sending takes, except for the slot in the queue.
 #[derive(Drop)]
 pub struct Plan {
     /// The sender.
@@ -295,8 +295,8 @@ pub(crate) struct Rights {
     pub(crate) reply: Option<Carried>,
 }
 
-/// Judges the second word of a message and the last, where the first word's right left this under its name:
-/// that of the right to answer with, or the body's. It is refused with this code.
+/// Judges the message's second port word (the reply right, or the only right of the body) against the
+/// sender's names as the destination left them. Returns `refusal` for a bad word.
 #[inline(always)]
 pub(crate) fn judge_second(
     space: &TaskNames<'_>,
@@ -624,23 +624,24 @@ fn check_any(
     Ok(plan_of(task, words, &rights, message))
 }
 
-/// Judges a message of the task, of which this was read, and makes the plan by which [`commit`] sends
-/// it. Nothing changes. Each right is judged in what the ones before it left: the destination's, the
-/// reply's, and the body's from the front (IPC Interface, `mach_msg`).
+/// Judges a message of the task, as it was read, and makes the plan by which [`commit`] sends it. Nothing
+/// changes. Each right is judged in what the ones before it left: the destination's, the reply right, and the
+/// body's from the front (IPC Interface, `mach_msg`).
 ///
 /// # Errors
 /// - [`MsgReturn::SendInvalidDest`]: the destination is no right for a port by its disposition.
-/// - [`MsgReturn::SendInvalidReply`]: the right to answer with can't go by its disposition.
-/// - [`MsgReturn::SendInvalidRight`]: a right of the body can't go by its disposition; or all can, and the
-///   message would close a loop: it carries the receive right of its destination, or of a port in whose
-///   queue, by however many messages, the destination's own receive right lies.
-/// - [`MsgReturn::SendTimedOut`]: the queue is at its limit, and the message goes by a send right.
-/// - [`MsgReturn::SendNoBuffer`]: there would be more than 4,294,967,295 rights; or memory was refused,
-///   where the message could be sent or its body has more than [`INLINE_WORDS`] port words.
+/// - [`MsgReturn::SendInvalidReply`]: the reply right can't be sent by its disposition.
+/// - [`MsgReturn::SendInvalidRight`]: a right of the body can't be sent by its disposition; or all can, and
+///   the message would close a loop. It does where it carries the receive right of its destination. It also
+///   does where it carries that of a port in whose queue, through any number of messages, the destination's
+///   own receive right is.
+/// - [`MsgReturn::SendTimedOut`]: the queue is at its limit, and the message is sent to a send right.
+/// - [`MsgReturn::SendNoBuffer`]: there would be more than 4,294,967,295 rights; or memory was refused, where
+///   the message could be sent or its body has more than [`INLINE_WORDS`] port words.
 ///
-/// Linear in the bytes and, where receive rights go, in the way that [`circularity::closes_loop`] follows;
-/// for each word logarithmic in the names that the words so far have taken rights from, and for a name
-/// above 65,535.
+/// Linear in the bytes and, where receive rights are sent, in the way that [`circularity::closes_loop`]
+/// follows. For each word logarithmic in the names that the words so far have taken rights from, and for a
+/// name above 65,535.
 ///
 /// [`commit`]: crate::commit
 pub fn check(

@@ -132,9 +132,9 @@ fn lone_message(
 }
 
 /// Judges a message of the task whose body is one right and nothing else, and makes the plan by which
-/// [`commit`] sends it: just as [`check`] does, whose errors and plan these are, in fewer steps. Nothing
-/// changes. Constant time but for the way that [`circularity::closes_loop`] follows where a receive right
-/// goes, and logarithmic for a name above 65,535.
+/// [`commit`] sends it. Errors and plan are those of [`check`], in fewer steps. Nothing changes. Constant
+/// time, except for the way that [`circularity::closes_loop`] follows where a receive right is sent, and
+/// logarithmic for a name above 65,535.
 ///
 /// # Errors
 /// - [`MsgReturn::SendInvalidDest`], [`MsgReturn::SendInvalidRight`], [`MsgReturn::SendTimedOut`]: as

@@ -12,13 +12,13 @@ use message_codec::INLINE_WORDS;
 use port::Ports;
 use std::alloc::{AllocError, Global};
 
-/// Whether a message to the port that carries these rights would close a loop: whether one is the
-/// receive right of the port itself, or of one in whose queue, by however many messages, the port's own
-/// receive right lies.
+/// Returns whether a message to the port that carries these rights would close a loop. It does where one is
+/// the receive right of the port itself. It also does where one is that of a port in whose queue, through any
+/// number of messages, the port's own receive right is.
 ///
 /// Linear in the rights, and in the number of these messages where one is a receive right; each of up to
-/// [`INLINE_WORDS`] receive rights follows them anew. So many rights take no memory; an error means that
-/// for more it was refused.
+/// [`INLINE_WORDS`] receive rights follows them anew. So many rights take no memory. An error means that
+/// memory for more was refused.
 #[inline(always)]
 pub(crate) fn makes_loop(
     ports: &Ports<Queued>,

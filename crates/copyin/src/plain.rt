@@ -14,9 +14,9 @@ use mach_types::{MsgReturn, TaskId};
 use message_codec::{Plain, PortWord, Request};
 use std::alloc::Global;
 
-/// Judges such a message of the task that has no right to answer with, and makes the plan by which [`commit`] sends it: just as [`check`]
-/// does, whose errors and plan these are, in fewer steps. Nothing changes. Linear in the bytes, which are
-/// copied, and logarithmic for a name above 65,535.
+/// Judges a message of the task with a raw body and no reply right, and makes the plan by which [`commit`]
+/// sends it. Errors and plan are those of [`check`], in fewer steps. Nothing changes. Linear in the bytes,
+/// which are copied, and logarithmic for a name above 65,535.
 ///
 /// # Errors
 /// - [`MsgReturn::SendInvalidDest`], [`MsgReturn::SendTimedOut`]: as [`check`].
@@ -51,9 +51,9 @@ pub fn check_plain(
     check_bare(world, alloc, task, &head, bytes)
 }
 
-/// Judges such a message of the task that has a right to answer with, and makes the plan by which
-/// [`commit`] sends it: just as [`check`] does, whose errors and plan these are, in fewer steps. Nothing
-/// changes. Linear in the bytes, which are copied, and logarithmic for a name above 65,535.
+/// Judges a message of the task with a raw body and a reply right, and makes the plan by which [`commit`]
+/// sends it. Errors and plan are those of [`check`], in fewer steps. Nothing changes. Linear in the bytes,
+/// which are copied, and logarithmic for a name above 65,535.
 ///
 /// # Errors
 /// - [`MsgReturn::SendInvalidDest`], [`MsgReturn::SendInvalidReply`], [`MsgReturn::SendTimedOut`]: as

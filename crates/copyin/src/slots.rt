@@ -55,9 +55,9 @@ fn count_own(given: Disposition) -> usize
 }
 
 impl Plan {
-    /// How many message slots are to be spare beside those of the send-once rights that no queued message
-    /// goes by, so that these all have one once the message was sent: one for the message, where it
-    /// doesn't go by such a right, and one for each that its reply and body make. Linear in its rights.
+    /// Returns how many message slots are to be spare beside those of the unused send-once rights, so that
+    /// all of these have one once the message was sent. That is one for the message, unless it is sent to a
+    /// send-once right, and one for each send-once right that its reply and body make. Linear in its rights.
     pub fn count_slots(&self) -> usize
         ensures { result ≡ slots_for self.now.destination self.now.message.reply self.now.message.rights }
     {

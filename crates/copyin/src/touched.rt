@@ -31,7 +31,7 @@ pub(crate) struct Touched {
     pub(crate) many: BTreeMap<u32, Option<Entry>>,
 }
 
-/// What stands under the name after one was touched.
+/// What is under the name after one was touched.
 #[inline(always)]
 pub(crate) fn standing_after(space: &TaskNames<'_>, touch: &Touch, name: Name) -> Option<Entry>
     ensures { result ≡ map.get (put space.now.names touch.now.name touch.now.left) name }
@@ -75,7 +75,7 @@ impl Touched {
         }
     }
 
-    /// What stands under the name now.
+    /// What is under the name now.
     #[inline(always)]
     pub(crate) fn standing(&self, space: &TaskNames<'_>, name: Name) -> Option<Entry>
         ensures { (now : Names) → Overlays self.now space.now.names now → result ≡ map.get now name }

@@ -1,4 +1,4 @@
-//! What stands under a name, changed.
+//! What is under a name, changed.
 ghost use Rattle.std.specs.Prelude.{◌≡◌, Some, None, OnOk, OnErr, IfErr};
 ghost use Rattle.mach_types.specs.declared.codes.KernReturn.TheVariants as kern;
 ghost use Rattle.name_space.specs.Names.{IsUsable};
@@ -36,8 +36,8 @@ impl World {
         self.requests.leave(task, name);
     }
 
-    /// Leaves this under a name that is in use; where nothing is left the name goes, and the request on
-    /// it ends: its right is kept until the step's end pays with it.
+    /// Leaves this under a name that is in use. Where nothing is left the name is removed, and the request on
+    /// it ends; its right is kept until the step's end pays with it.
     ///
     /// Takes no memory. Constant time, and logarithmic for a name above 65,535.
     #[inline(always)]
@@ -51,8 +51,8 @@ impl World {
         }
     }
 
-    /// Puts the entry under a name that isn't in use, in a place that was made: the fresh name where
-    /// there is room for one, or the name for which a place is kept.
+    /// Puts the entry under a name that isn't in use, in a place that was made. The name is the fresh one
+    /// where there is room for one, or the one for which a place is kept.
     ///
     /// Takes no memory. Constant time, and logarithmic for a name above 65,535.
     #[inline(always)]

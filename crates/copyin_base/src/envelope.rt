@@ -21,8 +21,8 @@ enum HeldKind {
     BodyDead,
 }
 
-/// A message's id, what kind of message it is, and one right, in 16 bytes: its right to answer with, or the
-/// only right of a body that is one item of one port word, in the short form, and nothing else.
+/// A message's id, its kind and one right, in 16 bytes. The right is the reply right, or the only right of a
+/// body that is one short-form item of one port word and nothing else.
 #[derive(Drop)]
 pub struct Envelope {
     id: u32,
@@ -79,8 +79,8 @@ fn lone_parts(carried: Carried) -> (HeldKind, Disposition, PortId)
 }
 
 impl Envelope {
-    /// Of a message with this id and this right to answer with. `is_complex`: whether its body is a list
-    /// of items; `by_once`: whether it goes by a send-once right, and not by a send right. Constant time.
+    /// Of a message with this id and this reply right. `is_complex`: whether its body is a list of items;
+    /// `by_once`: whether it is sent to a send-once right, and not to a send right. Constant time.
     #[inline(always)]
     pub fn new(id: u32, is_complex: bool, by_once: bool, reply: Option<Carried>) -> Envelope
         ensures { result ≡ record { id = id; is_complex = is_complex; by_once = by_once; in_body = false; right = reply } }
@@ -96,9 +96,9 @@ impl Envelope {
         }
     }
 
-    /// Of a message with this id that has no right to answer with, and whose body is one item of this right
-    /// alone, in the short form. `by_once`: whether it goes by a send-once right, and not by a send right.
-    /// Constant time.
+    /// Of a message with this id that has no reply right, and whose body is one item of this right alone, in
+    /// the short form. `by_once`: whether it is sent to a send-once right, and not to a send right. Constant
+    /// time.
     #[inline(always)]
     pub fn of_lone(id: u32, by_once: bool, carried: Carried) -> Envelope
         ensures { result ≡ record { id = id; is_complex = true; by_once = by_once; in_body = true; right = Some carried } }
@@ -122,7 +122,7 @@ impl Envelope {
         self.id
     }
 
-    /// Whether its body is a list of items. Constant time.
+    /// Returns whether its body is a list of items. Constant time.
     #[inline(always)]
     pub fn is_complex(&self) -> bool
         ensures { result ≡ self.now.is_complex }
@@ -130,7 +130,7 @@ impl Envelope {
         self.is_complex
     }
 
-    /// Whether it goes by a send-once right, and not by a send right. Constant time.
+    /// Returns whether it is sent to a send-once right, and not to a send right. Constant time.
     #[inline(always)]
     pub fn by_once(&self) -> bool
         ensures { result ≡ self.now.by_once }
@@ -138,7 +138,7 @@ impl Envelope {
         self.by_once
     }
 
-    /// Whether the right that lies here is the body's, and not one to answer with. Constant time.
+    /// Returns whether the right that lies here is the body's, and not the reply right. Constant time.
     #[inline(always)]
     pub fn is_in_body(&self) -> bool
         ensures { result ≡ self.now.in_body }
@@ -150,7 +150,7 @@ impl Envelope {
         }
     }
 
-    /// The right that lies here, if one does: that to answer with, or the body's. Constant time.
+    /// The right that lies here, if one does: the reply right, or the body's. Constant time.
     #[inline(always)]
     pub fn right(&self) -> Option<Carried>
         ensures { result ≡ self.now.right }

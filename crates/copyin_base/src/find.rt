@@ -1,4 +1,4 @@
-//! What stands under a name, and which refusal it is that it doesn't.
+//! What is under a name, and the refusal where that is missing.
 ghost use Rattle.std.specs.Prelude.{◌≡◌, ℕ, Some, IfOk, IfErr};
 ghost use Rattle.mach_types.specs.Codes.{kern_number};
 ghost use Rattle.mach_model.specs.Refusals.{used_guards, receive_guards, set_guards};
@@ -12,7 +12,7 @@ use mach_types::{KernReturn, Name, PortId, SetId, TaskId};
 use name_space::Entry;
 
 impl World {
-    /// What stands under the name; `KERN_INVALID_NAME` where nothing does.
+    /// What is under the name; `KERN_INVALID_NAME` where nothing is.
     ///
     /// Constant time, and logarithmic for a name above 65,535.
     pub fn find(&self, task: TaskId, name: Name) -> Result<Entry, KernReturn>
@@ -22,7 +22,7 @@ impl World {
         self.lookup(task, name).ok_or(KernReturn::InvalidName)
     }
 
-    /// The port whose receive right stands under the name; `KERN_INVALID_NAME` where nothing does, and
+    /// The port whose receive right is under the name; `KERN_INVALID_NAME` where nothing is, and
     /// `KERN_INVALID_RIGHT` where that is no receive right.
     ///
     /// Constant time, and logarithmic for a name above 65,535.
@@ -36,8 +36,8 @@ impl World {
         entry.receive_port().ok_or(KernReturn::InvalidRight)
     }
 
-    /// The port set under the name; `KERN_INVALID_NAME` where nothing stands under it, and
-    /// `KERN_INVALID_RIGHT` where that is no port set.
+    /// The port set under the name; `KERN_INVALID_NAME` where nothing is under it, and `KERN_INVALID_RIGHT`
+    /// where that is no port set.
     ///
     /// Constant time, and logarithmic for a name above 65,535.
     pub fn find_set(&self, task: TaskId, name: Name) -> Result<SetId, KernReturn>

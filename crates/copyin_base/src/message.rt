@@ -56,8 +56,8 @@ impl Default for Carried {
 /// How many rights of a body, and spans of their words, need no allocation of their own.
 const INLINE_RIGHTS: usize = 2;
 
-/// What a message's body carries beside its bytes, but for a right that lies in its envelope: its rights, and
-/// where their words stand.
+/// What a message's body carries beside its bytes, except for a right that lies in its envelope: its rights,
+/// and where their words stand.
 #[derive(Drop)]
 pub struct CarriedRights {
     /// Where the port words of the body stand.
@@ -118,7 +118,7 @@ impl BodyRights<'_> {
 pub struct Message {
     /// All its bytes, 24 to 65,536.
     pub bytes: Vec<u8>,
-    /// Its id, what kind of message it is, and one right: that to answer with, or the only one of its body.
+    /// Its id, what kind of message it is, and one right: the reply right, or the only one of its body.
     pub envelope: Envelope,
     /// The rights of its body, and where their words stand, where none of the body's lies in the envelope. A
     /// message that has none of these is small in its queue.
@@ -148,7 +148,7 @@ impl Model for Message {
 }
 
 impl Message {
-    /// Whether it goes by a send-once right, and not by a send right.
+    /// Returns whether it is sent to a send-once right, and not to a send right.
     #[inline(always)]
     pub fn by_once(&self) -> bool
         ensures { result ≡ self.now.by_once }
@@ -156,7 +156,7 @@ impl Message {
         self.envelope.by_once()
     }
 
-    /// The right to answer with.
+    /// The reply right.
     #[inline(always)]
     pub fn reply(&self) -> Option<Carried>
         ensures { result ≡ self.now.reply }

@@ -80,7 +80,7 @@ impl Queued {
         }
     }
 
-    /// The right to answer with, if it has one.
+    /// The reply right, if it has one.
     pub fn reply(&self) -> Option<Carried>
         ensures { result ≡ self.now.reply }
     {
@@ -90,7 +90,7 @@ impl Queued {
         }
     }
 
-    /// The right that stands at this place among the rights of its body, if one does.
+    /// The right at this place among the rights of its body, if there is one.
     pub fn right_at(&self, place: usize) -> Option<Carried>
         ensures { result ≡ slice_get self.now.rights place }
     {
@@ -101,7 +101,7 @@ impl Queued {
         }
     }
 
-    /// The port whose receive right stands at this place among the rights of its body, if one does.
+    /// The port whose receive right is at this place among the rights of its body, if there is one.
     pub fn receive_at(&self, place: usize) -> Option<PortId>
         ensures { result ≡ option_and_then (λ c. receive_of c) (slice_get self.now.rights place) }
     {
@@ -113,7 +113,7 @@ impl Queued {
         carried.receive_port()
     }
 
-    /// Whether it goes by a send-once right, as a notice does.
+    /// Returns whether it is sent to a send-once right, as a notice does.
     pub fn by_once(&self) -> bool
         ensures { result ≡ self.now.by_once }
     {

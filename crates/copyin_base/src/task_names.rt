@@ -73,22 +73,21 @@ impl<'a> TaskNames<'a> {
         self.kept.len()
     }
 
-    /// Whether there are none. Constant time.
+    /// Returns whether there are none. Constant time.
     pub fn is_empty(&self) -> bool
         ensures { IsTrue result ↔ (map.len self.now.names ≡ 0) }
     {
         self.kept.is_empty()
     }
 
-    /// Whether there are as many as there can be, 65,535. Constant time.
+    /// Returns whether there are as many as there can be, 65,535. Constant time.
     pub fn is_full(&self) -> bool
         ensures { IsTrue result ↔ (most_names ≤ map.len self.now.names) }
     {
         self.kept.is_full()
     }
 
-    /// What stands under the name, if anything does. Constant time, and logarithmic for a name above
-    /// 65,535.
+    /// What is under the name, if anything is. Constant time, and logarithmic for a name above 65,535.
     #[inline(always)]
     pub fn lookup(&self, name: Name) -> Option<Entry>
         ensures { result ≡ map.get self.now.names name }
@@ -97,8 +96,9 @@ impl<'a> TaskNames<'a> {
         Some(read(self.ports, kept))
     }
 
-    /// The fresh name, less than 2^24, where there are fewer than 65,535: the least number from 1 that is no
-    /// name, or where names have a generation that of the least index from 1 that no name has. Constant time.
+    /// Returns the fresh name, where there are fewer than 65,535 names. It is the least number from 1 that is
+    /// no name. Where names have a generation, it is that of the least index from 1 that no name has. It is
+    /// less than 2^24. Constant time.
     #[inline(always)]
     pub fn fresh(&self) -> Name
         requires not_full { map.len self.now.names < most_names }
@@ -121,7 +121,7 @@ impl<'a> TaskNames<'a> {
         self.kept.name_of_port(port)
     }
 
-    /// The least name in use from this one on, if there is one. Constant time, but for four words of each
+    /// The least name in use from this one on, if there is one. Constant time, except for four words of each
     /// page of 256 names, up to 65,535, that was used and has none from there on; above 65,535 logarithmic.
     pub fn next_name(&self, from: Name) -> Option<Name>
         ensures none { IfNone result ((name : ℕ) → from ≤ name → map.get self.now.names name ≡ None) }

@@ -81,7 +81,7 @@ impl World {
         }
     }
 
-    /// Whether fresh names have a generation. Constant time.
+    /// Returns whether fresh names have a generation. Constant time.
     pub fn has_generations(&self) -> bool
         ensures { result ≡ has_generations self.now.profile }
     {
@@ -91,7 +91,7 @@ impl World {
         }
     }
 
-    /// Whether the task lives. Constant time.
+    /// Returns whether the task lives. Constant time.
     pub fn has_task(&self, task: TaskId) -> bool
         ensures { IsTrue result ↔ HasTask self.now task }
     {
@@ -117,16 +117,15 @@ impl World {
         Some(TaskNames::of(kept, &self.ports))
     }
 
-    /// What stands under the task's name, if anything does. Constant time, and logarithmic for a
-    /// name above 65,535.
+    /// What is under the task's name, if anything is. Constant time, and logarithmic for a name above 65,535.
     pub fn lookup(&self, task: TaskId, name: Name) -> Option<Entry>
         ensures { result ≡ entry_at self.now task name }
     {
         self.find_space(task)?.lookup(name)
     }
 
-    /// Makes message slots, so that one is spare for each send-once right that no queued message goes
-    /// by, and so many more; where there are enough, nothing changes. Linear in the slots that are made.
+    /// Makes message slots, so that one is spare for each unused send-once right, and so many more. Where
+    /// there are enough, nothing changes. Linear in the slots that are made.
     ///
     /// An error means that there were too few and memory was refused; all is then as before.
     #[inline(always)]
@@ -146,8 +145,7 @@ impl World {
         self.ports.reserve_slots(wanted - spare)
     }
 
-    /// Whether a message slot is spare for each send-once right that no queued message goes by. Constant
-    /// time.
+    /// Returns whether a message slot is spare for each unused send-once right. Constant time.
     pub fn slots_suffice(&self) -> bool
         ensures value { IsTrue result ↔ SlotsSuffice self.now }
         ensures all { IsUnusedOfAll self.now.ledger }

@@ -1,5 +1,5 @@
-//! Receiving a message that carries one right at most beside that of its destination: its right to answer
-//! with, as requests do, or the only one of its body.
+//! Receiving a message that carries one right at most beside that of its destination: its reply right, as
+//! requests do, or the only one of its body.
 ghost use Rattle.std.specs.Prelude.{◌≡◌, ◌≢◌, ℕ, ◌≤◌, [], ◌∷◌, true, false, None, List, length, min, IfOk, IfErr, IfSome, OnOk, MatchOption, Some};
 ghost use Rattle.std.specs.Option.{option_to_list};
 ghost use Rattle.mach_types.specs.Grammar.{WireBody};
@@ -35,7 +35,7 @@ pub(crate) struct Bare {
     pub(crate) size: usize,
     /// The sequence number that it is received with.
     pub(crate) sequence: u32,
-    /// The right: that to answer with, or the only one of its body.
+    /// The right: the reply right, or the only one of its body.
     pub(crate) right: Option<Carried>,
     /// Whether it is the body's.
     pub(crate) in_body: bool,
@@ -204,8 +204,8 @@ fn take_bare(
     spell_only(message, bare, name, local)
 }
 
-/// Receives the port's front message, of which this is known, if there is room for its length, and for a
-/// name where its right needs one of its own: memory is wanted for that alone.
+/// Receives the port's front message, which is known to be this one. The buffer must have room for its
+/// length, and its right must have a name where it needs one of its own. Only that name may want memory.
 #[inline(never)]
 pub(crate) fn receive_bare(
     world: &mut World,

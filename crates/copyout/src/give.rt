@@ -231,14 +231,14 @@ fn give_port(world: &mut World, task: TaskId, given: Disposition, port: PortId) 
     }
 }
 
-/// Gives the task one right of a message, and answers the name under which the task has it
-/// (IPC Interface, `mach_msg`): a send or receive right under the task's name for the port, or else
-/// under a fresh one; a send-once right always under a fresh one. A send right that comes to 65,535
-/// references is dropped, and the port of a receive right knows that the task holds it.
+/// Gives the task one right of a message, and returns the name under which the task has it (IPC Interface,
+/// `mach_msg`). A send or receive right comes under the task's name for the port, or else under a fresh one.
+/// A send-once right always comes under a fresh one. A send right that comes to 65,535 references is dropped,
+/// and the port of a receive right knows that the task holds it.
 ///
-/// [`Name::null`] where there is no right, and [`Name::dead`] where its port is gone: nothing
-/// changes then. Room is used for a fresh name alone. Takes no memory. Constant time, and
-/// logarithmic for a name above 65,535.
+/// Returns [`Name::null`] where there is no right, and [`Name::dead`] where its port is gone: nothing changes
+/// then. Only a fresh name uses room. Takes no memory. Constant time, and logarithmic for a name above
+/// 65,535.
 pub fn give_right(world: &mut World, task: TaskId, carried: &Carried) -> Name
     requires { CanGive world.old task (carried.now ∷ []) }
     ensures { GivesMark world.old task (kind_sent carried.now.given) carried.now.mark result world.new }

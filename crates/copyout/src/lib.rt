@@ -1,8 +1,8 @@
 //! Copying rights out: what a receiver gets of a queued message.
 //!
-//! [`receive`] judges and takes a port's front message, [`is_receivable`] judges it but for memory,
-//! [`room_needed`] counts the names that its rights need, [`give_right`] gives one right, and
-//! [`put_right`] gives it a name that the caller chose.
+//! [`receive`] judges and takes a port's front message, [`is_receivable`] judges it except for memory,
+//! [`room_needed`] counts the names that its rights need, [`give_right`] gives one right, and [`put_right`]
+//! gives it a name that the caller chose.
 #![tactic(auto)]
 
 mod bare;

@@ -59,7 +59,7 @@ pub(crate) fn into_sent(queued: Queued) -> Message
 }
 
 /// The bytes of a message that carries no rights of a body as its receiver gets them: only its header
-/// changes. Its right to answer with is this one, if it has one, and comes under the name `remote`.
+/// changes. Its reply right is this one, if it has one, and comes under the name `remote`.
 #[inline(always)]
 pub(crate) fn spell_bare(
     message: Message,

@@ -109,7 +109,7 @@ pub fn take_front(world: &mut World, port: PortId) -> Queued
     queued
 }
 
-/// Gives the task the right to answer with, if there is one, and answers its name.
+/// Gives the task the reply right, if there is one, and returns its name.
 pub(crate) fn give_reply(world: &mut World, task: TaskId, reply: &Option<Carried>) -> Name
     requires { CanGive world.old task (option_to_list reply.now) }
     ensures { (words : List ℕ) × GivesAll world.old task (option_to_list reply.now) words world.new × (result ≡ reply_word reply.now words) }
@@ -335,8 +335,8 @@ fn judge(
     }
 }
 
-/// Whether only want of memory could refuse to give the port's front message to the task: it isn't too
-/// large, and the task's names suffice for its rights.
+/// Returns whether only lack of memory could refuse to give the port's front message to the task: it isn't
+/// too large, and the task's names suffice for its rights.
 ///
 /// Takes no memory. The time is that of [`room_needed`].
 pub fn is_receivable(world: &World, task: TaskId, port: PortId, room: u32) -> bool
@@ -386,26 +386,27 @@ fn receive_any(
     }
 }
 
-/// Receives the port's front message under the task's name `local` for the port (IPC Interface,
-/// `mach_msg` with `MACH_RCV_MSG`), if there is room for its length, names for its rights and memory,
-/// which is judged in this order: the header is reversed, and the rights have the receiver's names, that
-/// of the right to answer with first.
+/// Receives the port's front message under the task's name `local` for the port (IPC Interface, `mach_msg`
+/// with `MACH_RCV_MSG`). The buffer must have room for its length, the task must have names for its rights,
+/// and memory must be there; they are judged in this order. The header is reversed, and the rights have the
+/// receiver's names, the reply right first.
 ///
-/// Memory is wanted for the names alone that the rights need and there is no room for, for the words of a
-/// body with more than 8 rights, and for the bytes of a notice: a message that was sent without rights is
+/// Memory is wanted for three things alone: names that the rights need and there is no room for, the words of
+/// a body with more than 8 rights, and the bytes of a notice. So a message that was sent without rights is
 /// always received. Room for names is no more than before, and the message's slot is spare then.
 ///
-/// The right by which the message came is gone: where it was the port's last send right, and a request
-/// stands to be told of that, the port is noted for the end of the step.
+/// The right by which the message came is gone. Where it was the port's last send right, and a no-senders
+/// request stands on the port, the port is noted for the end of the step.
 ///
 /// # Errors
 /// The message stays, and all is then as before.
 /// - [`Refusal::TooLarge`]: it has more bytes than `room`, or more than 65,536.
-/// - [`Refusal::Names`]: it isn't too large, and the task's names don't suffice: for a right that needs a
-///   name of its own there is none, once those before it were given.
+/// - [`Refusal::Names`]: it isn't too large, and the task's names don't suffice. A right that needs a name of
+///   its own lacks one, once those before it were given.
 /// - [`Refusal::Memory`]: neither, memory was wanted, and it was refused.
 ///
-/// The time grows with the number of rights, but where there are more than 1,000, as [`room_needed`] does.
+/// The time grows with the number of rights; where there are more than 1,000, it grows as that of
+/// [`room_needed`].
 #[inline(always)]
 pub fn receive(
     world: &mut World,

@@ -65,7 +65,7 @@ pub(crate) fn shared_name(space: &TaskNames<'_>, given: Disposition, port: PortI
     }
 }
 
-/// Whether the port is there.
+/// Returns whether the port is there.
 pub(crate) fn has_port(world: &World, port: PortId) -> bool
     ensures { result ≡ is_some (map.get world.now.ports.ports port) }
 {
@@ -282,11 +282,11 @@ fn room_of_notice(world: &World, space: &TaskNames<'_>, notice: &Notice) -> usiz
     }
 }
 
-/// How many names of their own the rights of the message need: exactly so many more names the task has
-/// once they were given.
+/// Returns how many names of their own the rights of the message need. The task has exactly so many more
+/// names once they were given.
 ///
-/// Takes no memory. Linear in the number of rights, but where there are more than 1,000: those for ports
-/// that the task has no name for are then compared with some of those before them.
+/// Takes no memory. Linear in the number of rights up to 1,000. With more, rights for ports that the task has
+/// no name for are compared with some of those before them.
 pub fn room_needed(world: &World, space: &TaskNames<'_>, queued: &Queued) -> usize
     ensures { Needs world.now.ports space.now.names [] (carried_by queued.now) result }
 {

@@ -1,4 +1,4 @@
-//! Doomed ports are buried.
+//! Buries doomed ports.
 ghost use Rattle.std.specs.Prelude.{◌≡◌, ◌<◌, true};
 ghost use Rattle.std.specs.FinMap as map;
 ghost use Rattle.mach_types.specs.Tokens.{no_senders, port_destroyed};
@@ -13,7 +13,7 @@ use name_space::Entry;
 use request_table::Request;
 use user_refs::UserRefs;
 
-/// Each doomed port leaves with all rights for it; its requests end, and those on its names. Answers how
+/// Removes each doomed port with all rights for it. Ends its requests, and those on its names. Returns how
 /// many of their rights paid for notices.
 pub(crate) fn bury_ports(world: &mut World) -> u64
     requires { IsAt AreTold world.old }

@@ -15,14 +15,14 @@ use crate::telling::tell_senderless;
 use copyin_base::World;
 use request_table::Request;
 
-/// Ends a step: ports that lost their receive rights are sent away or die with all that is queued, rights
-/// that were lost are told of, and so are ports without senders. Answers in how many turns; 2^64 - 1 where
+/// Ends a step. Ports that lost their receive rights are sent away, or die with all that is queued. Notices
+/// tell of rights that were lost and of ports without senders. Returns in how many turns; 2^64 - 1 where
 /// there are more.
 ///
-/// A turn is a port judged, a message destroyed, a right of such a message lost, or a right of a request
-/// that ends, where it pays for the notice. Each task keeps its room for names. Takes no memory and cannot
-/// fail. Linear in the turns, the requests that end and the rights that messages carry; constant where
-/// nothing was left to do.
+/// A turn is a port judged, a message destroyed, a right of such a message lost, or a right of a request that
+/// ends, where it pays for the notice. Each task keeps its room for names. Takes no memory and cannot fail.
+/// Linear in the turns, the requests that end and the rights that messages carry. Constant where nothing was
+/// left to do.
 pub fn settle(world: &mut World) -> u64
     requires { IsMidway world.old }
     ensures settles { SettlesIn world.old result world.new }

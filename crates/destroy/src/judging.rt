@@ -1,4 +1,4 @@
-//! Ports that lost their receive rights are sent away, or are doomed with all that is queued.
+//! Sends away the ports that lost their receive rights, or dooms them with all that is queued.
 ghost use Rattle.std.specs.Prelude.{◌↔◌, ◌≡◌, ◌<◌, ℕ, [], IsTrue, false, IfSome, IfNone, MatchBool, Some, length, slice_get};
 ghost use Rattle.std.specs.Option.{option_and_then};
 ghost use Rattle.mach_types.specs.Numbers.{most_rights};
@@ -16,8 +16,8 @@ use notifications::post;
 use port::{Attributes, Holder};
 use rights::RightKind;
 
-/// Judges each port that lost its receive right, and those whose receive rights are lost with a doomed
-/// port's messages. Answers in how many turns: one for each port, and for each message destroyed.
+/// Judges each port that lost its receive right, and those whose receive rights are lost with a doomed port's
+/// messages. Returns in how many turns: one for each port, and for each message destroyed.
 pub(crate) fn judge_ports(world: &mut World) -> u64
     requires { IsAt IsStarted world.old }
     ensures continues { Continues IsStarted IsJudged world.old result world.new }

@@ -1,4 +1,4 @@
-//! How a step ends: ports die or are sent away, rights are lost, and whoever asked is told.
+//! How a step ends: ports die or are sent away, rights are lost, and the tasks that asked get notices.
 //!
 //! [`settle`] ends a step, once for all calls. It takes no memory and cannot be refused.
 #![tactic(auto)]

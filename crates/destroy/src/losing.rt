@@ -1,4 +1,4 @@
-//! The rights of messages that were destroyed are lost.
+//! Loses the rights of messages that were destroyed.
 ghost use Rattle.std.specs.Prelude.{◌≡◌, ◌<◌, [], slice_get, IfSome, IfNone};
 ghost use Rattle.std.specs.Option.{option_to_list};
 ghost use Rattle.rights.specs.Ledger.{IsEntered, counts_of};
@@ -15,8 +15,8 @@ use mach_types::{Disposition, PortId, Right};
 use notifications::post;
 use rights::RightKind;
 
-/// The rights of each message that was destroyed are lost, but for those for ports that don't live.
-/// Answers how many.
+/// Loses the rights of each message that was destroyed, except for those for ports that don't live. Returns
+/// how many.
 pub(crate) fn lose_messages(world: &mut World) -> u64
     requires { IsAt IsJudged world.old }
     ensures continues { Continues IsJudged AreLost world.old result world.new }

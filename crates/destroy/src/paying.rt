@@ -1,4 +1,4 @@
-//! Rights that requests kept pay for notices; first those of requests whose names went.
+//! Pays for notices with the rights that requests kept; first those of requests whose names went.
 ghost use Rattle.std.specs.Prelude.{◌≡◌, ◌↔◌, [], IsTrue, IfSome, IfNone};
 ghost use Rattle.copyin_base.specs.declared.notice.Notice.{Notice as AnyNotice};
 ghost use Rattle.notifications.specs.Posting.{CanPost};
@@ -12,7 +12,7 @@ use notifications::post;
 use port::Holder;
 use request_table::Request;
 
-/// Whether the port is there and isn't doomed. Constant time.
+/// Returns whether the port is there and isn't doomed. Constant time.
 pub(crate) fn lives(world: &World, port: PortId) -> bool
     ensures { IsTrue result ↔ LivesIn world.now port }
 {
@@ -22,7 +22,7 @@ pub(crate) fn lives(world: &World, port: PortId) -> bool
     }
 }
 
-/// The right that a request kept pays for a notice, where its port lives. Answers how many notices were
+/// Pays for a notice with the right that a request kept, where its port lives. Returns how many notices were
 /// paid for. Constant time.
 pub(crate) fn pay(world: &mut World, notify: PortId, notice: Notice) -> u64
     requires { LivesIn world.old notify → CanPost world.old notify }
@@ -36,8 +36,8 @@ pub(crate) fn pay(world: &mut World, notify: PortId, notice: Notice) -> u64
     1
 }
 
-/// The right of each request whose name went pays for a notice. Ports are judged later, so each port that
-/// is there gets it. Linear in these requests.
+/// Pays with the right of each request whose name went. Ports are judged later, so each port that is there
+/// gets the notice. Linear in these requests.
 pub(crate) fn pay_for_names(world: &mut World)
     requires { IsMidway world.old }
     ensures starts { Starts world.old world.new }

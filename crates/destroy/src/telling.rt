@@ -1,4 +1,4 @@
-//! Ports that lost their last send rights are told.
+//! Posts the notices of ports that lost their last send rights.
 ghost use Rattle.std.specs.Prelude.{◌≡◌, ◌↔◌, ◌<◌, slice_get, IsTrue, IfSome, IfNone};
 ghost use Rattle.std.specs.FinMap as map;
 ghost use Rattle.rights.specs.Ledger.{counts_of};
@@ -9,8 +9,8 @@ use crate::paying::{lives, pay};
 use copyin_base::{Notice, World};
 use mach_types::PortId;
 
-/// Tells each port that was noted, lives, and still has no senders, where that was asked for. Answers how
-/// many were told.
+/// Posts a no-senders notice for each port that was noted, lives, and still has no senders, where that was
+/// asked for. Returns how many.
 pub(crate) fn tell_senderless(world: &mut World) -> u64
     requires { IsAt AreLost world.old }
     ensures continues { Continues AreLost AreTold world.old result world.new }

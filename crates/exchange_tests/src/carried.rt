@@ -471,7 +471,7 @@ const LONG_AND_NULL: (&str, &str) = (
     type 00020000\n",
 );
 
-/// Whether the first text, a script, gives the second, its replies, and its history is legal.
+/// Returns whether the first text, a script, gives the second, its replies, and its history is legal.
 fn is_answered<R: AllocGlobal + Threads + Wait + Sync>(rt: &R, exchange: (&str, &str)) -> bool {
     gives(rt, exchange.0, exchange.1) && is_traced_legally(rt, exchange.0)
 }

@@ -225,7 +225,7 @@ const READ_LATE: (&str, &str) = (
     name 4294967294\n",
 );
 
-/// Whether the first text, a script, gives the second, its replies, and its history is legal.
+/// Returns whether the first text, a script, gives the second, its replies, and its history is legal.
 fn is_answered<R: AllocGlobal + Threads + Wait + Sync>(rt: &R, exchange: (&str, &str)) -> bool {
     gives(rt, exchange.0, exchange.1) && is_traced_legally(rt, exchange.0)
 }
@@ -288,7 +288,7 @@ fn named(alloc: Global) -> Option<String> {
     Some(replies)
 }
 
-/// Whether this script, behind those calls, is answered so.
+/// Returns whether this script, behind those calls, is answered so.
 fn is_answered_where_named<R: AllocGlobal + Threads + Wait + Sync>(
     rt: &R,
     script: &str,

@@ -381,7 +381,7 @@ fn run_alone(alloc: Global, events: Vec<Event>) -> Option<Vec<Reply>> {
     }
 }
 
-/// Whether the replies are these, one a line.
+/// Returns whether the replies are these, one a line.
 fn are(alloc: Global, replies: &[Reply], lines: &str) -> bool {
     let mut page = Vec::new(alloc);
     for reply in replies {
@@ -410,7 +410,7 @@ fn printed<R: AllocGlobal + Threads + Wait + Sync>(
     }
 }
 
-/// Whether the program prints these replies to the script, and nothing else.
+/// Returns whether the program prints these replies to the script, and nothing else.
 fn prints<R: AllocGlobal + Threads + Wait + Sync>(rt: &R, script: &str, replies: &str) -> bool {
     let profile = Profile::One;
     match printed(rt, Job::Run { profile }, script.as_bytes()) {
@@ -419,7 +419,7 @@ fn prints<R: AllocGlobal + Threads + Wait + Sync>(rt: &R, script: &str, replies:
     }
 }
 
-/// Whether the history that `trace` prints of the script is legal.
+/// Returns whether the history that `trace` prints of the script is legal.
 pub(crate) fn is_traced_legally<R: AllocGlobal + Threads + Wait + Sync>(
     rt: &R,
     script: &str,
@@ -431,7 +431,7 @@ pub(crate) fn is_traced_legally<R: AllocGlobal + Threads + Wait + Sync>(
     }
 }
 
-/// Whether the script gives these replies, by `perform` and by a whole run.
+/// Returns whether the script gives these replies, by `perform` and by a whole run.
 pub(crate) fn gives<R: AllocGlobal + Threads + Wait + Sync>(
     rt: &R,
     script: &str,
@@ -440,7 +440,7 @@ pub(crate) fn gives<R: AllocGlobal + Threads + Wait + Sync>(
     prints(rt, script, replies) && run_gives(rt.alloc(), script, replies)
 }
 
-/// Whether the script gives these replies by a whole run.
+/// Returns whether the script gives these replies by a whole run.
 fn run_gives(alloc: Global, script: &str, replies: &str) -> bool {
     match replies_of_run(alloc, script.as_bytes()) {
         Some(made) => are(alloc, made.as_slice(), replies),
@@ -475,7 +475,7 @@ fn joined(alloc: Global, texts: &[&str]) -> Option<String> {
     Some(whole)
 }
 
-/// Whether the script, in parts, gives the replies, in parts too.
+/// Returns whether the script, in parts, gives the replies, in parts too.
 pub(crate) fn parts_give<R: AllocGlobal + Threads + Wait + Sync>(
     rt: &R,
     script: &[&str],
@@ -496,7 +496,7 @@ fn repeated(alloc: Global, first: &str, text: &str, times: u32) -> Option<String
     Some(whole)
 }
 
-/// Whether a message of 24 bytes and so many more that are zero, sent to a new port, is answered so.
+/// Returns whether a message of 24 bytes and so many more that are zero, sent to a new port, is answered so.
 fn is_long_answered<R: AllocGlobal + Threads + Wait + Sync>(rt: &R, more: u32, code: &str) -> bool {
     let short = "task\nalloc 0 1\nsend 0 140000001800000001000000000000000000000007000000";
     match repeated(rt.alloc(), short, "00", more) {

@@ -30,12 +30,13 @@ use std::marker::Model;
 
 /// Tasks, their names, ports and queued messages. A value of this type is one kernel.
 ///
-/// [`Kernel::step`] makes any call; every other call here makes one step, and says by its type what that
-/// may answer. Each but [`Kernel::create_task`] is also refused by `InvalidTask`, before all else, where a
-/// task that it names doesn't live. A refusal leaves the state, and a call never waits. Where several
-/// refusals hold `docs/CALLS.md` says which comes first. A call takes constant time, logarithmic for names
-/// above 65,535, unless it says more, tables move to a larger place, or ports die; a send or a receipt also
-/// the time of its bytes and rights.
+/// [`Kernel::step`] makes any call. Every other call here makes one step, and its type says what that may
+/// return. Each but [`Kernel::create_task`] is also refused by `InvalidTask`, before all else, where a task
+/// that it names doesn't live. A refusal leaves the state, and a call never waits. Where several refusals
+/// hold `docs/CALLS.md` says which comes first.
+///
+/// A call takes constant time, logarithmic for names above 65,535, unless it says more, tables move to a
+/// larger place, or ports die. A send or a receive also takes the time of its bytes and rights.
 #[derive(Drop)]
 pub struct Kernel {
     kernel: kernel_core::Kernel,
@@ -68,15 +69,16 @@ pub fn run(alloc: Global, events: Vec<Event>) -> Result<(Kernel, Vec<Reply>), Al
     run_with(alloc, Profile::One, events)
 }
 
-/// Makes these calls on a new kernel of this profile, one after another, and gives the kernel that they leave with
-/// their answers in order. They are a run of the machine by the profile, to a state that the kernel shows, of which
-/// all is true that `mach_laws`' `Headline` says, and whose stages are judged right. Its spare message slots are as
-/// many as its unused send-once rights at least, and with its queued messages no more than there ever were of both
+/// Makes these calls on a new kernel of this profile, one after another. Returns the kernel that they leave,
+/// with their replies in order. They are a run of the machine by the profile, to a state that the kernel
+/// shows. All that `mach_laws`' `Headline` says is true of the run, and its stages are judged right. The
+/// kernel has at least as many spare message slots as unused send-once rights. Its spare slots and queued
+/// messages together are no more than there ever were queued messages and unused send-once rights
 /// (`SlotsWithin`). The profile is the first or the second.
 ///
 /// # Errors
-/// Memory for the list of answers was refused. Where a step is refused memory, that is its answer, and the
-/// run goes on.
+/// Memory for the list of replies was refused. Where a step is refused memory, that is its reply, and the run
+/// goes on.
 pub fn run_with(
     alloc: Global,
     profile: Profile,
@@ -115,10 +117,11 @@ impl Kernel {
         }
     }
 
-    /// Makes one call of a task, whole, and answers it, by a reply that the call can get (`specs/Fits`).
+    /// Makes one call of a task, whole, and returns its reply, which is one that the call can get
+    /// (`specs/Fits`).
     ///
-    /// A refusal is answered by its code and leaves the state that the kernel shows; so is want of memory,
-    /// which is answered only where the call may want some.
+    /// A refusal returns its code and leaves the state that the kernel shows. So does a call that is out of
+    /// memory, and only where it may want some.
     pub fn step(&mut self, event: &Event) -> Reply
         ensures step { IsStep self.old event.now result self.new }
         ensures fits { Fits event.now result }
@@ -155,7 +158,7 @@ impl Kernel {
         results::task(self.step(&Event::TaskCreate))
     }
 
-    /// `task_terminate`: the task ends, with all that stands under its names. Its ports die, or are sent
+    /// `task_terminate`: the task ends, with all that is under its names. Its ports die, or are sent
     /// away where that was asked for. Takes no memory; time grows with what goes.
     ///
     /// # Errors
@@ -178,7 +181,7 @@ impl Kernel {
         results::name(self.step(&Event::Allocate(task, right.number())))
     }
 
-    /// `mach_port_allocate_name`: the same, under this name, which is answered.
+    /// `mach_port_allocate_name`: the same, under this name, which is returned.
     ///
     /// # Errors
     /// `InvalidValue`: another right, or no name; `NameExists`: in use; `NoSpace`: a limit of names, rights
@@ -347,9 +350,12 @@ impl Kernel {
     /// disposition. The tasks may be the same.
     ///
     /// # Errors
-    /// `InvalidValue`: no name; `InvalidCapability`: the right's name is none, or dead; `InvalidName`: nothing
-    /// under it; `InvalidRight`: it lacks what the disposition needs; `RightExists`, `NameExists`,
-    /// `UrefsOverflow`, `NoSpace`: it doesn't fit under the name; `ResourceShortage`: memory.
+    /// - `InvalidValue`: no name.
+    /// - `InvalidCapability`: the right's name is none, or dead.
+    /// - `InvalidName`: nothing under it.
+    /// - `InvalidRight`: it lacks what the disposition needs.
+    /// - `RightExists`, `NameExists`, `UrefsOverflow`, `NoSpace`: it doesn't fit under the name.
+    /// - `ResourceShortage`: out of memory.
     pub fn insert_right(
         &mut self,
         task: TaskId,
@@ -382,17 +388,20 @@ impl Kernel {
         results::right(self.step(&Event::ExtractRight(task, name, number, to)))
     }
 
-    /// `mach_port_request_notification`: asks for a notice about the name, or takes such a request away. It
-    /// answers the name of the right that the request kept before: the null name for none, the dead one
-    /// where its port is dead.
+    /// `mach_port_request_notification`: asks for a notice about the name, or takes such a request away.
+    /// Returns the name of the right that the request kept before: the null name for none, the dead one where
+    /// its port is dead.
     ///
     /// # Errors
-    /// `InvalidValue`: another disposition than [`Disposition::MoveSendOnce`] and
-    /// [`Disposition::MakeSendOnce`], or a `sync` for [`Notification::PortDestroyed`]; `InvalidCapability`:
-    /// `notify` gives no right; `InvalidName`: nothing under the name; `InvalidRight`: no receive right, or
-    /// (for [`Notification::DeadName`]) a set; `InvalidArgument`: a dead name, and `sync` is 0 or `notify`
-    /// none; `UrefsOverflow`: a dead name of 65,535 references; `NoSpace`: a limit of names or rights;
-    /// `ResourceShortage`: memory.
+    /// - `InvalidValue`: another disposition than [`Disposition::MoveSendOnce`] and
+    ///   [`Disposition::MakeSendOnce`], or a `sync` for [`Notification::PortDestroyed`].
+    /// - `InvalidCapability`: `notify` gives no right.
+    /// - `InvalidName`: nothing under the name.
+    /// - `InvalidRight`: no receive right, or (for [`Notification::DeadName`]) a set.
+    /// - `InvalidArgument`: a dead name, and `sync` is 0 or `notify` none.
+    /// - `UrefsOverflow`: a dead name of 65,535 references.
+    /// - `NoSpace`: a limit of names or rights.
+    /// - `ResourceShortage`: out of memory.
     ///
     /// [`Notification::PortDestroyed`]: crate::Notification::PortDestroyed
     /// [`Notification::DeadName`]: crate::Notification::DeadName
@@ -414,9 +423,9 @@ impl Kernel {
     /// destination's queue. The bytes are those of [`write_message`], or any others; the call copies them.
     ///
     /// # Errors
-    /// A code of a send, with the message given back, so that it can be sent again: `SendInvalidDest`,
-    /// `SendTimedOut` where the queue is full, `SendNoBuffer` for want of memory, and what `docs/CALLS.md`
-    /// lists.
+    /// A code of a send, with the message given back, so that it can be sent again. It is `SendInvalidDest`,
+    /// `SendTimedOut` where the queue is full, `SendNoBuffer` when out of memory, or another that
+    /// `docs/CALLS.md` lists.
     ///
     /// [`write_message`]: crate::messages::write_message
     pub fn send(&mut self, task: TaskId, message: Bytes) -> Result<(), SendError>
@@ -453,8 +462,8 @@ impl Kernel {
         results::received(self.step(&Event::Receive(task, name, room, large)))
     }
 
-    /// A later try of a receive that was answered [`Receipt::Empty`]: from what it waited for, whatever
-    /// stands under the name now.
+    /// A later try of a receive that was answered [`Receipt::Empty`]: from what it waited for, whatever is
+    /// under the name now.
     ///
     /// # Errors
     /// `ReceivePortDied`: the port or set isn't there; `ReceivePortChanged`: the task hasn't its receive

@@ -1,8 +1,8 @@
 //! Mach 3 port IPC for a program that builds on it: a kernel, its calls, and messages.
 //!
-//! [`Kernel`] is one kernel: tasks, their names, ports and queued messages. It has a method for each call
-//! of a task, in Mach's order of arguments. A message is made of its fields by [`messages::write_message`]
-//! and read by [`messages::read_received`]:
+//! [`Kernel`] is one kernel: tasks, their names, ports and queued messages. It has a method for each call of a
+//! task, in Mach's order of arguments, except for `insmember` and `exmember`, which a kernel always refuses.
+//! [`messages::write_message`] makes a message of its fields, and [`messages::read_received`] reads one:
 //!
 //! ```text
 //! let mut kernel = Kernel::new(alloc);
@@ -27,20 +27,20 @@
 //! another right. No kernel has [`Profile::Three`] yet.
 //!
 //! # What is promised
-//! Each method makes one step of the machine of `mach_model`, on the event of its arguments, and its result
-//! is the reply of that step: `specs/Results` says which reply each `Ok` and each `Err` stands for, and
-//! `specs/Steps` what a step promises. An `Err` is a code by which the machine refuses the call, never that
-//! of success, and leaves the state. No reply of another kind can come. [`run_with`] makes a list of calls, of
-//! which all is true that `mach_laws`' `Headline` says.
+//! Each method makes one step of the machine of `mach_model`, on the event of its arguments. Its result is the
+//! reply of that step. `specs/Results` says which reply each `Ok` and each `Err` stands for, and `specs/Steps` what
+//! a step promises. An `Err` is a code by which the machine refuses the call, never that of success, and leaves the
+//! state. No reply of another kind can come. [`run_with`] makes a list of calls, and all that `mach_laws`'
+//! `Headline` says is true of them.
 //!
 //! # Threads
-//! Nothing here but [`threads`] takes a lock or waits, and a kernel may be moved from thread to thread. For
-//! one kernel that many threads use, with its history and message calls that wait, take [`threads`].
+//! Nothing here but [`threads`] takes a lock or waits, and a kernel may be moved from thread to thread. Use
+//! [`threads`] for one kernel that many threads use, with its history and message calls that wait.
 //!
 //! # Memory
-//! A kernel takes memory from the global allocator as its tables grow, and gives it back when it is let go.
-//! Names, ports and messages that are gone leave their places for later ones. Want of memory is an ordinary
-//! answer, by the code that the call has for it; no call aborts. The calls that take none say so.
+//! A kernel takes memory from the global allocator as its tables grow, and gives it back when it is dropped. Names,
+//! ports and messages that are gone leave their places for later ones. A call that is out of memory returns its code
+//! for that; no call aborts. The calls that take none say so.
 #![tactic(auto)]
 
 mod kernel;

@@ -3,7 +3,7 @@
 //! [`write_message`] makes the bytes of a message, which a send takes, or says by which code a send of those
 //! fields would be refused. [`read_received`] reads the bytes of a receipt into a header and raw bytes, or
 //! items of data and of names, and copies none of the data. What is written and received is read as it was
-//! written, but for the names, which are the receiver's.
+//! written, except for the names, which are the receiver's.
 ghost use Rattle.std.specs.Prelude.{◌≡◌};
 ghost use Rattle.gelvonds.specs.Results.{unwritten};
 
@@ -14,8 +14,8 @@ pub use message_codec::{
     ReceivedPorts, SendBody, SendHeader, SendItem, WriteError, read_received, write_message,
 };
 
-/// The code that a send would give for why a message was not made: that of its fault, or `SendNoBuffer`
-/// for want of memory.
+/// The code that a send would give for why a message was not made: that of its fault, or `SendNoBuffer` when
+/// out of memory.
 pub fn unwritten_code(error: WriteError) -> Code
     ensures { result ≡ unwritten error }
 {

@@ -35,8 +35,9 @@ impl Notification {
 pub struct NotificationRequest {
     /// Of what it tells.
     pub notification: Notification,
-    /// For [`Notification::NoSenders`] the least make-send count with which it is told at once that there
-    /// are no senders; for [`Notification::DeadName`] not 0 where a death that is past may be told; else 0.
+    /// For [`Notification::NoSenders`], the least make-send count with which the notice comes at once where
+    /// there are no senders. For [`Notification::DeadName`], not 0 where a death that is past may be told.
+    /// Else 0.
     pub sync: u32,
     /// By which right the notice goes: a send-once right that is moved or made. `None` takes the request
     /// away.

@@ -7,7 +7,7 @@ use crate::handle::Handle;
 use mach_types::{Event, MsgReturn, Reply};
 use std::alloc::Global;
 
-/// Makes the call by the kernel that the handle holds, and answers it; `None` where it holds none.
+/// Makes the call by the kernel that the handle holds, and returns its reply; `None` where it holds none.
 ///
 /// The handle holds the same kernel after it. Takes no memory but what the kernel takes.
 #[inline(always)]
@@ -24,7 +24,7 @@ pub fn call(alloc: Global, handle: &mut Handle, event: &Event) -> Option<Reply>
     }
 }
 
-/// Makes a call that answers a code.
+/// Makes a call that returns a code.
 #[inline(always)]
 pub fn code(alloc: Global, handle: &mut Handle, event: &Event) -> i32
     ensures { Asks handle.old.kernel event.now result handle.new.kernel }
@@ -32,7 +32,7 @@ pub fn code(alloc: Global, handle: &mut Handle, event: &Event) -> i32
     code_of(&call(alloc, handle, event))
 }
 
-/// Makes a call that answers a number, and writes that, where it isn't refused.
+/// Makes a call that returns a number, and writes that, where it isn't refused.
 pub fn number(alloc: Global, handle: &mut Handle, event: &Event, out: &mut u32) -> i32
     ensures { Tells handle.old.kernel event.now result handle.new.kernel out.old out.new }
 {

@@ -54,7 +54,7 @@ pub extern "C" fn gelvonds_free(alloc: Global, handle: &mut Handle)
     drop(handle.take(alloc));
 }
 
-/// Makes a kernel, and answers the code for C; where the handle holds one that stays, and `None` makes none.
+/// Makes a kernel, and returns the code for C; where the handle holds one that stays, and `None` makes none.
 fn make(alloc: Global, handle: &mut Handle, profile: Option<Profile>) -> i32
     requires one_set { profile ≢ Some Three }
     ensures { Makes profile handle.old.kernel result handle.new.kernel }

@@ -112,7 +112,7 @@ fn waited_for(waited: &Waited) -> WaitedFor {
     }
 }
 
-/// Writes what a receive answers, and answers its code.
+/// Writes what a receive answers, and returns its code.
 #[inline(always)]
 fn received(
     reply: &Option<Reply>,

@@ -49,7 +49,7 @@ fn tasks_end(rt: &impl Abort, kernel: &mut Kernel) {
     assert!(rt; has_names(kernel, client(), &[]));
 }
 
-/// Whether the task has just these names, with these types.
+/// Returns whether the task has just these names, with these types.
 fn has_names(kernel: &mut Kernel, task: TaskId, types: &[(Name, u32)]) -> bool {
     match kernel.names(task) {
         Ok(names) => names.as_slice() == types,
@@ -134,7 +134,8 @@ fn numbers_are_set(rt: &impl Abort, kernel: &mut Kernel) {
     assert!(rt; has_numbers(rt, kernel, one));
 }
 
-/// Whether the status tells the numbers that were set, and that of the next message that is set first.
+/// Returns whether the status tells the numbers that were set, and that of the next message that is set
+/// first.
 fn has_numbers(rt: &impl Abort, kernel: &mut Kernel, name: Name) -> bool {
     assert!(rt; kernel.set_seqno(server(), name, 5) == Ok(()));
     assert!(rt; kernel.set_seqno(client(), name, 5) == Err(KernReturn::InvalidRight));
@@ -171,7 +172,7 @@ fn members_are_told(rt: &impl Abort, kernel: &mut Kernel, member: Name, set: Nam
     assert!(rt; kernel.receive(server(), member, 24, false) == Err(in_set));
 }
 
-/// Whether the server's set has just these members.
+/// Returns whether the server's set has just these members.
 fn has_members(kernel: &mut Kernel, set: Name, members: &[Name]) -> bool {
     match kernel.set_status(server(), set) {
         Ok(names) => names.as_slice() == members,

@@ -29,7 +29,7 @@ fn has_two(kernel: &mut Kernel) -> bool {
         && comes_under_two(kernel, one, Disposition::MakeSendOnce)
 }
 
-/// Whether a send-once right of what stands under the name comes under 2.
+/// Returns whether a send-once right of what is under the name comes under 2.
 fn comes_under_two(kernel: &mut Kernel, name: Name, disposition: Disposition) -> bool {
     let two = ExtractedRight {
         name: Name::new(2),

@@ -33,7 +33,7 @@ fn names_by_typed_calls(rt: HostRuntime) -> Result<(), Fail> {
     message_goes(&rt, rt.alloc(), &mut kernel)
 }
 
-/// Whether a dead name comes under this fresh name.
+/// Returns whether a dead name comes under this fresh name.
 fn comes_under(kernel: &mut Kernel, name: u32) -> bool {
     kernel.allocate(server(), Right::DeadName) == Ok(Name::new(name))
 }

@@ -11,7 +11,7 @@ pub(crate) fn client() -> TaskId {
     TaskId::new(1)
 }
 
-/// The right that this disposition makes of what stands under this name.
+/// The right that this disposition makes of what is under this name.
 pub(crate) fn by(disposition: Disposition, name: u32) -> PortRight {
     PortRight {
         disposition,

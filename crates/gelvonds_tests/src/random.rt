@@ -178,7 +178,7 @@ fn deliver(
     }
 }
 
-/// The right to answer with goes; where it is a send-once right the client is told, and takes the notice.
+/// The reply right goes; where it is a send-once right the client is told, and takes the notice.
 fn lose_reply(kernel: &mut Kernel, header: &SendHeader) -> Result<bool, Code> {
     match header.reply {
         None => Ok(true),
@@ -250,7 +250,7 @@ fn has_body(sent: &SendBody<'_>, got: &ReceivedBody<'_>) -> bool {
     }
 }
 
-/// Whether these bytes are read as the fields that were sent.
+/// Returns whether these bytes are read as the fields that were sent.
 fn is_same(header: &SendHeader, body: &SendBody<'_>, bytes: &[u8]) -> bool {
     match read_received(bytes) {
         Some(message) => {
@@ -268,8 +268,8 @@ fn add(sum: u32, bytes: &[u8]) -> u32 {
     sum
 }
 
-/// The message is made, sent and received, and its right to answer with is lost: its bytes, where they are
-/// read as the fields that were sent.
+/// The message is made, sent and received, and its reply right is lost: its bytes, where they are read as the
+/// fields that were sent.
 fn exchange(
     kernel: &mut Kernel,
     alloc: Global,

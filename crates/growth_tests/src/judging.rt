@@ -7,9 +7,9 @@ use std::fmt;
 pub enum Fault {
     /// Memory that the test itself needs was refused.
     Memory,
-    /// A reply is neither the row's, nor the call's own code for want of memory, nor `NoRecord`.
+    /// A reply is neither the row's, nor the call's own code for out of memory, nor `NoRecord`.
     OtherReply,
-    /// A call tells of want of memory though no growth was refused.
+    /// A call says out of memory though no growth was refused.
     NoneRefused,
     /// A growth that is asked for without a refusal isn't asked for.
     NotAsked,

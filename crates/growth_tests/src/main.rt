@@ -24,9 +24,9 @@ use std::sync::Wait;
 use std::thread::Threads;
 use sweeping::sweep;
 
-/// Refuses each growth of each row in turn, by `Kernel::step` and by `step_locked`; all growths at calls that take no
-/// memory; and each growth of `run`, and each growth and each thread of `run_blocks`. Writes one line: how many were
-/// refused, and what was not as it should be.
+/// Refuses each growth of each row in turn, by `Kernel::step` and by `step_locked`. Refuses all growths at
+/// calls that take no memory. Refuses each growth of `run`, and each growth and each thread of `run_blocks`.
+/// Writes one line: how many were refused, and what was not as it should be.
 fn each_growth_refused<R: AllocGlobal + Threads + Wait + Sync, W: Write>(
     rt: &R,
     out: &mut W,

@@ -61,7 +61,8 @@ impl Tried {
         }
     }
 
-    /// Whether the history has so many entries, and the board shows that number. Always so of a kernel by itself.
+    /// Returns whether the history has so many entries, and the board shows that number. Always so of a
+    /// kernel by itself.
     pub fn has_recorded<R: Wait>(&mut self, rt: &R, calls: usize) -> bool {
         match self.side {
             Side::Step => true,

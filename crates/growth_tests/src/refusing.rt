@@ -38,7 +38,7 @@ pub fn refuse_thread(alloc: Global, at: usize) {
     is_given(alloc, THREAD | at);
 }
 
-/// Whether `at` growths or more were asked for since the count began.
+/// Returns whether `at` growths or more were asked for since the count began.
 pub fn is_asked(alloc: Global, at: usize) -> bool {
     is_given(alloc, WHERE_COUNTED | at);
     !is_given(alloc, 1)

@@ -116,7 +116,7 @@ fn judge_rest<R: AllocGlobal + Wait>(
     }
 }
 
-/// Judges a reply to the call that isn't the row's: it is to tell of want of memory, and a growth was refused.
+/// Judges a reply to the call that isn't the row's: it is to say out of memory, and a growth was refused.
 fn judge_reply(side: Side, event: &Event, reply: &Reply, asked: bool) -> Result<(), Fault> {
     let tells = match reply {
         Reply::NoRecord => side == Side::Locked,
@@ -130,7 +130,7 @@ fn judge_reply(side: Side, event: &Event, reply: &Reply, asked: bool) -> Result<
     }
 }
 
-/// The call's own code for want of memory; `None` where it takes no memory.
+/// The call's own code for out of memory; `None` where it takes no memory.
 pub fn memory_code(event: &Event) -> Option<u32> {
     match event {
         Event::TaskTerminate(_)

@@ -2,7 +2,8 @@
 use super::*;
 use std::test::*;
 
-/// A row that isn't answered as it should be, or a code for want of memory where no growth was refused, fails here.
+/// A row that isn't answered as it should be, or a code for out of memory where no growth was refused, fails
+/// here.
 #[test]
 fn each_growth_refused(rt: HostRuntime) {
     let mut line = Vec::new(rt.alloc());

@@ -118,17 +118,19 @@ impl Kernel {
         bound::most_told(&self.world, event)
     }
 
-    /// Makes one call of a task, whole, and answers it.
+    /// Makes one call of a task, whole, and returns its reply.
     ///
-    /// A refusal is answered by its code and leaves the state that the kernel shows; so is want of
-    /// memory, which is answered only where the call may want some: `specs/Wanted` says where. Room for
-    /// one name that was made first may stay. A message slot is spare for each send-once right that no
-    /// queued message goes by, so that what comes by the right has one; slots are made only for an
-    /// accepted message and for such rights that are made, where fewer are spare. An accepted message
-    /// uses one, and so does a notice; it is spare again once the message was received or destroyed.
+    /// A refusal returns its code and leaves the state that the kernel shows. So does a call that is out of
+    /// memory, and only where the call may want some: `specs/Wanted` says where. Room for one name that was
+    /// made first may stay.
     ///
-    /// A receipt by a set takes from the member whose turn it is, which then has its turn after all others
-    /// that are ready (`specs/InTurn`).
+    /// A message slot is spare for each unused send-once right, so that what is sent to the right has one.
+    /// Slots are made where fewer are spare, and only for an accepted message and for send-once rights that
+    /// are made. An accepted message uses one slot, and so does a notice. It is spare again once the message
+    /// was received or destroyed.
+    ///
+    /// A receive by a set takes from the member whose turn it is. That member then has its turn after all
+    /// others that are ready (`specs/InTurn`).
     #[inline(always)]
     pub fn step(&mut self, event: &Event) -> Reply
         ensures answers { Answers self.old.tables event.now result self.new.tables }
@@ -154,17 +156,18 @@ impl Kernel {
         }
     }
 
-    /// The code by which want of memory may refuse the call now; `None` where it never may.
+    /// Returns the code by which the call may now be refused when out of memory; `None` where it never may
+    /// be.
     ///
-    /// A step of the call may be refused with this code, and changes nothing then: at the calls that may
-    /// take memory, where nothing else refuses them. A send may be once its bytes are a message, whatever
-    /// its rights are; a receipt where a message that it may take fits, and the task's names suffice for
-    /// its rights: of a set's members, where that is so of any. So whoever has a history can tell whether
-    /// such a refusal in it is one that the machine allows. Nothing changes.
+    /// A step of the call may be refused with this code, and changes nothing then. Only calls that may take
+    /// memory have such a code, where nothing else refuses them. A send has it once its bytes are a message,
+    /// whatever its rights are. A receive has it where a message that it may take fits, and the task's names
+    /// suffice for its rights; by a set, where that is so of any member. So the reader of a history can tell
+    /// whether the machine allows such a refusal in it. Nothing changes.
     ///
-    /// An error means that memory was refused: for the list of a set's members, where the call receives
-    /// by a set. Constant time, and logarithmic for a name above 65,535; but linear in a message that is
-    /// sent, in the rights of one that may be received, and in the members of a set.
+    /// An error means that memory was refused for the list of a set's members, where the call receives by a
+    /// set. Constant time, and logarithmic for a name above 65,535. But linear in a message that is sent, in
+    /// the rights of one that may be received, and in the members of a set.
     pub fn memory_code(&self, event: &Event) -> Result<Option<u32>, AllocError>
         ensures ok { IfOk result (λ code. TellsMemoryCode self.now.tables event.now code) }
         ensures err { OnErr result ((s : State) → Shows self.now.tables s → IsBySet s event.now) }
@@ -176,7 +179,8 @@ impl Kernel {
         }
     }
 
-    /// Whether the limit of rights surely doesn't refuse the call by the code that tells of want of memory.
+    /// Returns whether the limit of rights surely doesn't refuse the call by the code that tells of want of
+    /// memory.
     ///
     /// A send is refused by `MACH_SEND_NO_BUFFER` at the limit, and where memory is wanted. This answers
     /// `false` where the kernel's rights, with one more for each port word that the message's bytes have room
@@ -188,11 +192,11 @@ impl Kernel {
         has_room_for(&self.world, event)
     }
 
-    /// Where the call receives by a set, gives the turn there to the member that its task has under this
-    /// name, if that has a message: a receipt by the set takes from it next.
+    /// Gives the turn in a set to the member that the call's task has under this name. It does so where the
+    /// call receives by the set and that member has a message. A receive by the set takes from it next.
     ///
-    /// From which member a receipt takes is a choice that the machine leaves open, so each state that the
-    /// kernel showed it shows still. Nothing changes where the call doesn't receive by a set, or has no such
+    /// From which member a receive takes is a choice that the machine leaves open, so the kernel still shows
+    /// each state that it showed. Nothing changes where the call doesn't receive by a set, or has no such
     /// member. Takes no memory. Linear in the members that have messages and whose turn came before.
     pub fn give_turn(&mut self, event: &Event, member: Name)
         ensures same { SameButTurns self.old.tables self.new.tables }
@@ -213,7 +217,7 @@ impl Kernel {
     }
 }
 
-/// A message slot is spare for each send-once right that no queued message goes by: before a step, after
+/// A message slot is spare for each send-once right to which no queued message was sent: before a step, after
 /// the call's own part of it, and after it.
 fn check_slots(world: &World)
     requires { SlotsSuffice world.now }
@@ -247,7 +251,7 @@ fn check_tasks(world: &World, event: &Event) -> Result<(), KernReturn>
     }
 }
 
-/// Whether the tasks that the call names live: none, one, or the two that a right is handed between.
+/// Returns whether the tasks that the call names live: none, one, or the two that a right is handed between.
 /// Constant time.
 #[inline(always)]
 fn has_tasks(world: &World, event: &Event) -> bool
@@ -283,14 +287,14 @@ fn has_tasks(world: &World, event: &Event) -> bool
     }
 }
 
-/// Whether the task lives. Constant time.
+/// Returns whether the task lives. Constant time.
 fn lives(world: &World, task: TaskId) -> bool
     ensures { MatchBool result (HasTask world.now task) (¬ (HasTask world.now task)) }
 {
     world.has_task(task)
 }
 
-/// Whether both tasks live. Constant time.
+/// Returns whether both tasks live. Constant time.
 fn live_both(world: &World, task: TaskId, other: TaskId) -> bool
     ensures { MatchBool result (HasTask world.now task × HasTask world.now other) (¬ (HasTask world.now task × HasTask world.now other)) }
 {

@@ -1,4 +1,4 @@
-//! Where want of memory may refuse a call.
+//! Where a call may be refused as out of memory.
 ghost use Rattle.std.specs.Prelude.{◌≡◌, ℕ, ◌+◌, ◌-◌, ◌/◌, ◌<◌, ◌≤◌, Bool, IfOk, OnErr, MatchBool, Contains};
 ghost use Rattle.mach_types.specs.declared.calls.Event.{Event as AnyEvent};
 ghost use Rattle.mach_types.specs.declared.calls.Waited.TheVariants as AnyWaited;
@@ -31,7 +31,7 @@ use notifications::{Asked, check_request};
 use std::alloc::{AllocError, Global};
 use transfer::{TaskName, judge_extract, judge_insert};
 
-/// The code by which want of memory may refuse the call, whose tasks live; `None` where it never may.
+/// The code by which the call, whose tasks live, may be refused as out of memory; `None` where it never may be.
 ///
 /// An error means that memory was refused, which is wanted for the list of a set's members. Linear in a
 /// message that is sent, and in the members of a set and the rights of their front messages.
@@ -52,7 +52,7 @@ pub(crate) fn tell_memory_code(
     }
 }
 
-/// The code that tells of want of memory.
+/// The code that says out of memory.
 fn memory_code(event: &Event) -> Code
     ensures { code_number result ≡ memory_code event.now }
 {
@@ -65,7 +65,7 @@ fn memory_code(event: &Event) -> Code
     }
 }
 
-/// Whether want of memory may refuse the call.
+/// Whether the call may be refused as out of memory.
 fn may_lack_memory(world: &World, alloc: Global, event: &Event) -> Result<bool, AllocError>
     requires there { HasTasks world.now event.now }
     requires stands { Stands world.now }
@@ -84,8 +84,8 @@ fn may_lack_memory(world: &World, alloc: Global, event: &Event) -> Result<bool, 
 
 // ---- kernel calls
 
-/// Whether want of memory may refuse a call that is no message call: where nothing else refuses it, and
-/// it may take memory.
+/// Returns whether a call that is no message call may be refused as out of memory: where nothing else refuses
+/// it, and it may take memory.
 fn may_lack_room(world: &World, event: &Event) -> bool
     requires there { HasTasks world.now event.now }
     requires stands { Stands world.now }
@@ -124,8 +124,8 @@ fn may_lack_room(world: &World, event: &Event) -> bool
 
 // ---- sends
 
-/// Whether the bytes are a message: it may be refused for want of memory whatever its rights are. Want
-/// of memory to read them says that they are one.
+/// Returns whether the bytes are a message: it may be refused when out of memory whatever its rights are.
+/// Out of memory while it reads them means that they are one.
 fn is_message(alloc: Global, bytes: &Bytes) -> bool
     ensures { MatchBool result (IsMessage bytes.now) (¬ (IsMessage bytes.now)) }
 {
@@ -135,8 +135,8 @@ fn is_message(alloc: Global, bytes: &Bytes) -> bool
     }
 }
 
-/// Whether there may be as many rights more as a message has port words, where the call sends one: two
-/// of the header's six words, and those of the body.
+/// Returns whether there may be as many rights more as a message has port words, where the call sends one:
+/// two of the header's six words, and those of the body.
 pub(crate) fn has_room_for(world: &World, event: &Event) -> bool
     ensures { MatchBool result (HasRoomFor world.now event.now) (IsNearLimit world.now event.now) }
 {
@@ -153,7 +153,7 @@ fn sent_length(event: &Event) -> usize
     }
 }
 
-/// Whether there may be as many rights more as so many bytes of a message have port words.
+/// Returns whether there may be as many rights more as so many bytes of a message have port words.
 fn has_room(world: &World, bytes: usize) -> bool
     ensures { MatchBool result (world.now.ledger.total + (bytes - 16) / 4 ≤ most_rights) (most_rights < world.now.ledger.total + (bytes - 16) / 4) }
 {
@@ -163,7 +163,7 @@ fn has_room(world: &World, bytes: usize) -> bool
 
 // ---- receipts
 
-/// Whether want of memory may refuse a receipt by the name.
+/// Whether a receive by the name may be refused as out of memory.
 fn may_lack_named(
     world: &World,
     alloc: Global,
@@ -182,7 +182,7 @@ fn may_lack_named(
     }
 }
 
-/// Whether want of memory may refuse a receipt from what was waited for.
+/// Whether a receive from what was waited for may be refused as out of memory.
 fn may_lack_again(
     world: &World,
     alloc: Global,
@@ -201,7 +201,7 @@ fn may_lack_again(
     }
 }
 
-/// Whether a message that the task may take may stay for want of memory alone: that of the port, or of
+/// Whether a message that the task may take may stay for lack of memory alone: that of the port, or of
 /// any member of the set.
 fn may_stay(
     world: &World,
@@ -225,7 +225,7 @@ fn may_stay(
     }
 }
 
-/// Whether one of the ports has a message that only want of memory could keep from the task.
+/// Returns whether one of the ports has a message that only lack of memory could keep from the task.
 fn is_one_receivable(world: &World, task: TaskId, ports: &[PortId], room: u32) -> bool
     requires there { HasTask world.now task }
     requires stands { Stands world.now }
@@ -239,7 +239,7 @@ fn is_one_receivable(world: &World, task: TaskId, ports: &[PortId], room: u32) -
     false
 }
 
-/// Whether the port has a message that only want of memory could keep from the task.
+/// Returns whether the port has a message that only lack of memory could keep from the task.
 fn is_receivable(world: &World, task: TaskId, port: PortId, room: u32) -> bool
     requires there { HasTask world.now task }
     requires stands { Stands world.now }

@@ -40,13 +40,13 @@ impl Buffer {
     }
 }
 
-/// `Receive` (IPC Interface, `mach_msg` with `MACH_RCV_MSG`): a message from the port whose receive
-/// right is under the name, or from the member of the port set under it whose turn it is
-/// (`specs/InTurn`). A message that is longer than the room stays if that was asked for, and is destroyed
-/// otherwise. The task lives. A refusal leaves all as it was.
+/// `Receive` (IPC Interface, `mach_msg` with `MACH_RCV_MSG`): a message from the port whose receive right is
+/// under the name. By a port set's name, a message from the member whose turn it is (`specs/InTurn`). A
+/// message that is longer than the room stays if that was asked for, and is destroyed otherwise. The task
+/// lives. A refusal leaves all as it was.
 ///
-/// Errors, of which the first is answered: `MACH_RCV_INVALID_NAME` for a name without a receive right
-/// or a set; `MACH_RCV_IN_SET` for a port that is in a set; then as [`take`].
+/// Errors, of which the first is returned: `MACH_RCV_INVALID_NAME` for a name without a receive right or a
+/// set; `MACH_RCV_IN_SET` for a port that is in a set; then as [`take`].
 pub(crate) fn receive(
     world: &mut World,
     alloc: Global,
@@ -71,13 +71,15 @@ pub(crate) fn receive(
     Ok(take(world, alloc, task, origin, buffer)?)
 }
 
-/// `ReceiveAgain` (IPC Interface, `mach_msg` with `MACH_RCV_MSG`, as it goes on once it has waited): a
-/// later try by one that found no message. It goes by identity, whatever became of the name. The task
-/// lives. A refusal leaves all as it was.
+/// `ReceiveAgain` (IPC Interface, `mach_msg` with `MACH_RCV_MSG`, as it goes on once it has waited): a later
+/// try by a receive that found no message. It goes by identity, whatever became of the name. The task lives.
+/// A refusal leaves all as it was.
 ///
-/// Errors, of which the first is answered: `MACH_RCV_PORT_DIED` where the port or set isn't there;
-/// `MACH_RCV_PORT_CHANGED` where the task has neither the port's receive right nor the set, or the port
-/// is in a set; then as [`take`].
+/// Errors, of which the first is returned:
+/// - `MACH_RCV_PORT_DIED`: the port or set isn't there.
+/// - `MACH_RCV_PORT_CHANGED`: the task has neither the port's receive right nor the set, or the port is in a
+///   set.
+/// - Then those of [`take`].
 pub(crate) fn receive_again(
     world: &mut World,
     alloc: Global,
@@ -105,7 +107,7 @@ pub(crate) fn receive_again(
 
 // ---- where from
 
-/// What a receipt takes from.
+/// What a receive takes from.
 #[derive(Clone, Copy)]
 struct Origin {
     /// What the task waits for.
@@ -183,7 +185,7 @@ fn port_source(world: &World, port: PortId) -> Result<Source, MsgReturn>
     })
 }
 
-/// Whether the task may still take from what it waited for.
+/// Checks that a retried receive is still allowed.
 pub(crate) fn judge_again(world: &World, task: TaskId, waited: &Waited) -> Result<(), MsgReturn>
     requires { HasTask world.now task }
     ensures ok { IfOk result (λ _. IsAllowed world.now (λ s. again_guards s task waited.now)) }
@@ -224,7 +226,7 @@ fn judge_set(world: &World, task: TaskId, set: SetId) -> Result<(), MsgReturn>
     Ok(())
 }
 
-/// Whether the port, which is there, is in a set.
+/// Returns whether the port, which is there, is in a set.
 fn is_member(world: &World, port: PortId) -> bool
     requires { is_some (port_at world.now port) ≡ true }
     ensures { MatchBool result (IsMember world.now port) (IsAlone world.now port) }
@@ -232,7 +234,7 @@ fn is_member(world: &World, port: PortId) -> bool
     world.attributes(port).set.is_some()
 }
 
-/// Whether the task has the port's receive right.
+/// Returns whether the task has the port's receive right.
 fn has_receive(world: &World, task: TaskId, port: PortId) -> bool
     requires { HasTask world.now task }
     ensures { MatchBool result ((name : ℕ) × FindsReceive world.now task name port) (¬ ((name : ℕ) × FindsReceive world.now task name port)) }
@@ -298,7 +300,7 @@ fn lose_or_keep(world: &mut World, port: PortId, large: bool)
     }
 }
 
-/// The port that a receipt takes its message from, if one has any: of a set's, the one whose turn it is.
+/// The port that a receive takes its message from, if one has any: of a set's, the one whose turn it is.
 #[inline(always)]
 fn ready(world: &World, waited: &Waited) -> Option<PortId>
     ensures ready { MatchOption result (NoneWaits world.now waited.now) (HasMessage world.now waited.now) }

@@ -22,16 +22,17 @@ pub fn run(alloc: Global, events: Vec<Event>) -> Result<(Kernel, Vec<Reply>), Al
     run_with(alloc, Profile::One, events)
 }
 
-/// Makes these calls on a new kernel of this profile, one after another, and gives the kernel that they
-/// leave with their answers in order. They are a run of the machine by the profile, to a state that the
-/// kernel shows, and all is true of it that `mach_laws`' `Headline` says: what received messages mean, in
-/// which order they come, and that each live port has one receive right. Its stages are judged right
-/// (`JudgedPath`). The kernel has a spare message slot for each send-once right that no queued message goes
-/// by, and its spare slots and its queued messages are together no more than there were ever queued
-/// messages and such rights (`SlotsWithin`).
+/// Makes these calls on a new kernel of this profile, one after another. Returns the kernel that they leave,
+/// with their replies in order.
 ///
-/// An error means that memory for the list of answers was refused. Where a step is refused memory,
-/// that is its answer, and the run goes on.
+/// They are a run of the machine by the profile, to a state that the kernel shows. All that `mach_laws`'
+/// `Headline` says is true of the run: what received messages mean, in which order they come, and that each
+/// live port has one receive right. Its stages are judged right (`JudgedPath`). The kernel has a spare
+/// message slot for each unused send-once right. Its spare slots and queued messages together are no more
+/// than there ever were queued messages and unused send-once rights (`SlotsWithin`).
+///
+/// An error means that memory for the list of replies was refused. Where a step is refused memory, that is
+/// its reply, and the run goes on.
 pub fn run_with(
     alloc: Global,
     profile: Profile,

@@ -18,13 +18,14 @@ use mach_types::{Bytes, MsgReturn, Reply, TaskId};
 use message_codec::{Lone, Plain, Request, parse, parse_lone, parse_plain, parse_request};
 use std::alloc::Global;
 
-/// `Send` (IPC Interface, `mach_msg` with `MACH_SEND_MSG`). The task lives. A refusal leaves all as it
-/// was.
+/// `Send` (IPC Interface, `mach_msg` with `MACH_SEND_MSG`). The task lives. A refusal leaves all as it was.
 ///
-/// Errors, of which the first is answered: those of the text, as [`message_codec::parse`]; those of its
-/// rights and of the message as a whole, as [`copyin::check`]; `MACH_SEND_NO_BUFFER` where memory was
-/// refused for the slots that it wants. Linear in the message, but for what [`copyin::check`] says of each
-/// right.
+/// Errors, of which the first is returned:
+/// - those of the text, as [`message_codec::parse`];
+/// - those of its rights and of the message as a whole, as [`copyin::check`];
+/// - `MACH_SEND_NO_BUFFER`: memory was refused for the slots that it wants.
+///
+/// Linear in the message, except for what [`copyin::check`] says of each right.
 pub(crate) fn send(
     world: &mut World,
     alloc: Global,
@@ -59,7 +60,7 @@ fn send_text(world: &mut World, alloc: Global, task: TaskId, bytes: &[u8]) -> Re
     }
 }
 
-/// Sends a message that has no right to answer with, and a body of raw bytes.
+/// Sends a message that has no reply right, and a body of raw bytes.
 fn send_plain(
     world: &mut World,
     alloc: Global,
@@ -81,7 +82,7 @@ fn send_plain(
     }
 }
 
-/// Sends what isn't such a message: most others carry a right to answer with, and no rights of a body.
+/// Sends what isn't such a message: most others carry a reply right, and no rights of a body.
 fn send_carrying(
     world: &mut World,
     alloc: Global,
@@ -101,7 +102,7 @@ fn send_carrying(
     }
 }
 
-/// Sends a message that has a right to answer with, and a body of raw bytes.
+/// Sends a message that has a reply right, and a body of raw bytes.
 fn send_request(
     world: &mut World,
     alloc: Global,

@@ -43,16 +43,18 @@ enum NewRight {
     DeadName,
 }
 
-/// `Allocate` (Port Manipulation Interface, `mach_port_allocate`): what the right's number says, under a
-/// fresh name. A receive right, number 1, is of a new port; a port set, number 3, is new and of no
-/// ports; a dead name, number 4, has one reference. The task lives.
+/// `Allocate` (Port Manipulation Interface, `mach_port_allocate`): makes what the right's number says, under
+/// a fresh name. A receive right, number 1, is of a new port. A port set, number 3, is new and has no ports.
+/// A dead name, number 4, has one reference. The task lives.
 ///
-/// `KERN_INVALID_VALUE` for another number; `KERN_NO_SPACE` where the task has 65,535 names, for a
-/// port also where there are 4,294,967,295 rights, and for a port or a set where all its identities
-/// were given; `KERN_RESOURCE_SHORTAGE` for want of memory, of which a dead name takes none where
-/// there is room for its name. A refusal leaves all as it was, but that room for one name may have
-/// been made. Constant time, and logarithmic for a name above 65,535, but where tables move to a
-/// larger place.
+/// # Errors
+/// A refusal leaves all as it was, except that room for one name may have been made.
+/// - `KERN_INVALID_VALUE`: another number.
+/// - `KERN_NO_SPACE`: the task has 65,535 names; for a port also, there are 4,294,967,295 rights; for a port
+///   or a set also, all its identities were given.
+/// - `KERN_RESOURCE_SHORTAGE`: out of memory. A dead name takes none where there is room for its name.
+///
+/// Constant time, and logarithmic for a name above 65,535, except where tables move to a larger place.
 #[inline(always)]
 pub fn allocate(world: &mut World, task: TaskId, right: u32) -> Result<Reply, Code>
     requires there { HasTask world.old task }
@@ -69,12 +71,12 @@ pub fn allocate(world: &mut World, task: TaskId, right: u32) -> Result<Reply, Co
     Ok(Reply::Name(name))
 }
 
-/// `AllocateName` (Port Manipulation Interface, `mach_port_allocate_name`): as [`allocate`], under the
-/// name that is given.
+/// `AllocateName` (Port Manipulation Interface, `mach_port_allocate_name`): as [`allocate`], under the name
+/// that is given.
 ///
-/// `KERN_INVALID_VALUE` for another number, and for the names 0 and 0xffffffff; `KERN_NAME_EXISTS`
-/// where the task uses the name; then as [`allocate`], also in cost, but that a dead name takes no
-/// memory where a place is kept for this very name, and that a refusal may leave a place kept for it.
+/// `KERN_INVALID_VALUE` for another number, and for the names 0 and 0xffffffff. `KERN_NAME_EXISTS` where the
+/// task uses the name. Then as [`allocate`], also in cost, with two differences. A dead name takes no memory
+/// where a place is kept for this very name. A refusal may leave a place kept for it.
 pub fn allocate_name(world: &mut World, task: TaskId, right: u32, name: Name) -> Result<Reply, Code>
     requires there { HasTask world.old task }
     requires stands { Stands world.old }
@@ -89,7 +91,7 @@ pub fn allocate_name(world: &mut World, task: TaskId, right: u32, name: Name) ->
 }
 
 /// Whether the right may be made under a fresh name, where there is memory: as [`allocate`] refuses it,
-/// but for want of memory. The task lives. Constant time.
+/// except when out of memory. The task lives. Constant time.
 pub fn check_allocate(world: &World, task: TaskId, right: u32) -> Result<(), KernReturn>
     requires { HasTask world.now task }
     ensures ok { OnOk result (IsAllowed world.now (λ s. call_guards s (Event.Allocate task right))) }
@@ -100,7 +102,7 @@ pub fn check_allocate(world: &World, task: TaskId, right: u32) -> Result<(), Ker
 }
 
 /// Whether the right may be made under the name, where there is memory: as [`allocate_name`] refuses it,
-/// but for want of memory. The task lives. Constant time, and logarithmic for a name above 65,535.
+/// except when out of memory. The task lives. Constant time, and logarithmic for a name above 65,535.
 pub fn check_allocate_name(
     world: &World,
     task: TaskId,
@@ -261,9 +263,8 @@ pub fn name_type(world: &World, task: TaskId, name: Name) -> Result<Reply, Code>
 /// `Names` (Port Manipulation Interface, `mach_port_names`): the names of the task with their types,
 /// names rising. The task lives.
 ///
-/// `KERN_RESOURCE_SHORTAGE` for want of memory, of which it takes 12 bytes for each name, and none
-/// where there are no names. Linear in the names of the task, but for a logarithmic look at each above
-/// 65,535.
+/// `KERN_RESOURCE_SHORTAGE` when out of memory. It takes 12 bytes for each name, and none where there are no
+/// names. Linear in the names of the task, except for a logarithmic look at each above 65,535.
 pub fn list_names(world: &World, alloc: Global, task: TaskId) -> Result<Reply, Code>
     requires there { HasTask world.now task }
     requires stands { Stands world.now }
@@ -325,15 +326,18 @@ fn request_bit(requests: &RequestTables, task: TaskId, name: Name) -> u32
     }
 }
 
-/// `Rename` (Port Manipulation Interface, `mach_port_rename`): what is under the first name goes under
-/// the second, and a dead-name request on it along. A set's members, and a port's rights and messages,
-/// stay as they are. The task lives.
+/// `Rename` (Port Manipulation Interface, `mach_port_rename`): moves what is under the first name to the
+/// second, with a dead-name request on it. A set's members, and a port's rights and messages, stay as they
+/// are. The task lives.
 ///
-/// `KERN_INVALID_VALUE` where the second is 0 or 0xffffffff; `KERN_INVALID_NAME` where the first
-/// isn't in use; `KERN_NAME_EXISTS` where the second is, also by the first itself;
-/// `KERN_RESOURCE_SHORTAGE` where no place was kept for the second name and memory for one was
-/// refused. A refusal leaves all as it was. Constant time, and logarithmic for a name above 65,535,
-/// but where memory is taken.
+/// # Errors
+/// A refusal leaves all as it was.
+/// - `KERN_INVALID_VALUE`: the second is 0 or 0xffffffff.
+/// - `KERN_INVALID_NAME`: the first isn't in use.
+/// - `KERN_NAME_EXISTS`: the second is in use, also by the first itself.
+/// - `KERN_RESOURCE_SHORTAGE`: no place was kept for the second name, and memory for one was refused.
+///
+/// Constant time, and logarithmic for a name above 65,535, except where memory is taken.
 pub fn rename(world: &mut World, task: TaskId, from: Name, to: Name) -> Result<Reply, Code>
     requires there { HasTask world.old task }
     requires stands { Stands world.old }
@@ -349,7 +353,7 @@ pub fn rename(world: &mut World, task: TaskId, from: Name, to: Name) -> Result<R
     Ok(Reply::Code(0))
 }
 
-/// Whether the name may be changed so, where there is memory: as [`rename`] refuses it, but for want of
+/// Whether the name may be changed so, where there is memory: as [`rename`] refuses it, except when out of
 /// memory. The task lives. Constant time, and logarithmic for a name above 65,535.
 pub fn check_rename(world: &World, task: TaskId, from: Name, to: Name) -> Result<(), KernReturn>
     requires { HasTask world.now task }

@@ -15,12 +15,12 @@ use mach_types::{KernReturn, Name, PortId, Reply, SetId, Status, TaskId};
 use number_map::NumberMap;
 use port::Attributes;
 
-/// `ReceiveStatus` (Port Manipulation Interface, `mach_port_get_receive_status`): with the name that the
-/// task, which lives, has for the set that the port is in, 0 where it is in none, and with 1 for each
-/// request that stands to be told of the port's receive right, or that it has no senders.
+/// `ReceiveStatus` (Port Manipulation Interface, `mach_port_get_receive_status`): returns the port's status.
+/// It has the name that the task has for the set that the port is in, 0 where it is in none. It has 1 for
+/// each of two requests, if it stands: the port-destroyed request and the no-senders request. The task lives.
 ///
-/// `KERN_INVALID_NAME` for a name that isn't in use; `KERN_INVALID_RIGHT` where it has no receive
-/// right. Constant time, and logarithmic for a name above 65,535.
+/// `KERN_INVALID_NAME` for a name that isn't in use; `KERN_INVALID_RIGHT` where it has no receive right.
+/// Constant time, and logarithmic for a name above 65,535.
 #[tactic(auto, using(crate::proofs::ReceiveRight::has_port, crate::proofs::ReceiveRight::status_told))]
 pub fn receive_status(world: &World, task: TaskId, name: Name) -> Result<Reply, Code>
     requires there { HasTask world.now task }

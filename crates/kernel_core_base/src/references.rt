@@ -288,14 +288,13 @@ fn whole_loss(port: PortId, held: u32) -> Loss
     }
 }
 
-/// `Deallocate` (Port Manipulation Interface, `mach_port_deallocate`): one send reference, or one
-/// reference of a dead name, goes from under the name, or its send-once right, whose port is told that
-/// it was lost; with the last right or reference the name goes. Under a name with a receive right and
-/// send references one of these goes. The task lives.
+/// `Deallocate` (Port Manipulation Interface, `mach_port_deallocate`): drops one send reference, one
+/// reference of a dead name, or the name's send-once right, whose loss its port is told. The name goes with
+/// its last right or reference. Under a name with a receive right and send references, one of these goes. The
+/// task lives.
 ///
-/// `KERN_INVALID_NAME` for a name that isn't in use; `KERN_INVALID_RIGHT` for a receive right
-/// alone and a set. A refusal changes nothing. Takes no memory. Constant time, and logarithmic for a
-/// name above 65,535.
+/// `KERN_INVALID_NAME` for a name that isn't in use; `KERN_INVALID_RIGHT` for a receive right alone and a
+/// set. A refusal changes nothing. Takes no memory. Constant time, and logarithmic for a name above 65,535.
 #[inline(always)]
 pub fn deallocate(world: &mut World, task: TaskId, name: Name) -> Result<Reply, Code>
     requires there { HasTask world.old task }
@@ -475,19 +474,25 @@ fn find_right(
     Ok((right, entry))
 }
 
-/// `ModRefs` (Port Manipulation Interface, `mach_port_mod_refs`): the references of the right of number
-/// `right`, 0 to 4, under the name change by `delta`. Send references that come are new send rights.
-/// With the last right or reference the name goes. Of a right without references `delta` is 0, which
-/// changes nothing, or -1: the right goes. A port that loses its receive right dies, or is sent away,
-/// as the step ends; the port of a send-once right is told that it was lost; with a set's right the set
-/// goes, and its members are in none. The task lives.
+/// `ModRefs` (Port Manipulation Interface, `mach_port_mod_refs`): changes by `delta` the references of the
+/// right of number `right`, 0 to 4, under the name. Send references that come are new send rights. The name
+/// goes with its last right or reference. Of a right without references `delta` is 0, which changes nothing,
+/// or -1: the right goes. A port that loses its receive right dies, or is sent away, as the step ends. The
+/// port of a send-once right is told that it was lost. With a set's right the set goes, and its members are
+/// in no set. The task lives.
 ///
-/// Errors, of which the first is answered: `KERN_INVALID_VALUE` for a number above 4;
-/// `KERN_INVALID_NAME` for a name that isn't in use; `KERN_INVALID_RIGHT` where it lacks the right;
-/// `KERN_INVALID_VALUE` where there would be fewer than no references, or for a `delta` that a
-/// right without references can't have; `KERN_UREFS_OVERFLOW` above 65,535 references;
-/// `KERN_NO_SPACE` above 4,294,967,295 rights. A refusal changes nothing. Takes no memory. Constant
-/// time, and logarithmic for a name above 65,535; where a set goes, linear in its members.
+/// # Errors
+/// A refusal changes nothing. The first that holds is returned.
+/// - `KERN_INVALID_VALUE`: a number above 4.
+/// - `KERN_INVALID_NAME`: a name that isn't in use.
+/// - `KERN_INVALID_RIGHT`: the name lacks the right.
+/// - `KERN_INVALID_VALUE`: there would be fewer than no references, or a right without references can't have
+///   this `delta`.
+/// - `KERN_UREFS_OVERFLOW`: more than 65,535 references.
+/// - `KERN_NO_SPACE`: more than 4,294,967,295 rights.
+///
+/// Takes no memory. Constant time, and logarithmic for a name above 65,535. Where a set goes, linear in its
+/// members.
 pub fn mod_refs(
     world: &mut World,
     task: TaskId,

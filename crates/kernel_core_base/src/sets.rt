@@ -20,12 +20,12 @@ use port::Attributes;
 use std::alloc::{AllocError, Global};
 use std::collections::BTreeSet;
 
-/// `SetStatus` (Port Manipulation Interface, `mach_port_get_set_status`): the names of the members of
+/// `SetStatus` (Port Manipulation Interface, `mach_port_get_set_status`): returns the names of the members of
 /// the port set under the name, rising. The task, which lives, has the receive right of each.
 ///
 /// `KERN_INVALID_NAME` for a name that isn't in use; `KERN_INVALID_RIGHT` where it is no set's;
-/// `KERN_RESOURCE_SHORTAGE` for want of memory, of which it takes a few words for each member, whatever
-/// other names the task has. For n members it takes time in n log n.
+/// `KERN_RESOURCE_SHORTAGE` when out of memory. It takes a few words for each member, whatever other names
+/// the task has. For n members it takes time in n log n.
 pub fn set_status(world: &World, alloc: Global, task: TaskId, name: Name) -> Result<Reply, Code>
     requires { HasTask world.now task }
     ensures { Serves world.now (Event.SetStatus task name) result world.now }
@@ -37,8 +37,8 @@ pub fn set_status(world: &World, alloc: Global, task: TaskId, name: Name) -> Res
     }
 }
 
-/// Whether the members of the set may be told, where there is memory: as [`set_status`] refuses it, but
-/// for want of memory. The task lives. Constant time, and logarithmic for a name above 65,535.
+/// Whether the members of the set may be told, where there is memory: as [`set_status`] refuses it, except
+/// when out of memory. The task lives. Constant time, and logarithmic for a name above 65,535.
 pub fn check_set_status(world: &World, task: TaskId, name: Name) -> Result<(), KernReturn>
     requires { HasTask world.now task }
     ensures ok { OnOk result (IsAllowed world.now (λ s. call_guards s (Event.SetStatus task name))) }
@@ -147,13 +147,13 @@ struct Moving {
     set: Option<SetId>,
 }
 
-/// `MoveMember` (Port Manipulation Interface, `mach_port_move_member`): the port whose receive right is
-/// under the first name leaves the set that it is in, and goes into the set under the second name,
+/// `MoveMember` (Port Manipulation Interface, `mach_port_move_member`): moves the port whose receive right is
+/// under the first name. The port leaves the set that it is in. It goes into the set under the second name,
 /// unless that is 0. A move into the set that it is in changes nothing. The task lives.
 ///
-/// `KERN_INVALID_NAME` for a name that isn't in use; `KERN_INVALID_RIGHT` where the first has no
-/// receive right or the second is no set's; `KERN_NOT_IN_SET` where the port is to leave its set
-/// and is in none. Takes no memory. Constant time, and logarithmic for a name above 65,535.
+/// `KERN_INVALID_NAME` for a name that isn't in use. `KERN_INVALID_RIGHT` where the first has no receive
+/// right or the second is no set's. `KERN_NOT_IN_SET` where the port is to leave its set and is in none.
+/// Takes no memory. Constant time, and logarithmic for a name above 65,535.
 pub fn move_member(
     world: &mut World,
     task: TaskId,

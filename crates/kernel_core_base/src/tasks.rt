@@ -20,8 +20,8 @@ use std::alloc::Global;
 /// `TaskCreate` (Task Interface, `task_create`): a task with no names, whose number is that of the
 /// tasks made before.
 ///
-/// `KERN_NO_SPACE` where 65,536 tasks were made; `KERN_RESOURCE_SHORTAGE` for want of memory.
-/// Constant time, but where the tasks move to a larger place.
+/// `KERN_NO_SPACE` where 65,536 tasks were made; `KERN_RESOURCE_SHORTAGE` when out of memory. Constant time,
+/// but where the tasks move to a larger place.
 pub fn create_task(world: &mut World, alloc: Global) -> Result<Reply, Code>
     requires { Stands world.old }
     ensures serves { Serves world.old Event.TaskCreate result world.new }
@@ -35,7 +35,7 @@ pub fn create_task(world: &mut World, alloc: Global) -> Result<Reply, Code>
     Ok(Reply::Task(TaskId::new(number as u32)))
 }
 
-/// Whether a task may be made, where there is memory: as [`create_task`] refuses it, but for want of
+/// Whether a task may be made, where there is memory: as [`create_task`] refuses it, except when out of
 /// memory. Constant time.
 pub fn check_create_task(world: &World) -> Result<(), KernReturn>
     ensures ok { OnOk result (IsAllowed world.now (λ s. call_guards s Event.TaskCreate)) }
@@ -59,13 +59,12 @@ fn push_task(world: &mut World, alloc: Global) -> Result<(), KernReturn>
     }
 }
 
-/// `TaskTerminate` (Task Interface, `task_terminate`): the task, which lives, ends, and all that its
-/// names hold is lost: requests on them end, its sets go, the ports of its send-once rights are told,
-/// and ports whose receive rights it had die or are sent away at the end of the step.
+/// `TaskTerminate` (Task Interface, `task_terminate`): ends a task that lives. All that its names hold is
+/// lost. Requests on the names end, and the task's sets go. The ports of its send-once rights are told. The
+/// ports whose receive rights it had die or are sent away at the end of the step.
 ///
-/// Takes no memory and cannot fail. Linear in its names and in the members of its sets, but for a
-/// logarithm for each name above 65,535, and for four words of each page of 256 names up to there that
-/// was used.
+/// Takes no memory and cannot fail. Linear in its names and in the members of its sets. Each name above
+/// 65,535 adds a logarithm. Each page of 256 names up to there that was used adds four words.
 pub fn terminate_task(world: &mut World, task: TaskId) -> Result<Reply, Code>
     requires there { HasTask world.old task }
     requires stands { Stands world.old }

@@ -16,8 +16,8 @@ pub struct Entry {
 }
 
 impl Entry {
-    /// Whether each of its numbers fits its type: so it is with any entry in hand. Takes as long as its
-    /// bytes and names are many.
+    /// Returns whether each of its numbers fits its type: so it is with any entry in hand. Takes as long as
+    /// its bytes and names are many.
     pub fn fits(&self) -> bool
         ensures always { result ≡ true }
         ensures fits { Fits self.now }

@@ -50,10 +50,10 @@ impl Model for Pass {
 
 /// The kernel, with the history that led to it, and with the count of each caller's calls.
 ///
-/// The type keeps that the history's events and replies are a run of the machine by the kernel's profile, to a state
-/// that this kernel shows, and that each count is that of the caller's entries. The entries themselves are kept, or
-/// they aren't, from the first call on. To contracts it is its board, the profile, the history, whether its entries are
-/// kept, how many passes were made, and the kernel's tables and turns.
+/// The type keeps two facts. The history's events and replies are a run of the machine by the kernel's
+/// profile, to a state that this kernel shows. Each count is that of the caller's entries. The entries
+/// themselves are kept, or they aren't, from the first call on. To contracts it is its board, the profile,
+/// the history, whether its entries are kept, how many passes were made, and the kernel's tables and turns.
 #[derive(Drop)]
 pub struct LockedKernel {
     alloc: Global,

@@ -49,7 +49,7 @@ fn shift(ledger: &mut Ledger, port: PortId) -> bool {
     is_there
 }
 
-/// Whether all rights that there can be are made, and none beyond.
+/// Returns whether all rights that there can be are made, and none beyond.
 fn all_are_made(ledger: &mut Ledger, port: PortId) -> bool {
     has(ledger, port, RightKind::Receive, 1)
         && make(ledger, port, RightKind::SendOnce, 2)

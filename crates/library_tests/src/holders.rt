@@ -27,7 +27,7 @@ fn allocate(ports: &mut Ports<Empty>, number: u64) -> bool {
     true
 }
 
-/// Whether this holds the port's receive right.
+/// Returns whether this holds the port's receive right.
 fn is_held_by(ports: &Ports<Empty>, port: u64, holder: Holder) -> bool {
     let Some(attributes) = ports.attributes(PortId::new(port)) else {
         return false;
@@ -94,7 +94,7 @@ fn take_noted(ports: &mut Ports<Empty>) -> Option<u64> {
     Some(ports.take_noted()?.number())
 }
 
-/// Whether ports are lost in the order 2, 0, 3, and 0 is held again.
+/// Returns whether ports are lost in the order 2, 0, 3, and 0 is held again.
 fn are_lost(ports: &mut Ports<Empty>) -> bool {
     first_lost(ports).is_none()
         && lose(ports, 2)
@@ -107,7 +107,7 @@ fn are_lost(ports: &mut Ports<Empty>) -> bool {
         && is_held_by(ports, 0, Holder::QueueOf(PortId::new(1)))
 }
 
-/// Whether the others are doomed in the order in which they were lost, and one that is lost anew is
+/// Returns whether the others are doomed in the order in which they were lost, and one that is lost anew is
 /// the last of them.
 fn are_doomed(ports: &mut Ports<Empty>) -> bool {
     first_doomed(ports).is_none()
@@ -121,7 +121,7 @@ fn are_doomed(ports: &mut Ports<Empty>) -> bool {
         && !lose(ports, 3)
 }
 
-/// Whether the doomed ports are found until they are removed, also where the second goes first.
+/// Returns whether the doomed ports are found until they are removed, even where the second goes first.
 fn are_buried(ports: &mut Ports<Empty>) -> bool {
     first_doomed(ports) == Some(2)
         && remove(ports, 3)
@@ -140,7 +140,7 @@ fn lost_ports_are_doomed_in_order(rt: HostRuntime) {
     assert!(rt; are_doomed(&mut ports) && are_buried(&mut ports));
 }
 
-/// Whether a port that is lost and removed leaves those that were lost.
+/// Returns whether a port that is lost and removed leaves those that were lost.
 fn is_forgotten(ports: &mut Ports<Empty>) -> bool {
     lose(ports, 0) && lose(ports, 1) && remove(ports, 0) && first_lost(ports) == Some(1)
 }
@@ -158,7 +158,7 @@ fn note_all(ports: &mut Ports<Empty>) {
     }
 }
 
-/// Whether noted ports come out in order, each once, but not one that is removed; and one that came
+/// Returns whether noted ports come out in order, each once, but not one that is removed; and one that came
 /// out is noted again.
 fn are_noted(ports: &mut Ports<Empty>) -> bool {
     take_noted(ports) == Some(1)
@@ -195,7 +195,7 @@ fn queue(ports: &mut Ports<Empty>, port: PortId) -> bool {
     is_room
 }
 
-/// Whether a doomed port keeps its message, and its turn in its set.
+/// Returns whether a doomed port keeps its message, and its turn in its set.
 fn stays_in_turn(ports: &mut Ports<Empty>) -> bool {
     let port = PortId::new(0);
     let set = SetId::new(0);

@@ -2,7 +2,7 @@
 use member_lists::{Lists, TwoLists};
 use std::alloc::{AllocError, Global};
 
-/// Whether the items 2 and 0 stand in list 7, and none in another one.
+/// Returns whether the items 2 and 0 stand in list 7, and none in another one.
 fn are_in_order(lists: &Lists) -> bool {
     lists.first(7) == Some(2)
         && lists.after(7, 2) == Some(0)

@@ -51,12 +51,12 @@ fn make_all(ports: &mut Ports<Empty>, queues: &[Option<u64>]) -> bool {
     true
 }
 
-/// Whether a message to the destination that carries one receive right closes a loop.
+/// Returns whether a message to the destination that carries one receive right closes a loop.
 fn closes(ports: &Ports<Empty>, destination: u64, carried: u64) -> bool {
     closes_loop(ports, PortId::new(destination), &[PortId::new(carried)])
 }
 
-/// Whether just those are told from 0 that lie on its way, on which 3 is last.
+/// Returns whether just those are told from 0 that lie on its way, on which 3 is last.
 fn ends_at_a_task(ports: &Ports<Empty>) -> bool {
     closes(ports, 0, 0)
         && closes(ports, 0, 1)
@@ -67,7 +67,7 @@ fn ends_at_a_task(ports: &Ports<Empty>) -> bool {
         && closes(ports, 9, 9)
 }
 
-/// Whether each of the carried ports is looked for, where 3 is the last on the way.
+/// Returns whether each of the carried ports is looked for, where 3 is the last on the way.
 fn each_is_looked_for(ports: &Ports<Empty>) -> bool {
     let [first, last, other] = [PortId::new(0), PortId::new(3), PortId::new(4)];
     closes_loop(ports, first, &[other, last])
@@ -90,7 +90,7 @@ fn the_last_port_is_compared(rt: HostRuntime) {
     assert!(rt; closes(&ports, 0, 2));
 }
 
-/// Whether a circle of 0, 1 and 2, off which 3 lies, is gone round once.
+/// Returns whether a circle of 0, 1 and 2, off which 3 lies, is gone round once.
 fn is_gone_round(ports: &Ports<Empty>) -> bool {
     closes(ports, 0, 2) && closes(ports, 1, 0) && !closes(ports, 0, 3)
 }

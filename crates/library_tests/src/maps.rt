@@ -29,7 +29,8 @@ fn release(numbers: &mut NumberMap<u32>, key: u64) {
     }
 }
 
-/// Whether a value is found that was set, and raised twice where it lies, with the others as they were.
+/// Returns whether a value is found that was set, and raised twice where it lies, with the others as they
+/// were.
 fn is_set(numbers: &mut NumberMap<u32>, key: u64) -> bool {
     set(numbers, key, 8);
     raise(numbers, key);
@@ -53,7 +54,7 @@ fn is_removed(numbers: &mut NumberMap<u32>, key: u64) -> bool {
         && numbers.len() == 99
 }
 
-/// Whether room that was left by a key is there again, and that of one that goes with its room.
+/// Returns whether room that was left by a key is there again, and that of one that goes with its room.
 fn is_room_left(numbers: &mut NumberMap<u32>) -> bool {
     let had_room = numbers.reserve(1).is_ok() && numbers.room() == 1;
     let was_there = numbers.get(36) == Some(6);

@@ -4,7 +4,7 @@ use name_space::{Entry, Space};
 use std::alloc::Global;
 use user_refs::UserRefs;
 
-/// Whether an entry is of this type, its receive right for this port, and any right for that one.
+/// Returns whether an entry is of this type, its receive right for this port, and any right for that one.
 fn is_for(entry: &Entry, type_bits: u32, received: Option<PortId>, port: Option<PortId>) -> bool {
     entry.type_bits() == type_bits && entry.receive_port() == received && entry.right_port() == port
 }
@@ -115,7 +115,7 @@ fn next_name(space: &Space, from: u32) -> Option<u32> {
     Some(name.number())
 }
 
-/// Whether names of every size come, into room that was made.
+/// Returns whether names of every size come, into room that was made.
 fn names_come(space: &mut Space) -> bool {
     space.is_empty()
         && space.reserve(3).is_ok()
@@ -127,7 +127,7 @@ fn names_come(space: &mut Space) -> bool {
         && space.room() == 0
 }
 
-/// Whether each name is found from the one before it on.
+/// Returns whether each name is found from the one before it on.
 fn names_follow(space: &Space) -> bool {
     next_name(space, 0) == Some(1)
         && next_name(space, 1) == Some(1)
@@ -136,7 +136,7 @@ fn names_follow(space: &Space) -> bool {
         && next_name(space, 0xffff_ffff).is_none()
 }
 
-/// Whether the greatest name goes, and none that isn't there.
+/// Returns whether the greatest name goes, and none that isn't there.
 fn names_go(space: &mut Space) -> bool {
     space.len() == 3
         && space.fresh().number() == 2
@@ -157,7 +157,7 @@ fn names_come_and_go(rt: HostRuntime) {
     assert!(rt; come_and_go(&mut space, rt.alloc()));
 }
 
-/// Whether a port that comes under name 9 is found there, with a send right.
+/// Returns whether a port that comes under name 9 is found there, with a send right.
 fn is_found(space: &mut Space) -> bool {
     name_of(space, 7).is_none()
         && put_receive(space, 9, 7)
@@ -167,7 +167,7 @@ fn is_found(space: &mut Space) -> bool {
         && references(space, 9, Right::Send) == Some(1)
 }
 
-/// Whether it is found under name 4, until that is a dead name.
+/// Returns whether it is found under name 4, until that is a dead name.
 fn is_found_renamed(space: &mut Space) -> bool {
     rename(space, 9, 4)
         && name_of(space, 7) == Some(4)
@@ -194,7 +194,7 @@ fn give(space: &mut Space) -> u32 {
     name.number()
 }
 
-/// Whether a name that was removed doesn't come back at once, though its index does.
+/// Returns whether a name that was removed doesn't come back at once, though its index does.
 fn generations_follow(space: &mut Space) -> bool {
     space.reserve(4).is_ok()
         && give(space) == 256

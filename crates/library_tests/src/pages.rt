@@ -66,7 +66,7 @@ fn all_are_put(pages: &mut Pages<u32>) -> bool {
     pages.first_free() == 65536 && pages.reserve(1).is_ok() && put_first(pages, 7).is_none()
 }
 
-/// Whether the room that was made when all were used is there for the one that gets free.
+/// Returns whether the room that was made when all were used is there for the one that gets free.
 fn one_is_free(pages: &mut Pages<u32>) -> bool {
     pages.remove(513) == Some(513)
         && pages.first_free() == 513

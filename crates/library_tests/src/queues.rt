@@ -13,7 +13,7 @@ impl Message for Note {
     }
 }
 
-/// Makes a port, and answers its number where that is the one that was told before.
+/// Makes a port, and returns its number where that is the one that was told before.
 fn allocate(ports: &mut Ports<Note>) -> Option<u64> {
     if ports.is_exhausted() {
         return None;
@@ -83,7 +83,7 @@ fn ready(ports: &Ports<Note>, set: u64) -> Option<u64> {
     Some(ready_member(ports, SetId::new(set))?.number())
 }
 
-/// Whether two ports are made, and two notes find slots, and no third one.
+/// Returns whether two ports are made, and two notes find slots, and no third one.
 fn are_posted(ports: &mut Ports<Note>) -> bool {
     let are_made = allocate(ports) == Some(0) && allocate(ports) == Some(1);
     let has_slots = !post(ports, 0, 1) && ports.reserve_slots(2).is_ok();
@@ -96,7 +96,7 @@ fn are_posted(ports: &mut Ports<Note>) -> bool {
         && ports.queued(PortId::new(1)) == 0
 }
 
-/// Whether the port has so many notes and is in no set, and this note is the first, with this number.
+/// Returns whether the port has so many notes and is in no set, and this note is the first, with this number.
 fn is_first(ports: &Ports<Note>, port: u64, queued: usize, says: u32, number: u32) -> bool {
     let port = PortId::new(port);
     let Some(standing) = ports.standing(port) else {
@@ -108,7 +108,7 @@ fn is_first(ports: &Ports<Note>, port: u64, queued: usize, says: u32, number: u3
     !standing.is_member && standing.queued == queued && note.0 == says && sequence == number
 }
 
-/// Whether the notes come out in the order that they came in, and their slots are used again.
+/// Returns whether the notes come out in the order that they came in, and their slots are used again.
 fn are_taken(ports: &mut Ports<Note>) -> bool {
     ports.front(PortId::new(0)).is_some_and(|note| note.0 == 7)
         && is_first(ports, 0, 2, 7, 0)
@@ -140,7 +140,7 @@ fn is_gone(ports: &mut Ports<Note>) -> bool {
         && counts(ports, 0).is_none()
 }
 
-/// Whether the notes of two ports are destroyed in turn, and come out in that order.
+/// Returns whether the notes of two ports are destroyed in turn, and come out in that order.
 fn are_destroyed(ports: &mut Ports<Note>) -> bool {
     post(ports, 1, 4)
         && post(ports, 2, 5)
@@ -171,7 +171,7 @@ fn is_ready(ports: &mut Ports<Note>) -> bool {
         && ready(ports, 0) == Some(1)
 }
 
-/// Whether two members of a set have their turns, until the set is no more.
+/// Returns whether two members of a set have their turns, until the set is no more.
 fn have_turns(ports: &mut Ports<Note>) -> bool {
     let is_first = join(ports, 1, 1) && ready(ports, 0).is_none() && ready(ports, 1) == Some(0);
     let is_next = take(ports, 0) == Some(1) && ready(ports, 1) == Some(1);

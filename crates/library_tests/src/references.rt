@@ -2,7 +2,7 @@
 use mach_types::KernReturn;
 use user_refs::UserRefs;
 
-/// Whether one more than the limit is refused or pegged, and nothing is left of what is taken whole.
+/// Returns whether one more than the limit is refused or pegged, and nothing is left of what is taken whole.
 fn is_most(most: UserRefs) -> bool {
     most.count() == 65_535
         && most.add(1).err() == Some(KernReturn::UrefsOverflow)

@@ -42,7 +42,7 @@ fn first_of(requests: &Requests, port: u64) -> Option<u32> {
     Some(request.name.number())
 }
 
-/// Whether three requests come in, one on each name, where there is room for three.
+/// Returns whether three requests come in, one on each name, where there is room for three.
 fn are_inserted(requests: &mut Requests) -> bool {
     insert(requests, (1, 3), 50, 60)
         && !insert(requests, (1, 3), 51, 60)
@@ -66,7 +66,7 @@ fn are_renamed_and_removed(requests: &mut Requests) -> bool {
         && remove(requests, 2, 3).is_none()
 }
 
-/// Whether a port's first request is the one that came first of those that are left.
+/// Returns whether a port's first request is the one that came first of those that are left.
 fn is_first_left(requests: &mut Requests) -> bool {
     first_of(requests, 50) == Some(4)
         && requests.room() == 1
@@ -109,7 +109,7 @@ fn take_went(requests: &mut Requests) -> Option<u64> {
     Some(request.notify.number())
 }
 
-/// Whether four requests fill the table, three on names of one port.
+/// Returns whether four requests fill the table, three on names of one port.
 fn are_filled(requests: &mut Requests) -> bool {
     requests.is_empty()
         && first_went(requests).is_none()
@@ -122,7 +122,7 @@ fn are_filled(requests: &mut Requests) -> bool {
         && !requests.is_empty()
 }
 
-/// Whether the names that go are on no port any more, and no room for others yet.
+/// Returns whether the names that go are on no port any more, and no room for others yet.
 fn have_left(requests: &mut Requests) -> bool {
     leave(requests, 9, 9);
     let none_went = first_went(requests).is_none();
@@ -139,7 +139,8 @@ fn have_left(requests: &mut Requests) -> bool {
         && !insert(requests, (1, 3), 50, 64)
 }
 
-/// Whether those that went are told in the order in which they went, each then being room for another.
+/// Returns whether those that went are told in the order in which they went, each then being room for
+/// another.
 fn are_told_in_order(requests: &mut Requests) -> bool {
     rename(requests, 1, 4, 7)
         && remove(requests, 2, 4) == Some(63)
@@ -154,7 +155,7 @@ fn are_told_in_order(requests: &mut Requests) -> bool {
         && requests.room() == 1
 }
 
-/// Whether all go, while there is room for one, then for more.
+/// Returns whether all go, while there is room for one, then for more.
 fn are_emptied(requests: &mut Requests) -> bool {
     leave(requests, 1, 7);
     leave(requests, 5, 5);

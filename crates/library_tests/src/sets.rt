@@ -39,7 +39,7 @@ fn is_renamed(sets: &mut Sets) -> bool {
         && kept(sets, 0) == Some([7, 5])
 }
 
-/// Whether the first set, once it is removed, isn't found when the next one is there.
+/// Returns whether the first set, once it is removed, isn't found when the next one is there.
 fn is_gone(sets: &mut Sets) -> bool {
     sets.remove(SetId::new(0));
     kept(sets, 0).is_none()

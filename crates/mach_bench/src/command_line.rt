@@ -35,7 +35,7 @@ pub enum Refusal<'a> {
 }
 
 impl<'a> Refusal<'a> {
-    /// Tells of it on `err`, and answers the program's status: 2 where the words name no job, else 1.
+    /// Tells of it on `err`, and returns the program's status: 2 where the words name no job, else 1.
     pub fn tell<E: Write>(self, err: &mut E) -> u8 {
         match self {
             Refusal::NoJob => refuse(err),

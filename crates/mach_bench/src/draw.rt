@@ -102,7 +102,7 @@ impl Draw {
         }
     }
 
-    /// A receipt, with room for most messages.
+    /// A receive, with room for most messages.
     fn receipt(&mut self, task: TaskId, large: bool) -> Event {
         let room = self.below(64).saturating_add(64);
         Event::Receive(task, self.name(), room, large)
@@ -130,7 +130,7 @@ impl Draw {
         }
     }
 
-    /// A right to answer with, in one of eight cases: the name that it is made from and its bits in a header.
+    /// A reply right, in one of eight cases: the name that it is made from and its bits in a header.
     fn answer(&mut self) -> (u32, u32) {
         match self.below(8) {
             0 => (self.name().number(), MAKE_SEND_ONCE << 8),
@@ -138,7 +138,7 @@ impl Draw {
         }
     }
 
-    /// A message to a name, with a right to answer with, or none, and a body of data or of rights.
+    /// A message to a name, with a reply right, or none, and a body of data or of rights.
     fn message(&mut self, alloc: Global) -> Result<Bytes, AllocError> {
         let (to, body, (reply, answer)) = (self.name(), self.body(), self.answer());
         let complex = match body {

@@ -21,7 +21,7 @@ fn main(rt: HostRuntime) -> ExitCode {
     ExitCode::from(answer(&rt, &mut out, &mut err))
 }
 
-/// Does what the words of the command line ask for, and answers the status.
+/// Does what the words of the command line ask for, and returns the status.
 ///
 /// Words that name no job are answered by the program's usage on `err`: status 2.
 fn answer<R: Env + Clock + AllocGlobal + Threads + Wait + Sync, W: Write, E: Write>(

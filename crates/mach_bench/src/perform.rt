@@ -131,7 +131,7 @@ impl fmt::Display for Fault {
     }
 }
 
-/// Does the job, and answers the program's status: 0 where it is done, 1 where a fault stopped it.
+/// Does the job, and returns the program's status: 0 where it is done, 1 where a fault stopped it.
 ///
 /// What the job tells goes to `out`, and a fault in one line to `err`. A call that is refused though it
 /// should be done is a fault: what comes after it is not made.
@@ -149,7 +149,7 @@ pub fn perform<R: Clock + AllocGlobal + Threads + Wait + Sync, W: Write, E: Writ
     }
 }
 
-/// Tells on `err` what the fault is, as one line, and answers its status, 1.
+/// Tells on `err` what the fault is, as one line, and returns its status, 1.
 ///
 /// Where `err` refuses the line, nothing is left to tell of it.
 pub fn report<E: Write>(fault: Fault, err: &mut E) -> u8
@@ -308,7 +308,7 @@ fn nanoseconds_each(took: Duration, operations: u64) -> u128 {
         .unwrap_or(0)
 }
 
-/// Makes the cycles on a new kernel, and answers what came of them.
+/// Makes the cycles on a new kernel, and returns what came of them.
 ///
 /// It does nothing else: each statement of a function that owns a kernel is dear to prove.
 fn make<R: Clock + AllocGlobal>(rt: &R, run: Run, cycles: Cycles) -> Result<Made, Fault> {
@@ -360,7 +360,7 @@ fn untimed(bench: &mut Bench, run: Run) -> Result<Duration, Fault> {
     }
 }
 
-/// Makes the cycles, and answers how long they took.
+/// Makes the cycles, and returns how long they took.
 fn timed<C: Clock>(clock: &C, bench: &mut Bench, run: Run, times: u32) -> Result<Duration, Fault> {
     let Ok(start) = Instant::now(clock) else {
         return Err(Fault::NoClock);

@@ -80,7 +80,7 @@ pub fn make_soak<R: Clock + AllocGlobal + Threads + Wait + Sync>(
     })
 }
 
-/// Makes rounds until it is enough, and answers how long their threads took.
+/// Makes rounds until it is enough, and returns how long their threads took.
 fn make_rounds<R: Clock + AllocGlobal + Threads + Wait + Sync>(
     rt: &R,
     shared: &Shared,
@@ -102,7 +102,7 @@ fn count_entries<R: Wait>(rt: &R, shared: &Shared) -> usize {
     shared.lock(rt).entries().len()
 }
 
-/// Makes a round, and answers how long its threads took.
+/// Makes a round, and returns how long its threads took.
 fn make_round<R: Clock + AllocGlobal + Threads + Wait + Sync>(
     rt: &R,
     shared: &Shared,
@@ -144,7 +144,7 @@ fn end_tasks<R: Wait>(rt: &R, shared: &Shared, pass: &mut Pass, tasks: &[TaskId]
     }
 }
 
-/// Draws calls for each task, has each task's made in a thread of its own, and answers how long that took.
+/// Draws calls for each task, has each task's made in a thread of its own, and returns how long that took.
 fn run_threads<R: Clock + AllocGlobal + Threads + Wait + Sync>(
     rt: &R,
     shared: &Shared,

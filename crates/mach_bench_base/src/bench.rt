@@ -199,7 +199,7 @@ impl Bench {
         Ok(())
     }
 
-    /// Whether the cycles must be rehearsed before they are measured.
+    /// Returns whether the cycles must be rehearsed before they are measured.
     pub fn follows_names(&self) -> bool {
         self.follows
     }
@@ -376,7 +376,7 @@ fn is_put(bytes: &[u8], room: &mut [u8]) -> bool {
     true
 }
 
-/// Whether the call was refused, or found no message.
+/// Returns whether the call was refused, or found no message.
 pub fn is_refused(reply: &Reply) -> bool {
     match reply {
         Reply::Code(code) => *code != 0,

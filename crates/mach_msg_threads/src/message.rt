@@ -33,16 +33,17 @@ impl Outcome {
 
 /// Sends and receives (IPC Interface, `mach_msg`), waiting as long as the gate says so.
 ///
-/// With `SEND_MSG` the bytes are sent, and nothing is received unless that was done. A queue that is full is
-/// tried again, but for `SEND_TIMEOUT`. With `RCV_MSG` a message is received into the buffer, of which no more
-/// than 65,536 bytes count. Where there is no message it is tried again, but for `RCV_TIMEOUT`, from what the
-/// name stood for at the first try. Ahead of each try that is made again the gate is asked, and it is told of
-/// each call. What lies in the buffer behind the message stays, and all of it where none was received.
+/// With `SEND_MSG` the bytes are sent, and nothing is received unless they were. A full queue is tried again,
+/// unless `SEND_TIMEOUT` is set. With `RCV_MSG` a message is received into the buffer, of which no more than
+/// 65,536 bytes count. Where there is no message it is tried again, unless `RCV_TIMEOUT` is set, from what
+/// the name stood for at the first try. The gate is asked ahead of each retry, and told of each call. The
+/// buffer behind the message stays as it was, and all of it does where no message was received.
 ///
-/// `KERN_INVALID_ARGUMENT` where an option is set that isn't one of the five, with no try; with neither
+/// `KERN_INVALID_ARGUMENT` where an option is set that isn't one of the five, with no try. With neither
 /// `SEND_MSG` nor `RCV_MSG` all is done. Any other code is that of a send or of a receive.
-/// `MACH_SEND_NO_BUFFER` also where memory for the event's copy of the bytes was refused, or a send wasn't
-/// recorded; `MACH_RCV_BODY_ERROR` with `MACH_MSG_IPC_KERNEL` also where a receive wasn't.
+/// `MACH_SEND_NO_BUFFER` also comes where memory for the event's copy of the bytes was refused, or a send
+/// wasn't recorded. `MACH_RCV_BODY_ERROR` with `MACH_MSG_IPC_KERNEL` also comes where a receive wasn't
+/// recorded.
 pub fn mach_msg<G: Gate, R: Wait>(
     rt: &R,
     alloc: Global,

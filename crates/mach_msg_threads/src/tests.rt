@@ -87,7 +87,7 @@ struct Asked {
     again: u32,
 }
 
-/// A receipt of at most 24 bytes.
+/// A receive of at most 24 bytes.
 const fn receives(options: u32, again: u32) -> Asked {
     Asked {
         options,
@@ -97,7 +97,7 @@ const fn receives(options: u32, again: u32) -> Asked {
     }
 }
 
-/// A send of the message, and perhaps a receipt of at most 24 bytes.
+/// A send of the message, and perhaps a receive of at most 24 bytes.
 const fn sends(options: u32, again: u32) -> Asked {
     Asked {
         options,
@@ -221,12 +221,13 @@ fn a_receive_with_a_timeout_is_tried_once(rt: HostRuntime) -> Result<(), Fail> {
     Ok(())
 }
 
-/// Whether the entry is this call, and found the first port empty.
+/// Returns whether the entry is this call, and found the first port empty.
 fn found_none(entry: &Entry, call: &Event) -> bool {
     entry.event == *call && entry.reply == Reply::Empty(Waited::Port(PortId::new(0)))
 }
 
-/// Whether these are a receive by the name 1 and two later tries, in that order, each of which found no message.
+/// Returns whether these are a receive by the name 1 and two later tries, in that order, each of which found
+/// no message.
 fn are_three_tries(entries: &[Entry]) -> bool {
     let task = TaskId::new(0);
     let first = Event::Receive(task, Name::new(1), 24, false);
@@ -239,8 +240,8 @@ fn are_three_tries(entries: &[Entry]) -> bool {
     }
 }
 
-/// With a gate that says yes twice and then no, a receipt from an empty port makes three calls, and tells the gate
-/// after each that nothing has changed. A call that gives up without asking its gate fails here.
+/// With a gate that says yes twice and then no, a receive from an empty port makes three calls, and tells the
+/// gate after each that nothing has changed. A call that gives up without asking its gate fails here.
 #[test]
 fn tries_listed(rt: HostRuntime) -> Result<(), Fail> {
     let shared = Shared::new(rt.alloc())?;

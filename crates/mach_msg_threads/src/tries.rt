@@ -105,7 +105,7 @@ pub(crate) fn attempt<G: Gate, R: Wait>(
     reply
 }
 
-/// Sends if that is wanted, again as long as the queue is full and the gate says so. Answers the last try's
+/// Sends if that is wanted, again as long as the queue is full and the gate says so. Returns the last try's
 /// code.
 pub(crate) fn send<G: Gate, R: Wait>(
     rt: &R,
@@ -137,8 +137,8 @@ pub(crate) fn send<G: Gate, R: Wait>(
     unreachable!()
 }
 
-/// Receives, again from what the first try named as long as no message is there and the gate says so.
-/// Answers the last try's reply.
+/// Receives, again from what the first try named as long as no message is there and the gate says so. Returns
+/// the last try's reply.
 pub(crate) fn receive<G: Gate, R: Wait>(
     rt: &R,
     shared: &Shared,

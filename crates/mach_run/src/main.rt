@@ -27,7 +27,7 @@ fn main(rt: HostRuntime) -> ExitCode {
     ExitCode::from(answer(&rt, rt.stdout(), &mut errors))
 }
 
-/// Does what the words of the command line ask for, and answers the status.
+/// Does what the words of the command line ask for, and returns the status.
 ///
 /// Words that do not name a job are told of on `err`, with the program's usage: status 2.
 fn answer<R: Env + Files + Input + AllocGlobal + Threads + Wait + Sync, W: Write + Drop, E: Write>(

@@ -96,8 +96,8 @@ impl Judge {
     }
 }
 
-/// Judges the history that the file, which has this name, holds from here on, writes the verdict as one
-/// line, and answers the program's status.
+/// Judges the history that the file, which has this name, holds from here on, writes the verdict as one line,
+/// and returns the program's status.
 ///
 /// Memory is taken for the kernel on which the calls are made anew, and for the longest line.
 pub(crate) fn check_file<'a, R: Read, W: Write>(

@@ -62,7 +62,7 @@ impl<'a> From<RunFault> for Fault<'a> {
     }
 }
 
-/// Tells on `err` what the fault is, as one line, and answers its status, 1.
+/// Tells on `err` what the fault is, as one line, and returns its status, 1.
 ///
 /// Where `err` refuses the line, nothing is left to tell of it.
 pub fn report<E: Write>(fault: Fault<'_>, err: &mut E) -> u8

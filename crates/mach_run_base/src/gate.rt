@@ -45,7 +45,7 @@ impl Guests {
         }
     }
 
-    /// Whether no block runs.
+    /// Returns whether no block runs.
     fn is_still(&self) -> bool {
         !self
             .all

@@ -59,21 +59,25 @@ pub(crate) enum Shown {
     },
 }
 
-/// Does the job on the file of this name, and answers the program's status: 0 where it is done, 1
-/// where a fault stopped it or the history that it checks isn't legal.
+/// Does the job on the file of this name, and returns the program's status. It is 0 where the job is done,
+/// and 1 where a fault stopped it or the history that it checks isn't legal.
 ///
-/// What the job makes goes to `out`. A fault is told of on `err`, in one line: `cannot read NAME`
-/// where `file` can't be read, `line N: bad call` for the first line of a script that is none,
-/// `out of memory` where memory is refused, `cannot start thread` where a thread is, and `cannot write` where
-/// `out` refuses what is written.
+/// What the job makes goes to `out`. A fault is one line on `err`:
+/// - `cannot read NAME`: `file` can't be read.
+/// - `line N: bad call`: this is the first line of a script that is no call.
+/// - `out of memory`: memory is refused.
+/// - `cannot start thread`: a thread is refused.
+/// - `cannot write`: `out` refuses what is written.
 ///
-/// A whole script is read before anything runs, and after a fault of the first two kinds nothing
-/// was written to `out`; so ends each script that has a bad line. A trace that another fault stops writes the history
-/// of the calls that were made by then. A call that can't be recorded is a fault of memory; of a message call whose try
-/// isn't recorded its code tells. A history is read entry by entry, and judged
-/// as [`tracer::read_history`] and then [`tracer::check`] would judge the whole: `out` gets the line `legal N`
-/// for one of N entries, or `bad line N`, or, where it has no bad line, `not confirmed at N`. Time grows with the
-/// length of the file and the cost of its calls. May wait, where the script has message calls that wait or blocks.
+/// A whole script is read before anything runs, and after a fault of the first two kinds nothing was written
+/// to `out`. So ends each script that has a bad line. A trace that another fault stops writes the history of
+/// the calls that were made by then. A call that can't be recorded is a fault of memory; a message call whose
+/// try isn't recorded says so by its code.
+///
+/// A history is read entry by entry. It is judged as [`tracer::read_history`] and then [`tracer::check`]
+/// would judge the whole. `out` gets the line `legal N` for one of N entries, or `bad line N`, or, where it
+/// has no bad line, `not confirmed at N`. Time grows with the length of the file and the cost of its calls.
+/// May wait, where the script has message calls that wait or blocks.
 pub fn perform<S: Threads + Wait + Sync, R: Read, W: Write, E: Write>(
     rt: &S,
     alloc: Global,
@@ -95,7 +99,7 @@ pub fn perform<S: Threads + Wait + Sync, R: Read, W: Write, E: Write>(
     }
 }
 
-/// Does the job, and answers the status. Faults are as for [`perform`].
+/// Does the job, and returns the status. Faults are as for [`perform`].
 fn start<'a, S: Threads + Wait + Sync, R: Read, W: Write>(
     rt: &S,
     alloc: Global,
@@ -186,8 +190,8 @@ struct Layout {
     warn: bool,
 }
 
-/// Runs the script on the new kernel without a word, and then writes the history; also where a fault has stopped the
-/// script, which stays the fault.
+/// Runs the script on the new kernel without a word, and then writes the history; even where a fault has
+/// stopped the script, which stays the fault.
 fn trace_script<S: Threads + Wait + Sync, W: Write>(
     rt: &S,
     alloc: Global,

@@ -60,7 +60,7 @@ fn read_lines<'a, B: BufRead>(
     Err(Fault::CannotRead(name))
 }
 
-/// Reads the next line into `line`, with its line feed, and answers its length: 0 at the end.
+/// Reads the next line into `line`, with its line feed, and returns its length: 0 at the end.
 #[inline(always)]
 pub(crate) fn next_line<'a, B: BufRead>(
     name: &'a str,
@@ -80,7 +80,7 @@ pub(crate) fn next_line<'a, B: BufRead>(
     }
 }
 
-/// Moves the next line into `line`, with its line feed, where the reader has it whole at hand; answers
+/// Moves the next line into `line`, with its line feed, where the reader has it whole at hand; returns
 /// whether it has.
 ///
 /// An interrupted read has nothing at hand.

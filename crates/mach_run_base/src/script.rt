@@ -142,7 +142,7 @@ fn make_place<T>(list: &mut Vec<T>) -> Result<(), TextFault>
     }
 }
 
-/// Whether a block has this number.
+/// Returns whether a block has this number.
 fn has(blocks: &[ThreadCalls], number: u32) -> bool
     ensures { result ≡ has_number blocks.now number }
 {

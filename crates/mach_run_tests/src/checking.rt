@@ -188,7 +188,7 @@ fn histories_are_judged(rt: HostRuntime) {
     }
 }
 
-/// Whether this is the verdict on these entries behind such a beginning.
+/// Returns whether this is the verdict on these entries behind such a beginning.
 fn checks_behind<R: AllocGlobal + Threads + Wait + Sync>(
     rt: &R,
     beginning: &str,
@@ -245,7 +245,7 @@ const REFUSED: [&str; 6] = [
     "0 recv 0 1 24 0 -> empty p 0\n",
 ];
 
-/// Whether this is the verdict on those lines, of which the one at this place, from 0, is this.
+/// Returns whether this is the verdict on those lines, of which the one at this place, from 0, is this.
 fn checks_with<R: AllocGlobal + Threads + Wait + Sync>(
     rt: &R,
     place: usize,
@@ -285,8 +285,8 @@ fn a_forged_entry_is_found(rt: HostRuntime) {
     assert!(rt; checks_with(&rt, 0, "mach-history 9\n", "bad line 1\n"));
 }
 
-/// Whether the first history, cut after so many bytes, is judged so where so many line feeds stand before the cut:
-/// as legal where it ends in one, else by its last line.
+/// Returns whether the first history, cut after so many bytes, is judged so where so many line feeds stand
+/// before the cut: as legal where it ends in one, else by its last line.
 fn is_cut_judged<R: AllocGlobal + Threads + Wait + Sync>(
     rt: &R,
     end: usize,

@@ -130,7 +130,7 @@ fn script(
     }
 }
 
-/// Whether the script, behind the calls that give the names, is answered so in its last line.
+/// Returns whether the script, behind the calls that give the names, is answered so in its last line.
 fn ends_in<R: AllocGlobal + Threads + Wait + Sync>(rt: &R, script: &str, last: &str) -> bool {
     let made = names().1;
     match format!(in rt.alloc(); "{made}{last}") {
@@ -139,7 +139,7 @@ fn ends_in<R: AllocGlobal + Threads + Wait + Sync>(rt: &R, script: &str, last: &
     }
 }
 
-/// Whether the disposition is answered so at the place.
+/// Returns whether the disposition is answered so at the place.
 fn is_answered<R: AllocGlobal + Threads + Wait + Sync>(
     rt: &R,
     place: Place,
@@ -153,7 +153,7 @@ fn is_answered<R: AllocGlobal + Threads + Wait + Sync>(
     }
 }
 
-/// Whether the dispositions 16 to 21 are answered so at the place.
+/// Returns whether the dispositions 16 to 21 are answered so at the place.
 fn are_answered<R: AllocGlobal + Threads + Wait + Sync>(
     rt: &R,
     place: Place,
@@ -170,7 +170,7 @@ fn are_answered<R: AllocGlobal + Threads + Wait + Sync>(
     letters.len() == 6
 }
 
-/// Whether the row of the table is so at each place.
+/// Returns whether the row of the table is so at each place.
 fn is_row<R: AllocGlobal + Threads + Wait + Sync>(rt: &R, row: &str) -> bool {
     let mut words = row.split(' ');
     let number = words.next().unwrap_or("");

@@ -1,4 +1,4 @@
-//! Where want of memory may refuse a call: what the rules of `docs/CALLS.md` say, whatever memory there is.
+//! Where a call may be refused as out of memory: what the rules of `docs/CALLS.md` say, whatever memory there is.
 use kernel_core::{Kernel, run};
 use std::alloc::Global;
 use text_reader::read_script;
@@ -107,7 +107,7 @@ fn made_by(alloc: Global, script: &str) -> Option<Kernel> {
     }
 }
 
-/// Whether the kernel tells this of the call on the line.
+/// Returns whether the kernel tells this of the call on the line.
 fn tells(alloc: Global, kernel: &Kernel, line: &str, code: Option<u32>) -> bool {
     match read_script(alloc, line.as_bytes()) {
         Ok(events) => match events.first() {
@@ -157,7 +157,7 @@ fn made_often(alloc: Global, script: &str, line: &str, times: u32) -> Option<Ker
 const CARRIED: &str = "task\nalloc 0 1\n\
     send 0 1400008020000000010000000000000000000000070000001520011001000000\n";
 
-/// Whether this is told of receiving that message, where the task has so many dead names beside.
+/// Returns whether this is told of receiving that message, where the task has so many dead names beside.
 fn tells_by_names(alloc: Global, names: u32, code: Option<u32>) -> bool {
     match made_often(alloc, CARRIED, "alloc 0 4\n", names) {
         Some(kernel) => tells(alloc, &kernel, "recv 0 1 32 0\n", code),
@@ -171,7 +171,7 @@ fn a_message_that_lacks_names_does_not_lack_memory(rt: HostRuntime) {
     assert!(rt; tells_by_names(rt.alloc(), 65_534, None));
 }
 
-/// Whether this is told of making a task, where so many were made.
+/// Returns whether this is told of making a task, where so many were made.
 fn tells_by_tasks(alloc: Global, tasks: u32, code: Option<u32>) -> bool {
     match made_often(alloc, "", "task\n", tasks) {
         Some(kernel) => tells(alloc, &kernel, "task\n", code),

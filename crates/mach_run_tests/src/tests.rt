@@ -87,7 +87,7 @@ pub(crate) struct Outcome {
 }
 
 impl Outcome {
-    /// Whether it wrote just this, and its status tells of a fault where it wrote of one.
+    /// Returns whether it wrote just this, and its status tells of a fault where it wrote of one.
     pub(crate) fn is(&self, out: &str, err: &str) -> bool {
         self.status == u8::from(!err.is_empty())
             && self.out.bytes.as_slice() == out.as_bytes()
@@ -135,7 +135,7 @@ pub(crate) fn run_on<R: AllocGlobal + Threads + Wait + Sync>(
     done(rt, run(), source, out)
 }
 
-/// Whether `trace` of the script, of its warnings alone or of all, writes just this.
+/// Returns whether `trace` of the script, of its warnings alone or of all, writes just this.
 pub(crate) fn traces<R: AllocGlobal + Threads + Wait + Sync>(
     rt: &R,
     script: &str,
@@ -146,7 +146,8 @@ pub(crate) fn traces<R: AllocGlobal + Threads + Wait + Sync>(
     done(rt, trace(warn), source_of(script), page).is(history, "")
 }
 
-/// Whether `check` of the history writes just this verdict, and the status is 0 where it is legal, else 1.
+/// Returns whether `check` of the history writes just this verdict, and the status is 0 where it is legal,
+/// else 1.
 pub(crate) fn checks<R: AllocGlobal + Threads + Wait + Sync>(
     rt: &R,
     history: &str,
@@ -168,7 +169,7 @@ pub(crate) fn checks_bytes<R: AllocGlobal + Threads + Wait + Sync>(
         && outcome.err.bytes.is_empty()
 }
 
-/// Whether `check` tells this of a fault of the reader behind the text, and nothing else.
+/// Returns whether `check` tells this of a fault of the reader behind the text, and nothing else.
 pub(crate) fn is_check_fault_told<R: AllocGlobal + Threads + Wait + Sync>(
     rt: &R,
     text: &str,
@@ -182,7 +183,7 @@ pub(crate) fn is_check_fault_told<R: AllocGlobal + Threads + Wait + Sync>(
     done(rt, Job::Check, source, Page::new(rt.alloc(), usize::MAX)).is("", told)
 }
 
-/// Whether the history that `trace` prints of the script is legal.
+/// Returns whether the history that `trace` prints of the script is legal.
 pub(crate) fn is_traced_legally<R: AllocGlobal + Threads + Wait + Sync>(
     rt: &R,
     script: &str,
@@ -197,7 +198,7 @@ pub(crate) fn is_traced_legally<R: AllocGlobal + Threads + Wait + Sync>(
     traced.status == 0 && checked.status == 0
 }
 
-/// Whether `run` of the script writes just this on standard output and standard error.
+/// Returns whether `run` of the script writes just this on standard output and standard error.
 pub(crate) fn writes<R: AllocGlobal + Threads + Wait + Sync>(
     rt: &R,
     script: &str,
@@ -271,7 +272,7 @@ fn scripts_are_answered(rt: HostRuntime) {
     }
 }
 
-/// Whether a fault of the reader, behind a script that isn't one, is told so, and nothing else.
+/// Returns whether a fault of the reader, behind a script that isn't one, is told so, and nothing else.
 fn is_read_fault_told<R: AllocGlobal + Threads + Wait + Sync>(
     rt: &R,
     kind: io::ErrorKind,
@@ -292,7 +293,7 @@ fn a_read_fault_stops_all(rt: HostRuntime) {
     assert!(rt; is_read_fault_told(&rt, io::ErrorKind::OutOfMemory, "out of memory\n"));
 }
 
-/// Whether it is told that this page refuses what two calls write.
+/// Returns whether it is told that this page refuses what two calls write.
 fn is_refusal_told<R: AllocGlobal + Threads + Wait + Sync>(rt: &R, out: Page) -> bool {
     let source = Source {
         text: b"task\ntask\n",
@@ -339,7 +340,7 @@ fn words(alloc: Global, text: &str) -> Option<Vec<String>> {
     Some(words)
 }
 
-/// Whether these words name the job, and this file.
+/// Returns whether these words name the job, and this file.
 fn names(words: &[String], alloc: Global, job: Job, file: Option<&str>) -> bool {
     match read_words(alloc, words) {
         Ok(request) => request.job == job && request.file == file,
@@ -347,7 +348,7 @@ fn names(words: &[String], alloc: Global, job: Job, file: Option<&str>) -> bool 
     }
 }
 
-/// Whether the words of the line name the job, and this file.
+/// Returns whether the words of the line name the job, and this file.
 fn line_names(alloc: Global, line: &str, job: Job, file: Option<&str>) -> bool {
     match words(alloc, line) {
         Some(words) => names(words.as_slice(), alloc, job, file),
@@ -372,7 +373,7 @@ fn reads_the_words(rt: HostRuntime) {
     assert!(rt; line_names(alloc, "mach_run check f", Job::Check, Some("f")));
 }
 
-/// Whether each of these lines, parted by bars, names the job, and the file `f`.
+/// Returns whether each of these lines, parted by bars, names the job, and the file `f`.
 fn all_name(alloc: Global, lines: &str, job: Job) -> bool {
     for line in lines.split('|') {
         if !line_names(alloc, line, job, Some("f")) {
@@ -438,7 +439,7 @@ fn refusal(alloc: Global, words: &[String]) -> Option<String> {
     }
 }
 
-/// Whether the words of the line are refused by a text that has this in it.
+/// Returns whether the words of the line are refused by a text that has this in it.
 fn is_refused(alloc: Global, line: &str, part: &str) -> bool {
     let Some(words) = words(alloc, line) else {
         return false;

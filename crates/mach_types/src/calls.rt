@@ -73,8 +73,8 @@ pub enum Event {
     SetSeqno(TaskId, Name, u32),
     /// Asks for the names of the members of the port set under the name (`mach_port_get_set_status`).
     SetStatus(TaskId, Name),
-    /// Takes the port whose receive right is under the first name out of the set that it is in, and puts it
-    /// into the one under the second, unless that is 0 (`mach_port_move_member`).
+    /// Takes the port whose receive right is under the first name out of its set. Puts it into the set under
+    /// the second name, unless that is 0 (`mach_port_move_member`).
     MoveMember(TaskId, Name, Name),
     /// Puts the port whose receive right is under the first name into the port set under the second, beside
     /// those that it is in. Only where a port may be in several sets.
@@ -89,11 +89,11 @@ pub enum Event {
     /// (`mach_port_extract_right`).
     ExtractRight(TaskId, Name, u32, TaskId),
     /// Asks for a notice about the name, of the variant of the first number: that its port would be destroyed
-    /// (69), has no more senders (70) or died (72). The second number is the least make-send count with which
-    /// it is told at once that there are no senders; for 72 it is not 0 where a death that is past may be told.
-    /// The notice goes by the send-once right that the second name gives under the disposition of the last
-    /// number; where that name is 0 the request is taken away (Port Manipulation Interface,
-    /// `mach_port_request_notification`).
+    /// (69), has no more senders (70) or died (72). The second number is, for 70, the least make-send count
+    /// with which the notice comes at once where there are no senders. For 72 it is not 0 where a death that
+    /// is past may be told. The notice is sent to the send-once right that the second name gives under the
+    /// disposition of the last number. Where that name is 0 the request is taken away (Port Manipulation
+    /// Interface, `mach_port_request_notification`).
     RequestNotification(TaskId, Name, u32, u32, Name, u32),
     /// Sends the message.
     Send(TaskId, Bytes),

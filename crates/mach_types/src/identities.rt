@@ -77,7 +77,7 @@ impl Name {
         self.0
     }
 
-    /// Whether a right may stand under this number.
+    /// Returns whether a right may stand under this number.
     pub fn is_usable(self) -> bool
         ensures { IsTrue result ↔ ((self ≢ null_word) × (self ≢ dead_word)) }
     {

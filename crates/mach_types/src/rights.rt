@@ -156,7 +156,7 @@ impl Disposition {
         }
     }
 
-    /// Whether a send-once right is sent.
+    /// Returns whether a send-once right is sent.
     pub fn is_send_once(self) -> bool
         ensures value { result ≡ same_kind (kind_sent self) send_once }
         ensures sent { MatchBool result (kind_sent self ≡ send_once) (kind_sent self ≢ send_once) }
@@ -164,7 +164,7 @@ impl Disposition {
         matches!(self.kind(), Right::SendOnce)
     }
 
-    /// Whether the right that is sent is made from one that stays, so that there is one right more.
+    /// Returns whether the right that is sent is made from one that stays, so that there is one right more.
     pub fn makes_right(self) -> bool
         ensures { result ≡ makes_right self }
     {

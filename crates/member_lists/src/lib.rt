@@ -149,9 +149,8 @@ impl Ends {
     }
 }
 
-/// Lists of items that are in at most one of them. Without room for items nothing is allocated; each
-/// item takes 8 bytes, and the room for a list that comes with it what a [`NumberMap`] takes for a
-/// value of 8.
+/// Lists of items that are in at most one of them. Without room for items nothing is allocated. Each item
+/// takes 8 bytes. The room for a list that comes with it takes what a [`NumberMap`] takes for a value of 8.
 #[derive(Drop)]
 pub struct Lists {
     links: Vec<Link>,
@@ -458,7 +457,7 @@ impl Lists {
         Ok(())
     }
 
-    /// Whether no list has an item. Constant time.
+    /// Returns whether no list has an item. Constant time.
     pub fn is_empty(&self) -> bool
         ensures { IsTrue result ↔ ((list : ℕ) → list_of self.now list ≡ []) }
     {
@@ -561,7 +560,7 @@ impl TwoLists {
         Ok(())
     }
 
-    /// Whether neither list has an item. Constant time.
+    /// Returns whether neither list has an item. Constant time.
     #[inline(always)]
     pub fn is_empty(&self) -> bool
         ensures { IsTrue result ↔ ((list : ℕ) → list_of self.now list ≡ []) }

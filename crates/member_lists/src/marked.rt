@@ -147,9 +147,9 @@ fn lengthen(links: &mut Vec<Link>, marks: &mut Vec<Link>, items: usize) -> Resul
     }
 }
 
-/// Lists of items that are in at most one of them, some of which are marked: the marked items of a list
-/// have an order of their own. Without room for items nothing is allocated; each item takes 16 bytes, and
-/// the room for a list that comes with it what a [`NumberMap`] takes for a value of 16.
+/// Lists of items that are in at most one of them, some of which are marked. The marked items of a list have
+/// an order of their own. Without room for items nothing is allocated. Each item takes 16 bytes. The room for
+/// a list that comes with it takes what a [`NumberMap`] takes for a value of 16.
 #[derive(Drop)]
 pub struct MarkedLists {
     links: Vec<Link>,

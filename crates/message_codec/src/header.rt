@@ -17,12 +17,12 @@ pub(crate) const HEADER_BYTES: usize = 24;
 /// The six words of a header, as they are written when a message is received.
 #[derive(Clone, Copy, Debug, PartialEq, Eq)]
 pub struct Header {
-    /// The kind of the remote right in the low 8 bits, that of the local right in the next 8, and
+    /// The kind of the remote right in the low 8 bits, and that of the local right in the next 8. With
     /// `MACH_MSGH_BITS_COMPLEX`, 0x80000000, where the body is a list of items.
     pub bits: u32,
     /// The length of the whole message in bytes.
     pub size: u32,
-    /// The name of the right to answer with, or 0.
+    /// The name of the reply right, or 0.
     pub remote: Name,
     /// The name of the port received from.
     pub local: Name,
@@ -32,7 +32,7 @@ pub struct Header {
     pub id: u32,
 }
 
-/// Whether a disposition may stand in a header.
+/// Returns whether a disposition may stand in a header.
 fn is_sendable(disposition: u8) -> bool
     ensures { IsTrue result ↔ IsSendable disposition }
 {
@@ -53,14 +53,14 @@ pub(crate) fn local_kind(bits: u32) -> u8
     (bits / 0x100 % 0x100) as u8
 }
 
-/// Whether the body is a list of items.
+/// Returns whether the body is a list of items.
 pub(crate) fn is_complex(bits: u32) -> bool
     ensures { IsTrue result ↔ is_bit bits 31 }
 {
     bits / COMPLEX == 1
 }
 
-/// Whether no message has these bits with this local port.
+/// Returns whether no message has these bits with this local port.
 pub(crate) fn is_bad_header(bits: u32, local: u32) -> bool
     ensures { IsTrue result ↔ BadHeader bits local }
 {

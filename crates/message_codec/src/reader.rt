@@ -22,13 +22,13 @@ use type_descriptor::{Descriptor, data_len, descriptor_len, read_descriptor, rea
 /// The header of a message that was received.
 #[derive(Clone, Copy, Debug, PartialEq, Eq)]
 pub struct ReceivedHeader {
-    /// The kind of the right to answer with: 17, 18, or 0 where there is none.
+    /// The kind of the reply right: 17, 18, or 0 where there is none.
     pub remote_kind: u8,
     /// The kind of right that the message was sent to.
     pub local_kind: u8,
     /// The length of the whole message in bytes.
     pub size: u32,
-    /// The name of the right to answer with: 0 where there is none, `ffffffff` where its port has died.
+    /// The name of the reply right: 0 where there is none, `ffffffff` where its port has died.
     pub remote: Name,
     /// The name of the port received from.
     pub local: Name,
@@ -221,11 +221,11 @@ fn read_header(bytes: &[u8]) -> ReceivedHeader
     }
 }
 
-/// What the bytes of a received message say (IPC Interface, `mach_msg`), or nothing where they are no
-/// message: fewer than 24 bytes or more than 65,536, no whole words, an unknown bit in the first word,
-/// or a list of items of which one is none or doesn't end within the bytes. The dispositions are not
-/// looked at. Takes no memory: data and names are read where they stand. The time grows with the number
-/// of items.
+/// Returns what the bytes of a received message say (IPC Interface, `mach_msg`), or nothing where they are no
+/// message. They are none with fewer than 24 bytes or more than 65,536, with no whole words, or with an
+/// unknown bit in the first word. They are none either with a list of items of which one is no item or
+/// doesn't end within the bytes. The dispositions are not looked at. Takes no memory: data and names are read
+/// where they stand. The time grows with the number of items.
 pub fn read_received(bytes: &[u8]) -> Option<Received<'_>>
     ensures some { IfSome result (λ message. Shows bytes.now message) }
 

@@ -56,10 +56,10 @@ fn put_spans(bytes: &mut [u8], spans: &[Span], names: &[Name])
     }
 }
 
-/// Makes the bytes of a sent message those that a receiver gets: the six words of the header, the kind
-/// of each item with port words, and these words, of which `names` has one for each, from the front
-/// (IPC Interface, `mach_msg`). All other bytes stay as they were sent. Takes no memory, and time that
-/// grows with the number of items and words.
+/// Makes the bytes of a sent message those that a receiver gets (IPC Interface, `mach_msg`). It writes the
+/// six words of the header, the kind of each item with port words, and these words. `names` has one name for
+/// each word, from the front. All other bytes stay as they were sent. Takes no memory, and time that grows
+/// with the number of items and words.
 pub fn put_received(bytes: &mut [u8], spans: &[Span], header: &Header, names: &[Name])
     requires laid_out { (written : WireBody) × IsLaidOut bytes.old spans.now written }
     requires named { length names.now ≡ word_count spans.now }

@@ -40,8 +40,8 @@ pub struct Parsed {
     pub spans: Spans,
 }
 
-/// What the kernel needs of a message that carries the right of its destination alone: it has no right to
-/// answer with, and its body is raw bytes.
+/// What the kernel needs of a message that carries the right of its destination alone: it has no reply right,
+/// and its body is raw bytes.
 #[derive(Clone, Copy, Debug, PartialEq, Eq)]
 pub struct Plain {
     /// The disposition of the destination, 17 to 21.
@@ -52,24 +52,24 @@ pub struct Plain {
     pub id: u32,
 }
 
-/// What the kernel needs of a message that carries a right to answer with beside that of its destination,
-/// and no others: its body is raw bytes.
+/// What the kernel needs of a message that carries a reply right beside that of its destination, and no
+/// others: its body is raw bytes.
 #[derive(Clone, Copy, Debug, PartialEq, Eq)]
 pub struct Request {
     /// The disposition of the destination, 17 to 21.
     pub remote_kind: u8,
-    /// The disposition of the right to answer with, 17 to 21.
+    /// The disposition of the reply right, 17 to 21.
     pub local_kind: u8,
     /// The sender's name of the destination.
     pub remote: Name,
-    /// The sender's name of the right to answer with.
+    /// The sender's name of the reply right.
     pub local: Name,
     /// The id.
     pub id: u32,
 }
 
 /// What the kernel needs of a message whose body is one right and nothing else: one item of one port word,
-/// whose descriptor is in the short form. It has no right to answer with.
+/// whose descriptor is in the short form. It has no reply right.
 #[derive(Clone, Copy, Debug, PartialEq, Eq)]
 pub struct Lone {
     /// The disposition of the destination, 17 to 21.
@@ -104,23 +104,22 @@ fn read_body(spans: &mut SmallVec<Span, 8>, bytes: &[u8]) -> Result<(), MsgRetur
     }
 }
 
-/// What these bytes say, as far as the kernel needs it (IPC Interface, `mach_msg`). The bytes are a
+/// Returns what these bytes say, as far as the kernel needs it (IPC Interface, `mach_msg`). The bytes are a
 /// whole text, and nothing follows it.
 ///
 /// # Errors
 /// Each comes only for its fault, and the first of these faults gives the code:
 /// - [`MsgReturn::SendMsgTooSmall`]: fewer than 24 bytes, or a number of them that is no multiple of 4.
 /// - [`MsgReturn::SendInvalidData`]: more than 65,536 bytes.
-/// - [`MsgReturn::SendInvalidHeader`]: an unknown bit; a remote disposition that is not 17 to 21; a local
-///   one that is neither 0 nor 17 to 21; a local port other than 0 where the local disposition is 0.
-/// - With `MACH_MSGH_BITS_COMPLEX`, item by item from the front: the faults of a descriptor, with the
-///   codes of [`type_descriptor::read_descriptor`], and then [`MsgReturn::SendMsgTooSmall`]: data past
-///   the end.
-/// - [`MsgReturn::SendNoBuffer`]: memory was refused. No other fault is there, and more than 8 items
-///   have port words.
+/// - [`MsgReturn::SendInvalidHeader`]: an unknown bit; a remote disposition that is not 17 to 21; a local one
+///   that is neither 0 nor 17 to 21; or, where that is 0, a local port other than 0.
+/// - With `MACH_MSGH_BITS_COMPLEX`, item by item from the front: the faults of a descriptor, with the codes
+///   of [`type_descriptor::read_descriptor`], and then [`MsgReturn::SendMsgTooSmall`]: data past the end.
+/// - [`MsgReturn::SendNoBuffer`]: memory was refused. No other fault is there, and more than 8 items have
+///   port words.
 ///
-/// Up to 8 items with port words take no memory. The time grows with the number of items: of raw
-/// bytes and of data nothing is looked at.
+/// Up to 8 items with port words take no memory. The time grows with the number of items: raw bytes and data
+/// aren't looked at.
 pub fn parse(alloc: Global, bytes: &[u8]) -> Result<Parsed, MsgReturn>
     ensures ok { IfOk result (λ parsed. Parses bytes.now parsed) }
     ensures err { IfErr result (λ code. TextRefuses bytes.now (msg_number code)
@@ -170,9 +169,9 @@ pub fn parse_plain(bytes: &[u8]) -> Option<Plain>
     })
 }
 
-/// What these bytes say, if they are a message with a right to answer with and a body of raw bytes: just
-/// what [`parse`] gives of them, read without a list of spans. `None` for every other text, and for bytes
-/// that are none. Takes no memory. Constant time.
+/// Fast path of [`parse`] for a message with a reply right and a body of raw bytes: returns what `parse`
+/// does, without a list of spans. `None` for every other text, and for bytes that are no text. Takes no
+/// memory. Constant time.
 pub fn parse_request(bytes: &[u8]) -> Option<Request>
     ensures some { IfSome result (λ request. Parses bytes.now (parsed_request request)) }
     ensures answered { IfSome result (λ request. request.local_kind ≢ 0) }
@@ -209,9 +208,9 @@ fn lone_disposition(first: u32) -> Option<u8>
     Some(disposition)
 }
 
-/// What these bytes say, if they are a message whose body is one port word in the short form, and have no
-/// right to answer with: just what [`parse`] gives of them, and the word, read without a list of spans.
-/// `None` for every other text, and for bytes that are none. Takes no memory. Constant time.
+/// Fast path of [`parse`] for a message whose body is one port word in the short form, and that has no reply
+/// right. Returns what `parse` does, and the word, without a list of spans. `None` for every other text, and
+/// for bytes that are no text. Takes no memory. Constant time.
 #[inline(always)]
 pub fn parse_lone(bytes: &[u8]) -> Option<Lone>
     ensures some { IfSome result (λ lone. Parses bytes.now (parsed_lone lone)) }

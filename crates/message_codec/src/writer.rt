@@ -33,7 +33,7 @@ pub struct PortRight {
 pub struct SendHeader {
     /// The destination.
     pub destination: PortRight,
-    /// The right to answer with, if there is one.
+    /// The reply right, if there is one.
     pub reply: Option<PortRight>,
     /// The id.
     pub id: u32,
@@ -116,7 +116,7 @@ fn port_descriptor(disposition: Disposition, names: &[Name]) -> Descriptor
     descriptor_for(disposition.number(), 32, names.len() as u32)
 }
 
-/// Whether data can be an item: its type is no disposition, and its bytes are whole elements.
+/// Returns whether data can be an item: its type is no disposition, and its bytes are whole elements.
 fn is_data(name: u8, size: u16, elements: &[u8]) -> bool
     requires { length elements.now ≤ most_bytes }
     ensures { IsTrue result ↔ IsData name size elements.now }
@@ -125,7 +125,7 @@ fn is_data(name: u8, size: u16, elements: &[u8]) -> bool
     !(16..=21).contains(&name) && (number as usize * size as usize + 7) / 8 == elements.len()
 }
 
-/// Whether an item has a text.
+/// Returns whether an item has a text.
 fn is_item(item: &SendItem<'_>) -> bool
     requires { length (wire_text (item_wire item.now)) ≤ most_bytes }
     ensures { IsTrue result ↔ IsItem item.now }
@@ -136,7 +136,7 @@ fn is_item(item: &SendItem<'_>) -> bool
     }
 }
 
-/// Whether all items have texts.
+/// Returns whether all items have texts.
 fn are_items(items: &[SendItem<'_>]) -> bool
     requires { length (items_text items.now) ≤ most_bytes }
     ensures { IsTrue result ↔ All IsItem items.now }
@@ -212,7 +212,7 @@ fn message_len(body: &SendBody<'_>) -> usize
     }
 }
 
-/// Whether a body takes whole words.
+/// Returns whether a body takes whole words.
 fn is_whole(body: &SendBody<'_>) -> bool
     ensures { IsTrue result ↔ (written_length body.now % 4 ≡ 0) }
 {
@@ -222,7 +222,7 @@ fn is_whole(body: &SendBody<'_>) -> bool
     }
 }
 
-/// Whether a body has a text.
+/// Returns whether a body has a text.
 fn is_body(body: &SendBody<'_>) -> bool
     requires { written_length body.now ≤ most_bytes }
     ensures { IsTrue result ↔ AreItems body.now }

@@ -1,4 +1,4 @@
-//! One task's names: a finite map from names to what stands under them.
+//! One task's names: a finite map from names to what is under them.
 //!
 //! At most 65,535 names, each any 32-bit number but 0 and 0xffffffff. A port has one name at most by
 //! receive or send rights, and the name is found by the port. Room for fresh names to come is made by
@@ -32,7 +32,7 @@ use std::marker::Model;
 use table::Table;
 use user_refs::UserRefs;
 
-/// What stands under a name.
+/// What is under a name.
 #[derive(Clone, Copy, Debug, PartialEq, Eq)]
 pub enum Entry {
     /// The port's receive right.
@@ -94,7 +94,7 @@ impl Entry {
         }
     }
 
-    /// Whether this has a receive right.
+    /// Returns whether this has a receive right.
     pub fn has_receive(&self) -> bool
         ensures { result ≡ has_receive self.now }
     {
@@ -158,12 +158,12 @@ impl Entry {
     }
 }
 
-/// A name, and what stands under it.
+/// A name, and what is under it.
 #[derive(Clone, Copy, Debug, PartialEq, Eq)]
 pub struct PortName {
     /// The name.
     pub name: Name,
-    /// What stands under it.
+    /// What is under it.
     pub entry: Entry,
 }
 
@@ -263,14 +263,14 @@ impl Space {
         self.len
     }
 
-    /// Whether no name is in use. Constant time.
+    /// Returns whether no name is in use. Constant time.
     pub fn is_empty(&self) -> bool
         ensures { IsTrue result ↔ (map.len self.now.names ≡ 0) }
     {
         self.len() == 0
     }
 
-    /// Whether 65,535 names are in use, so that no other can be added. Constant time.
+    /// Returns whether 65,535 names are in use, so that no other can be added. Constant time.
     pub fn is_full(&self) -> bool
         ensures { IsTrue result ↔ (most_names ≤ map.len self.now.names) }
     {
@@ -284,8 +284,8 @@ impl Space {
         self.table.room()
     }
 
-    /// What stands under the name, if it is in use. Constant time; in the tree logarithmic in the
-    /// number of names there.
+    /// What is under the name, if it is in use. Constant time; in the tree logarithmic in the number of names
+    /// there.
     #[inline(always)]
     pub fn lookup(&self, name: Name) -> Option<Entry>
         ensures { result ≡ map.get self.now.names name }
@@ -293,9 +293,10 @@ impl Space {
         self.table.get(name)
     }
 
-    /// The fresh name, where fewer than 65,535 names are in use: the least unused number from 1, or with a
-    /// generation the least unused index from 1, times 256, and in the low 8 bits how often a fresh name was
-    /// counted at this index ([`Space::count`]), modulo 256. Less than 2^24. Constant time.
+    /// Returns the fresh name, where fewer than 65,535 names are in use. Without a generation it is the least
+    /// unused number from 1. With one it is the least unused index from 1, times 256. Its low 8 bits are then
+    /// how often a fresh name was counted at this index ([`Space::count`]), modulo 256. Less than 2^24.
+    /// Constant time.
     #[inline(always)]
     pub fn fresh(&self) -> Name
         requires not_full { map.len self.now.names < most_names }
@@ -342,16 +343,17 @@ impl Space {
         self.table.reserve(additional)
     }
 
-    /// Keeps a place for the name, in use or not, so that [`Space::insert`] and [`Space::rename`] can
-    /// put an entry under it without memory. The place stays the name's own, also after the name went
-    /// in and out of use, until one is kept for another name. Constant time, but where memory is taken
-    /// for more ports than there were; in the tree logarithmic in the number of names there.
+    /// Keeps a place for the name, in use or not, so that [`Space::insert`] and [`Space::rename`] can put an
+    /// entry under it without memory. The place stays the name's own, even after the name went in and out of
+    /// use, until one is kept for another name. Constant time, except where memory is taken for more ports
+    /// than there were; in the tree logarithmic in the number of names there.
     ///
-    /// An error means that memory was refused, and that the place was not kept before; all is then as
-    /// it was. It comes only where the place that is given up has a port's name; or where, without a
-    /// generation, the new name is above 65,535, or no name of its 256 is in use; or, with a generation,
-    /// there is no room, the place that is given up has a name in use, or in the page of 256 indices no
-    /// index has a name in use.
+    /// An error means that memory was refused, and that the place was not kept before; all is then as it was.
+    /// It comes only in one of these cases:
+    /// - The place that is given up has a port's name.
+    /// - Without a generation: the new name is above 65,535, or no name of its 256 is in use.
+    /// - With a generation: there is no room, the place that is given up has a name in use, or no index in
+    ///   the page of 256 indices has a name in use.
     pub fn reserve_name(&mut self, name: Name) -> Result<(), AllocError>
         requires usable { IsUsable name }
         ensures ok { OnOk result (self.new ≡ record self.old { kept = Some name }) }
@@ -369,9 +371,9 @@ impl Space {
         Ok(())
     }
 
-    /// Puts the entry under a name that is not in use, in a place that was made: the fresh name where
-    /// there is room for one, or the name for which a place is kept. Takes no memory. Constant time;
-    /// in the tree logarithmic in the number of names there.
+    /// Puts the entry under a name that is not in use, in a place that was made. The name is the fresh one
+    /// where there is room for one, or the one for which a place is kept. Takes no memory. Constant time; in
+    /// the tree logarithmic in the number of names there.
     #[inline(always)]
     pub fn insert(&mut self, name: Name, entry: Entry)
         requires usable { IsUsable name }
@@ -388,9 +390,8 @@ impl Space {
         }
     }
 
-    /// Puts the entry in place of what stands under a name. It is of the same port by receive or
-    /// send rights, or of none. Takes no memory. Constant time; in the tree logarithmic in the number
-    /// of names there.
+    /// Puts the entry in place of what is under a name. It is of the same port by receive or send rights, or
+    /// of none. Takes no memory. Constant time; in the tree logarithmic in the number of names there.
     pub fn replace(&mut self, name: Name, entry: Entry)
         requires used { map.contains_key self.old.names name ≡ true }
         requires same { (port : ℕ) → port_named entry ≡ Some port → port_at self.old.names name ≡ Some port }
@@ -403,8 +404,8 @@ impl Space {
         }
     }
 
-    /// Adds a send reference under the name that has the port's receive right or send rights, if one
-    /// has, and answers that name with what stood under it before. A reference above 65,535 is not kept.
+    /// Adds a send reference under the name that has the port's receive right or send rights, if one has, and
+    /// returns that name with what was under it before. A reference above 65,535 is not kept.
     ///
     /// `None` where no name has such rights for the port; nothing is then changed. Takes no memory.
     /// Constant time; in the tree logarithmic in the number of names there.
@@ -420,8 +421,8 @@ impl Space {
         Some(PortName { name, entry })
     }
 
-    /// Takes a name out of use, and answers what stood under it. Room stays as it is, and the place that
-    /// is kept for a name. Constant time; where the tree has names logarithmic in their number.
+    /// Takes a name out of use, and returns what was under it. Room stays as it is, and the place that is
+    /// kept for a name. Constant time; where the tree has names logarithmic in their number.
     #[inline(always)]
     pub fn remove(&mut self, name: Name) -> Option<Entry>
         ensures value { result ≡ map.get self.old.names name }
@@ -435,7 +436,7 @@ impl Space {
         Some(entry)
     }
 
-    /// Gives what stands under a name another name that is not in use (Port Manipulation Interface,
+    /// Gives what is under a name another name that is not in use (Port Manipulation Interface,
     /// `mach_port_rename`), for which a place is kept. Takes no memory. Constant time; where the tree has
     /// names logarithmic in their number.
     pub fn rename(&mut self, from: Name, to: Name)
@@ -453,8 +454,8 @@ impl Space {
         }
     }
 
-    /// The names, rising. Linear in their number, but for four words of each page that was used and
-    /// has none.
+    /// The names, rising. Linear in their number, except for four words of each page that was used and has
+    /// none.
     ///
     /// An error means that memory was refused.
     pub fn names(&self, alloc: Global) -> Result<Vec<Name>, AllocError>
@@ -472,7 +473,7 @@ impl Space {
     }
 
     /// The least name in use from this one on, if there is one: so all names can be taken out in turn.
-    /// Constant time, but for four words of each page that was used and has none from there on; where the
+    /// Constant time, except for four words of each page that was used and has none from there on; where the
     /// tree has names logarithmic in their number.
     pub fn next_name(&self, from: Name) -> Option<Name>
         ensures none { IfNone result ((name : ℕ) → from ≤ name → map.get self.now.names name ≡ None) }

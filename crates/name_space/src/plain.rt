@@ -1,4 +1,4 @@
-//! What stands under each name, where names have no generation: up to 65,535 in pages, above in a tree.
+//! What is under each name, where names have no generation: up to 65,535 in pages, above in a tree.
 ghost use Rattle.std.specs.Prelude.{◌≡◌, ◌≢◌, ◌⊎◌, ℕ, ◌-◌, ◌<◌, ◌≤◌, ◌↔◌, IsTrue, true, max, Some, None, IfSome, IfNone, IsOk, OnOk, OnErr};
 ghost use Rattle.std.specs.FinMap as map;
 ghost use Rattle.mach_types.specs.Numbers.{most_names};

@@ -47,7 +47,7 @@ impl<V: Copy> High<V> {
         }
     }
 
-    /// Whether the place is kept for the name. Constant time.
+    /// Returns whether the place is kept for the name. Constant time.
     pub fn keeps(&self, name: u32) -> bool
         ensures { IsTrue result ↔ (self.now.kept ≡ Some name) }
     {

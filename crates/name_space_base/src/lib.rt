@@ -152,8 +152,8 @@ impl<T: Copy> Pages<T> {
         (PAGE * page + self.pages[page].first_free(from)) as u32
     }
 
-    /// The least number from this one on that has a value. Constant time, but for four words of each
-    /// page without such a number.
+    /// The least number from this one on that has a value. Constant time, except for four words of each page
+    /// without such a number.
     pub fn next_used(&self, from: u32) -> Option<u32>
         ensures found { IfSome result (λ number. IsNextUsed self.now.values from number) }
         ensures none { IfNone result ((n : ℕ) → from ≤ n → map.get self.now.values n ≡ None) }
@@ -256,7 +256,7 @@ impl<T: Copy> Pages<T> {
         self.pages[number as usize / PAGE].value_mut(number as usize % PAGE)
     }
 
-    /// Takes out the value under a number, and answers it. Room and pages stay as they are. Constant time.
+    /// Takes out the value under a number, and returns it. Room and pages stay as they are. Constant time.
     pub fn remove(&mut self, number: u32) -> Option<T>
         ensures value { result ≡ map.get self.old.values number }
         ensures after { self.new ≡ record self.old { values = map.remove self.old.values number } }

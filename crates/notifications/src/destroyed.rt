@@ -81,9 +81,9 @@ fn lose_body(world: &mut World, queued: &Queued)
     }
 }
 
-/// The port's front message is destroyed: its number is used, the right by which it came is used up, and
-/// what else it carries is lost: a port whose receive right it carries is lost, and a send-once right tells
-/// its port.
+/// Destroys the port's front message. Its number is used, the right by which it came is used up, and what
+/// else it carries is lost. A port whose receive right it carries is lost, and a send-once right tells its
+/// port.
 ///
 /// Takes no memory and cannot fail. Linear in the rights that it carries.
 pub fn lose_message(world: &mut World, port: PortId)

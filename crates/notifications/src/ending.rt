@@ -19,12 +19,11 @@ use port::Ports;
 use port_set::{Sets, disband};
 use rights::RightKind;
 
-/// The task, which lives, ends: all that its names hold is lost, and the requests on them end. The port
-/// of each send-once right is told; ports whose receive rights it had wait to be judged.
+/// Ends the task, which lives. All that its names hold is lost, and the requests on them end. The port of
+/// each send-once right is told. Ports whose receive rights it had wait to be judged.
 ///
-/// Takes no memory and cannot fail. Linear in its names and in the members of its sets, but for a
-/// logarithm for each name above 65,535, and for four words of each page of 256 names up to there that
-/// was used.
+/// Takes no memory and cannot fail. Linear in its names and in the members of its sets. Each name above
+/// 65,535 adds a logarithm. Each page of 256 names up to there that was used adds four words.
 pub fn end_task(world: &mut World, task: TaskId)
     requires stands { Stands world.old }
     requires there { HasTask world.old task }

@@ -1,4 +1,4 @@
-//! Rights that a call takes from their place and gives no new one.
+//! Loses rights that a call takes from their place and gives to none.
 ghost use Rattle.std.specs.Prelude.{◌<◌};
 ghost use Rattle.copyin_base.specs.declared.notice.Notice.TheVariants as notice;
 ghost use Rattle.copyin_base.specs.Shows.{SlotsSuffice};
@@ -10,7 +10,7 @@ use copyin_base::{Notice, World};
 use mach_types::PortId;
 use rights::RightKind;
 
-/// The port's receive right is lost: the end of the step judges whether it dies, or is sent away.
+/// Loses the port's receive right. The end of the step judges whether the port dies or is sent away.
 ///
 /// Takes no memory and cannot fail. Constant time.
 #[inline(always)]
@@ -22,7 +22,7 @@ pub fn kill_port(world: &mut World, port: PortId)
     world.ports.lose(port);
 }
 
-/// A send-once right for the port, which no queued message went by, is lost unused: its port is told.
+/// Loses an unused send-once right for the port, and posts the notice of that to it.
 ///
 /// Takes no memory and cannot fail. Constant time.
 pub fn lose_once(world: &mut World, port: PortId)

@@ -103,24 +103,30 @@ struct Judged {
 // ---- the call
 
 /// Asks for a notice, or takes such a request away (Port Manipulation Interface,
-/// `mach_port_request_notification`): answers the name that the right of the request that stood there
-/// comes out under, [`Name::null`] where none stood, and [`Name::dead`] where its port is gone. The task
-/// lives. A send-once right pays for the notice, moved from `asked.notify` or made from a receive right
-/// there; 0 there only takes a request away. That a port has no senders, or that a name is dead, is told
-/// at once where it is so and `asked.sync` allows it. All from `INVALID_NAME` on is judged as it will be
-/// once the right that pays has gone. A refusal changes nothing, but that room may have been made for
-/// the name or the request.
+/// `mach_port_request_notification`). Returns the name under which the right of the earlier request comes
+/// out: [`Name::null`] where none stood, and [`Name::dead`] where its port is gone. The task lives.
 ///
-/// Errors, of which the first is answered: `INVALID_VALUE` where the variant is none of the three, the
-/// disposition neither of 18 and 21 though a right is given, or `sync` isn't 0 for a port-destroyed
-/// notice; `INVALID_CAPABILITY` where the right isn't there, or its port isn't; `INVALID_NAME` where
-/// nothing stands under the name; `INVALID_RIGHT` where it has no receive right, as 69 and 70 ask, or is
-/// a set's for 72; `INVALID_ARGUMENT` for a dead name where `sync` is 0 or no right is given;
-/// `UREFS_OVERFLOW` for one with 65,535 references; `NO_SPACE` at 65,535 names where a right comes out,
-/// or at 4,294,967,295 rights where one is made; `RESOURCE_SHORTAGE` where memory was refused for a name,
-/// for the request, or for the slot that a send-once right that is made wants. Constant time, and
-/// logarithmic for a name above 65,535; where room is made, linear in the number of requests or of the
-/// task's names at most.
+/// A send-once right pays for the notice, moved from `asked.notify` or made from a receive right there; 0
+/// there only takes a request away. That a port has no senders, or that a name is dead, is told at once where
+/// it is so and `asked.sync` allows it. All from `INVALID_NAME` on is judged as it will be once the right
+/// that pays has gone.
+///
+/// # Errors
+/// A refusal changes nothing, except that room may have been made for the name or the request. The first that
+/// holds is returned.
+/// - `INVALID_VALUE`: the variant is none of the three, the disposition is neither 18 nor 21 though a right
+///   is given, or `sync` isn't 0 for a port-destroyed notice.
+/// - `INVALID_CAPABILITY`: the right isn't there, or its port isn't.
+/// - `INVALID_NAME`: nothing is under the name.
+/// - `INVALID_RIGHT`: the name has no receive right, as 69 and 70 ask, or is a set's for 72.
+/// - `INVALID_ARGUMENT`: a dead name, and `sync` is 0 or no right is given.
+/// - `UREFS_OVERFLOW`: a dead name with 65,535 references.
+/// - `NO_SPACE`: 65,535 names where a right comes out, or 4,294,967,295 rights where one is made.
+/// - `RESOURCE_SHORTAGE`: memory was refused for a name, for the request, or for the slot of a send-once
+///   right that is made.
+///
+/// Constant time, and logarithmic for a name above 65,535. Where room is made, at most linear in the number
+/// of requests or of the task's names.
 pub fn request_notification(
     world: &mut World,
     task: TaskId,
@@ -149,7 +155,7 @@ pub fn request_notification(
 }
 
 /// Whether the request may be carried out, where there is memory: as [`request_notification`] refuses it,
-/// but for want of memory. The task lives. Constant time, and logarithmic for a name above 65,535.
+/// except when out of memory. The task lives. Constant time, and logarithmic for a name above 65,535.
 pub fn check_request(
     world: &World,
     task: TaskId,
@@ -189,8 +195,8 @@ fn judge(world: &World, task: TaskId, name: Name, asked: &Asked) -> Result<Judge
     })
 }
 
-/// Carries the request out: renews it where a right pays, and else takes it away. Answers the name that
-/// the right of the one that stood there comes out under.
+/// Carries the request out: renews it where a right pays, and else takes it away. Returns the name that the
+/// right of the one that stood there comes out under.
 fn carry_out(world: &mut World, task: TaskId, name: Name, sync: u32, judged: &Judged) -> Name
     requires { CanCarryOut world.old task name judged.now.paying judged.now.subject judged.now.previous }
     ensures { CarriesOut world.old task name sync judged.now.paying judged.now.subject judged.now.previous result world.new }
@@ -279,7 +285,7 @@ fn judge_paying(world: &World, task: TaskId, asked: &Asked) -> Result<Option<Pay
 
 // ---- what the request is on
 
-/// What stands under the task's name once the right that pays has gone.
+/// What is under the task's name once the right that pays has gone.
 fn entry_then(world: &World, task: TaskId, paying: &Option<Paying>, name: Name) -> Option<Entry>
     ensures { result ≡ entry_left world.now task paying.now name }
 {
@@ -303,9 +309,9 @@ fn judge_dead(references: UserRefs, asked: &Asked) -> Result<Subject, KernReturn
     Ok(Subject::Dead(references))
 }
 
-/// What a request of this variant is on, by what stands under the name. `KERN_INVALID_NAME` where nothing
-/// does; `KERN_INVALID_RIGHT` where it isn't what the variant asks for; `KERN_INVALID_ARGUMENT` for a dead
-/// name that isn't to be told of at once; `KERN_UREFS_OVERFLOW` for one with 65,535 references.
+/// Returns what a request of this variant is on, by what is under the name. `KERN_INVALID_NAME` where nothing
+/// is. `KERN_INVALID_RIGHT` where it isn't what the variant asks for. `KERN_INVALID_ARGUMENT` for a dead name
+/// that isn't to be told of at once. `KERN_UREFS_OVERFLOW` for one with 65,535 references.
 fn judge_subject(
     entry: Option<Entry>,
     variant: Variant,
@@ -361,7 +367,7 @@ fn previous_of(world: &World, task: TaskId, name: Name, subject: &Subject) -> Op
     }
 }
 
-/// Whether a right comes out for the request that was there: its port is there.
+/// Returns whether a right comes out for the request that was there: its port is there.
 fn comes_out(world: &World, previous: Option<PortId>) -> bool
     ensures { MatchBool result (ComesOut world.now previous) (¬ (ComesOut world.now previous)) }
 {
@@ -373,7 +379,7 @@ fn comes_out(world: &World, previous: Option<PortId>) -> bool
 
 // ---- room
 
-/// Whether the right that pays is made, so that there is one right more.
+/// Returns whether the right that pays is made, so that there is one right more.
 fn is_made(paying: &Option<Paying>) -> bool
     ensures { result ≡ is_made_by paying.now }
 {
@@ -395,7 +401,7 @@ fn count_names(world: &World, task: TaskId, paying: &Option<Paying>) -> usize
     }
 }
 
-/// Whether there are too many rights, with the one that pays where that is made.
+/// Returns whether there are too many rights, with the one that pays where that is made.
 fn lacks_rights(world: &World, paying: &Option<Paying>) -> bool
     ensures { MatchBool result (most_rights < rights_then world.now paying.now) (rights_then world.now paying.now ≤ most_rights) }
 {
@@ -482,8 +488,8 @@ fn reserve_place(
     }
 }
 
-/// Makes what memory is wanted for: room for the name of the right that comes out, room for the request
-/// where none stands there, and a slot for the notice that a right brings which is made.
+/// Makes room where it is wanted: for the name of the right that comes out, for the request where none stands
+/// there, and for the notice where the right that pays is made.
 fn reserve(
     world: &mut World,
     task: TaskId,
@@ -547,8 +553,8 @@ fn mark_of_port(previous: Option<PortId>) -> Mark
     }
 }
 
-/// Gives the right of the request that was there under a fresh name, and answers the name:
-/// [`Name::null`] where there was none, and [`Name::dead`] where its port is gone.
+/// Gives the right of the request that was there under a fresh name, and returns the name: [`Name::null`]
+/// where there was none, and [`Name::dead`] where its port is gone.
 fn give_previous(world: &mut World, task: TaskId, previous: Option<PortId>) -> Name
     requires { CanGive world.old task (record { given = disposition_of.MoveSendOnce; mark = mark_for previous } ∷ []) }
     ensures { GivesMark world.old task send_once (mark_for previous) result world.new }

@@ -412,12 +412,12 @@ impl<V: Copy> NumberMap<V> {
         Some(self.nodes[place].value)
     }
 
-    /// Makes room for at least so many more keys. Constant time where there is room for them, and
-    /// else linear in the number of keys at most, as all may move to a larger place: for each key 64 nodes
-    /// are read at most.
+    /// Makes room for at least so many more keys. Constant time where there is room for them. Else at most
+    /// linear in the number of keys, as all may move to a larger place: for each key 64 nodes are read at
+    /// most.
     ///
-    /// An error means that memory was refused, or that there would be more than 4,294,967,295 keys; all
-    /// is then as before. It never comes where there is room already. Nothing else here takes memory.
+    /// An error means that memory was refused, or that there would be more than 4,294,967,295 keys; all is
+    /// then as before. It never comes where there is room already. Nothing else here takes memory.
     pub fn reserve(&mut self, additional: usize) -> Result<(), AllocError>
         ensures ok { OnOk result (self.new ≡ record self.old { room = max self.old.room additional }) }
         ensures err { OnErr result (self.new ≡ self.old) }
@@ -477,7 +477,7 @@ impl<V: Copy> NumberMap<V> {
         &mut self.nodes[place].value
     }
 
-    /// Takes a key out, if it is there, and answers its value. The room for new keys stays as it was.
+    /// Takes a key out, if it is there, and returns its value. The room for new keys stays as it was.
     /// Constant time: reads 200 nodes at most.
     #[inline(always)]
     pub fn remove(&mut self, key: u64) -> Option<V>

@@ -15,7 +15,7 @@ impl<M: Message> Ports<M> {
     ghost use Rattle.port_base.specs.declared.Holder.TheVariants as Holder;
 
     /// Says that a port's receive right was lost, as [`Ports::lose`] does, where the port is there, and
-    /// answers whether it is. Where it is gone, nothing changes. Takes no memory. Constant time.
+    /// returns whether it is. Where it is gone, nothing changes. Takes no memory. Constant time.
     #[inline(always)]
     pub fn lose_if_there(&mut self, port: PortId) -> bool
         requires { (p : PortView M) → map.get self.old.ports port ≡ Some p → CanHold p.attributes.holder }

@@ -154,7 +154,7 @@ impl<M: Message> Ports<M> {
         Ok(())
     }
 
-    /// Whether all 2^64 identities were given, so that no port can be made. Constant time.
+    /// Returns whether all 2^64 identities were given, so that no port can be made. Constant time.
     pub fn is_exhausted(&self) -> bool
         ensures { IsTrue result ↔ (most_identities ≤ self.now.made) }
     {
@@ -230,7 +230,7 @@ impl<M: Message> Ports<M> {
         Some(self.records[key].kept.attributes())
     }
 
-    /// Whether the port is there. Constant time.
+    /// Returns whether the port is there. Constant time.
     pub fn contains(&self, port: PortId) -> bool
         ensures { result ≡ is_some (map.get self.now.ports port) }
     {
@@ -375,8 +375,8 @@ impl<M: Message> Ports<M> {
         Some(self.records[key].id)
     }
 
-    /// Whether no port is left that was lost, doomed or noted, and no message that was destroyed. Constant
-    /// time.
+    /// Returns whether no port is left that was lost, doomed or noted, and no message that was destroyed.
+    /// Constant time.
     pub fn is_idle(&self) -> bool
         ensures idle { IsTrue result ↔ IsIdle self.now }
         ensures lost { (port : ℕ) → Contains self.now.lost port ↔ IsHeldBy self.now port Holder.Nobody }
@@ -397,7 +397,7 @@ impl<M: Message> Ports<M> {
         }
     }
 
-    /// Whether the port is there and has fewer messages than its limit. Constant time.
+    /// Returns whether the port is there and has fewer messages than its limit. Constant time.
     pub fn has_room(&self, port: PortId) -> bool
         ensures live { (p : PortView M) → map.get self.now.ports port ≡ Some p → (IsTrue result ↔ (length p.queue < p.attributes.limit)) }
         ensures gone { map.get self.now.ports port ≡ None → result ≡ false }
@@ -471,9 +471,9 @@ impl<M: Message> Ports<M> {
         Some(take_at(&mut self.records, key, &mut self.sets, &mut self.spare))
     }
 
-    /// Moves the message at the front of a port's queue, in its slot, behind the destroyed ones, and
-    /// answers whether there was one. A port that has more goes to the end of its set's ready ones.
-    /// Where the port is gone or has none, all is as before. Takes no memory. Constant time.
+    /// Moves the message at the front of a port's queue, in its slot, behind the destroyed ones, and returns
+    /// whether there was one. A port that has more goes to the end of its set's ready ones. Where the port is
+    /// gone or has none, all is as before. Takes no memory. Constant time.
     pub fn destroy_first(&mut self, port: PortId) -> bool
         ensures { MatchBool result (DestroysFirst self.old port self.new) (NoneQueued self.old port × (self.new ≡ self.old)) }
     {

@@ -6,7 +6,7 @@ ghost use Rattle.std.specs.FinMap as map;
 use crate::{Message, Ports, key_of};
 use mach_types::PortId;
 
-/// What a receipt asks of a port first.
+/// What a receive asks of a port first.
 #[derive(Clone, Copy, Debug, PartialEq, Eq)]
 pub struct Standing {
     /// Whether it is in a set.

@@ -65,7 +65,7 @@ impl Sets {
         }
     }
 
-    /// Whether all 2^64 identities were given, so that no set can be made. Constant time.
+    /// Returns whether all 2^64 identities were given, so that no set can be made. Constant time.
     pub fn is_exhausted(&self) -> bool
         ensures { IsTrue result ↔ (most_identities ≤ self.now.made) }
     {

@@ -134,7 +134,7 @@ impl Requests {
         }
     }
 
-    /// Whether there are none: none that stands, and none whose name went. Constant time.
+    /// Returns whether there are none: none that stands, and none whose name went. Constant time.
     pub fn is_empty(&self) -> bool
         ensures { IsTrue result ↔ ((self.now.requests ≡ map.empty) × (self.now.went ≡ [])) }
     {
@@ -148,12 +148,11 @@ impl Requests {
         self.by_name.room() - self.went.len()
     }
 
-    /// Makes room for at least so many more requests. Constant time where there is room for them, and
-    /// else linear in the number of requests and of those to come at most, as all may move to a larger
-    /// place.
+    /// Makes room for at least so many more requests. Constant time where there is room for them. Else at
+    /// most linear in the number of requests and of those to come, as all may move to a larger place.
     ///
-    /// An error means that memory was refused; all is then as before. It never comes where there is
-    /// room already. Nothing else here takes memory.
+    /// An error means that memory was refused; all is then as before. It never comes where there is room
+    /// already. Nothing else here takes memory.
     pub fn reserve(&mut self, additional: usize) -> Result<(), AllocError>
         ensures ok { OnOk result (self.new ≡ record self.old { room = max self.old.room additional }) }
         ensures err { OnErr result (self.new ≡ self.old) }
@@ -229,8 +228,8 @@ impl Requests {
         self.went.front().copied()
     }
 
-    /// Takes out the first of the requests whose names went, if there is one, and answers it; its place
-    /// is room for another. `None` leaves all as it was. Constant time.
+    /// Takes out the first of the requests whose names went, if there is one, and returns it; its place is
+    /// room for another. `None` leaves all as it was. Constant time.
     pub fn take_went(&mut self) -> Option<Request>
         ensures some { IfSome result (λ r. (self.old.went ≡ r ∷ self.new.went) × (self.new ≡ without_first_went self.old)) }
         ensures none { IfNone result ((self.old.went ≡ []) × (self.new ≡ self.old)) }

@@ -25,10 +25,10 @@ pub enum RightKind {
     Receive,
     /// A send right.
     Send,
-    /// A send-once right that no queued message goes by: with a task, in a message's body or kept by a
+    /// A send-once right to which no queued message was sent: with a task, in a message's body or kept by a
     /// request. It may still pay for a notice.
     SendOnce,
-    /// A send-once right that a queued message goes by.
+    /// A send-once right to which a queued message was sent.
     Destination,
 }
 
@@ -39,9 +39,9 @@ pub struct Counts {
     pub receive: u32,
     /// Send rights.
     pub send: u32,
-    /// Send-once rights that no queued message goes by.
+    /// Send-once rights to which no queued message was sent.
     pub send_once: u32,
-    /// Send-once rights that queued messages go by.
+    /// Send-once rights to which queued messages were sent.
     pub destination: u32,
 }
 
@@ -111,8 +111,8 @@ fn unused_of(kind: RightKind, number: u32) -> u32
     }
 }
 
-/// The counts of each port that was entered, how many rights there are in all, and how many send-once
-/// rights that no queued message goes by. An empty ledger has allocated nothing.
+/// The counts of each port that was entered, how many rights there are in all, and how many send-once rights
+/// to which no queued message was sent. An empty ledger has allocated nothing.
 #[derive(Drop)]
 pub struct Ledger {
     ports: NumberMap<Counts>,
@@ -171,7 +171,7 @@ impl Ledger {
         Ok(())
     }
 
-    /// Removes a port with all its rights, and answers what they were. Constant time.
+    /// Removes a port with all its rights, and returns what they were. Constant time.
     #[inline(always)]
     pub fn leave(&mut self, port: PortId) -> Counts
         requires { IsEntered self.old port }
@@ -198,7 +198,7 @@ impl Ledger {
         self.total
     }
 
-    /// How many send-once rights there are that no queued message goes by: so many notices may come, and
+    /// How many send-once rights there are to which no queued message was sent: so many notices may come, and
     /// each wants a message slot. Constant time.
     pub fn unused(&self) -> u32
         ensures value { result ≡ self.now.unused }
@@ -237,7 +237,7 @@ impl Ledger {
         self.unused -= unused_of(kind, number);
     }
 
-    /// Counts a send-once right of a port as one that a queued message goes by. Constant time.
+    /// Counts a send-once right of a port as one to which a queued message was sent. Constant time.
     pub fn shift(&mut self, port: PortId)
         requires entered { IsEntered self.old port }
         requires there { 0 < (counts_of self.old port).send_once }

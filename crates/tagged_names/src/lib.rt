@@ -144,7 +144,7 @@ impl<V: Copy> TaggedNames<V> {
         self.places.kept()
     }
 
-    /// Whether a place is kept for the name. Constant time.
+    /// Returns whether a place is kept for the name. Constant time.
     #[inline(never)]
     pub fn keeps(&self, name: u32) -> bool
         ensures { IsTrue result ↔ (self.now.kept ≡ Some name) }
@@ -153,13 +153,13 @@ impl<V: Copy> TaggedNames<V> {
     }
 
     /// Keeps a place for the name, in use or not, so that [`TaggedNames::insert`] can put a value under it
-    /// without memory. The place stays the name's own, also after the name went in and out of use, until
-    /// one is kept for another name. Logarithmic in the number of names in the tree, and where memory is
-    /// taken linear in the number of indices.
+    /// without memory. The place stays the name's own, even after the name went in and out of use, until one
+    /// is kept for another name. Logarithmic in the number of names in the tree, and where memory is taken
+    /// linear in the number of indices.
     ///
-    /// An error means that memory was refused, and that the place was not kept before; all is then as it
-    /// was. It comes only where there is no room, where the name that gives up the place is in use, or
-    /// where no name with an index in the same page of 256 indices is in use.
+    /// An error means that memory was refused, and that the place was not kept before; all is then as it was.
+    /// It comes only in one of three cases: there is no room, the name that gives up the place is in use, or
+    /// no name with an index in the same page of 256 indices is in use.
     #[inline(never)]
     pub fn keep(&mut self, name: u32) -> Result<(), AllocError>
         ensures ok { OnOk result (self.new ≡ record self.old { kept = Some name }) }
@@ -175,10 +175,10 @@ impl<V: Copy> TaggedNames<V> {
         Ok(())
     }
 
-    /// Puts a value under a name that is not in use, in a place that was made: a name of the fresh index
-    /// where there is room for one, as the fresh name is, or the name for which a place is kept. Takes one
-    /// from the room, where there is some. Takes no memory. Constant time, but logarithmic in the number of
-    /// names in the tree for the kept name.
+    /// Puts a value under a name that is not in use, in a place that was made. The name is a name of the
+    /// fresh index where there is room for one, as the fresh name is, or the name for which a place is kept.
+    /// Takes one from the room, where there is some. Takes no memory. Constant time, but logarithmic in the
+    /// number of names in the tree for the kept name.
     #[inline(always)]
     pub fn insert(&mut self, name: u32, value: V)
         requires unused { map.get self.old.names name ≡ None }
@@ -213,7 +213,7 @@ impl<V: Copy> TaggedNames<V> {
         Some(value)
     }
 
-    /// The least name from this one on that is in use. Constant time, but for four words of each page
+    /// The least name from this one on that is in use. Constant time, except for four words of each page
     /// without such a name, while the tree is empty.
     #[inline(never)]
     pub fn next(&self, from: u32) -> Option<u32>

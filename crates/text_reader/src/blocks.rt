@@ -74,7 +74,7 @@ fn read_thread(mut words: Words<'_>) -> Result<ScriptLine, TextFault>
     }
 }
 
-/// Whether a block can have this number.
+/// Returns whether a block can have this number.
 fn is_thread_number(number: u32) -> bool
     ensures { IsTrue result ↔ FitsThread number }
 {

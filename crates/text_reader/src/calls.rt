@@ -145,8 +145,8 @@ fn read_modrefs(words: &mut Words<'_>) -> Result<Event, TextFault>
     Ok(Event::ModRefs(task, name, right, words.delta()?))
 }
 
-/// The arguments of `notify`: a task, a name, the number of a notice, a number that says when it is sent at
-/// once, the name of the right that pays, and the number of a disposition.
+/// Reads the arguments of `notify`: a task, a name, the number of a notice, and a number that says when it is
+/// sent at once. Then follow the name of the right that pays, and the number of a disposition.
 fn read_notify(words: &mut Words<'_>) -> Result<Event, TextFault>
     ensures word { IfOk result (λ event. call_word event ≡ codes "notify") }
     ensures arguments { IfOk result (λ event. call_arguments event ++ words.new ≡ words.old) }

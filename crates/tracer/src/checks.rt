@@ -64,16 +64,18 @@ impl<'a> LegalHistory<'a> {
     }
 }
 
-/// That the history is legal; the history itself is as it was.
+/// Checks that the history is legal; the history itself is as it was.
 ///
 /// Its calls are made anew on a kernel of the checker's own, of the history's profile, one after another
-/// ([`confirm`]). `NotConfirmed` comes at the first that this kernel doesn't answer as its entry says, and `Memory`
-/// where memory is refused.
+/// ([`confirm`]). `NotConfirmed` comes at the first entry that this kernel doesn't answer as the entry says,
+/// and `Memory` where memory is refused.
+///
 /// Which ready member of a set a message was taken from is followed. Where the machine leaves another choice
-/// open, the kernel makes its own: which member's message is told as too long, or stays since the task's names don't
-/// suffice for its rights, and in which order the notices of one step are queued. A legal history in which another
-/// was made may be told as not confirmed. Where a message may pass the limit of rights, whose code is that of want
-/// of memory too, it is told as not confirmed. Time is that of the calls; memory that of the kernel, and of one reply.
+/// open, the kernel makes its own. Such choices are which member's message is too long, or stays since the
+/// task's names don't suffice for its rights, and in which order the notices of one step are queued. A legal
+/// history in which another choice was made may come out as not confirmed. So does one in which a message may
+/// pass the limit of rights, whose code is also that of out of memory. Time is that of the calls; memory that
+/// of the kernel, and of one reply.
 pub fn check<'a>(alloc: Global, history: &'a History) -> Result<LegalHistory<'a>, CheckFault>
     ensures same { IfOk result (λ legal. legal ≡ history.now) }
     ensures legal { IfOk result (λ legal. Legal legal.profile legal.entries) }
@@ -91,14 +93,16 @@ pub fn check<'a>(alloc: Global, history: &'a History) -> Result<LegalHistory<'a>
     Ok(LegalHistory { history })
 }
 
-/// Whether the machine may answer the entry's call now as the entry says; the kernel then shows what the
-/// call leads to.
+/// Returns whether the machine may answer the entry's call now as the entry says; the kernel then shows what
+/// the call leads to.
 ///
-/// It is so where the call was refused for want of memory and the machine allows that, which changes nothing;
-/// and where the kernel makes the call and answers the same. Of a set's members it takes the message from the
-/// one that the message names as its receiver, whose turn that needn't have been. Else the kernel is of no further
-/// use to the history. An error comes where memory is refused, and only where the limit of rights surely
-/// doesn't refuse the call ([`Kernel::has_room_for`]). Time is that of the call, and of giving the turn.
+/// It may in two cases. The call was refused as out of memory and the machine allows that, which changes
+/// nothing. Or the kernel makes the call and returns the same. Of a set's members it takes the message from
+/// the one that the message names as its receiver, whose turn that needn't have been. Else the kernel is of
+/// no further use to the history.
+///
+/// An error comes where memory is refused, and only where the limit of rights surely doesn't refuse the call
+/// ([`Kernel::has_room_for`]). Time is that of the call, and of giving the turn.
 pub fn confirm(kernel: &mut Kernel, entry: &Entry) -> Result<bool, AllocError>
     ensures confirmed { result ≡ Ok true → Answers kernel.old.tables entry.now.event entry.now.reply kernel.new.tables }
     ensures not { result ≡ Ok false → AnswersOtherwise kernel.old entry.now.event entry.now.reply }
@@ -141,7 +145,7 @@ fn receiver(reply: &Reply) -> Option<Name> {
     Some(Name::new(u32::from_le_bytes(word)))
 }
 
-/// Whether the reply is the code by which want of memory may refuse the call now.
+/// Whether the reply is the code by which the call may now be refused as out of memory.
 fn tells_want_of_memory(kernel: &Kernel, event: &Event, reply: &Reply) -> Result<bool, AllocError>
     ensures may { result ≡ Ok true → IsRefusal kernel.now event.now reply.now }
     ensures not { result ≡ Ok false → IsNoWant kernel.now event.now reply.now }
@@ -156,7 +160,7 @@ fn tells_want_of_memory(kernel: &Kernel, event: &Event, reply: &Reply) -> Result
     Ok(kernel.memory_code(event)? == Some(*code))
 }
 
-/// Whether the two replies are the same.
+/// Returns whether the two replies are the same.
 fn are_same(one: &Reply, other: &Reply) -> bool
     ensures same { result ≡ true → one.now ≡ other.now }
     ensures other { one.now ≡ other.now → result ≡ true }
@@ -180,7 +184,7 @@ fn are_same(one: &Reply, other: &Reply) -> bool
     }
 }
 
-/// Whether the two are the same names with the same types.
+/// Returns whether the two are the same names with the same types.
 fn are_same_names(one: &NameTypes, other: &NameTypes) -> bool
     ensures same { result ≡ true → one.now ≡ other.now }
     ensures other { one.now ≡ other.now → result ≡ true }
@@ -188,7 +192,7 @@ fn are_same_names(one: &NameTypes, other: &NameTypes) -> bool
     one == other
 }
 
-/// Whether the two are the same status.
+/// Returns whether the two are the same status.
 fn are_same_status(one: &Status, other: &Status) -> bool
     ensures same { result ≡ true → one.now ≡ other.now }
     ensures other { one.now ≡ other.now → result ≡ true }
@@ -204,7 +208,7 @@ fn are_same_status(one: &Status, other: &Status) -> bool
         && one.no_senders == other.no_senders
 }
 
-/// Whether the two waited for the same.
+/// Returns whether the two waited for the same.
 fn are_same_waited(one: &Waited, other: &Waited) -> bool
     ensures same { result ≡ true → one.now ≡ other.now }
     ensures other { one.now ≡ other.now → result ≡ true }

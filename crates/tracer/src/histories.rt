@@ -72,7 +72,7 @@ impl History {
         self.entries.len()
     }
 
-    /// Whether it has none.
+    /// Returns whether it has none.
     pub fn is_empty(&self) -> bool
         ensures { IsTrue result ↔ (self.now.entries ≡ []) }
     {
@@ -95,11 +95,11 @@ impl History {
     }
 }
 
-/// The history that the text is.
+/// Reads the history that the text is.
 ///
 /// `BadLine` comes at the first line that no history has there, or that ends without its line feed, and only
-/// where there is such a line; for a text without any line, or of a profile that no kernel has, it is `BadLine(1)`.
-/// `Memory` comes where memory is refused. Time and memory grow with the length of the text.
+/// where there is such a line. For a text without any line, or of a profile that no kernel has, it is
+/// `BadLine(1)`. `Memory` comes where memory is refused. Time and memory grow with the length of the text.
 pub fn read_history(alloc: Global, text: &[u8]) -> Result<History, HistoryFault>
     ensures fits { IfOk result (λ history. All FitsLine history.entries) }
     ensures ok { IfOk result (λ history. history_text history.profile history.entries ≡ text.now) }
@@ -132,8 +132,8 @@ pub fn heading_line(profile: Profile) -> &'static [u8]
     }
 }
 
-/// The profile that the first line of a history names, and what stands behind that line; `None` where the text
-/// begins with no such line, or the profile is one that no kernel has.
+/// Returns the profile that the first line of a history names, and what follows that line. `None` where the
+/// text begins with no such line, or the profile is one that no kernel has.
 pub fn behind_heading(text: &[u8]) -> Option<(Profile, &[u8])>
     ensures some { IfSome result (λ read. heading read.0 ++ read.1.now ≡ text.now) }
     ensures had { IfSome result (λ read. read.0 ≢ Three) }

@@ -17,7 +17,7 @@ fn entries_in(alloc: Global, text: &[u8]) -> Result<usize, HistoryFault> {
     Ok(read_history(alloc, text)?.len())
 }
 
-/// Whether a history of so many entries is read, and written as the same text.
+/// Returns whether a history of so many entries is read, and written as the same text.
 fn is_text_of(alloc: Global, text: &str, count: usize) -> bool {
     let Ok(history) = read_history(alloc, text.as_bytes()) else {
         return false;
@@ -50,7 +50,7 @@ const ENTRIES: &str = "\
     0 send 4294967295 00ff9a -> code 1000000d|0 recv 1 2 65536 1 -> toolarge 65536|\
     0 again 1 p 18446744073709551615 24 0 -> empty p 0|0 again 1 s 0 65536 1 -> empty s 0";
 
-/// Whether the line is that of the entry that it is read as, and nothing stands behind it.
+/// Returns whether the line is that of the entry that it is read as, and nothing stands behind it.
 fn is_line(alloc: Global, text: &[u8]) -> bool {
     let Ok((entry, rest)) = first_line(alloc, text) else {
         return false;
@@ -89,7 +89,7 @@ const BAD_LINES: &str = "\
     0 members 0 1 -> members 01|0 insert 0 1 0 1 20 -> right 1 256|0 task -> code 0|\
     0 task -> code 0000000A|0 task -> task 0\r|0 thread 1 -> task 0|mach-history 1|0 task -> \u{e9}";
 
-/// Whether the line is the first bad one behind a good one, with another bad one behind it.
+/// Returns whether the line is the first bad one behind a good one, with another bad one behind it.
 fn is_bad(alloc: Global, line: &str) -> bool {
     let text = format!(in alloc; "mach-history 1\n0 task -> task 0\n{line}\nnot this\n");
     match text {

@@ -3,7 +3,7 @@ ghost use Rattle.std.specs.Prelude.{◌≡◌, ℕ, ◌<◌, ◌^◌, IfSome, If
 ghost use Rattle.std.specs.Fmt.{signed_decimal};
 ghost use Rattle.tracer_base.specs.Numbers.{HasPlainStart, FitsDelta};
 
-/// Whether the text begins as a number is written: with a digit, which is no `0` unless it stands
+/// Returns whether the text begins as a number is written: with a digit, which is no `0` unless it stands
 /// alone.
 fn has_plain_start(text: &[u8]) -> bool
     ensures { IsTrue result ↔ HasPlainStart text.now }

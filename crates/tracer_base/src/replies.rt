@@ -66,7 +66,7 @@ fn code_line(code: u32) -> [u8; 14]
     [b'c', b'o', b'd', b'e', b' ', a, b, c, d, e, f, g, h, b'\n']
 }
 
-/// Whether there are bytes, and no more than a block.
+/// Returns whether there are bytes, and no more than a block.
 fn is_short(bytes: &[u8]) -> bool
     ensures { IsTrue result ↔ (0 < length bytes.now) × (length bytes.now ≤ 32) }
 {

@@ -89,7 +89,7 @@ impl<'a> Words<'a> {
         }
     }
 
-    /// Whether no word is left.
+    /// Returns whether no word is left.
     pub fn is_empty(&self) -> bool
         ensures { IsTrue result ↔ (self.now ≡ []) }
     {

@@ -19,19 +19,26 @@ use copyin_base::{Carried, Code, Mark, World};
 use copyout::{give_right, put_right};
 use mach_types::{KernReturn, Reply, TaskId};
 
-/// Copies a right in from where it stands, and puts it under a name of a task (Port Manipulation
-/// Interface, `mach_port_insert_right`). `number` is the disposition's. The tasks live, and may be the
-/// same; from `RIGHT_EXISTS` on it is judged as it will be once the right was copied in, so a name that
-/// this frees counts as free. A refusal changes nothing, but that room may have been made for the name.
+/// Copies a right in from where it is, and puts it under a name of a task (Port Manipulation Interface,
+/// `mach_port_insert_right`). `number` is the disposition's. The tasks live, and may be the same. From
+/// `RIGHT_EXISTS` on it is judged as it will be once the right was copied in, so a name that this frees
+/// counts as free.
 ///
-/// Errors, of which the first is answered: `INVALID_VALUE` where `to` is no name, or the number no
-/// disposition's; `INVALID_CAPABILITY` where `from` is no name, or a dead name that could be sent;
-/// `INVALID_NAME` where nothing stands under it; `INVALID_RIGHT` where it lacks the right;
-/// `RIGHT_EXISTS` where the task has the port under another name; `NAME_EXISTS` where something
-/// else stands under the name; `UREFS_OVERFLOW` at 65,535 references; `NO_SPACE` at 65,535 names or
-/// 4,294,967,295 rights; `RESOURCE_SHORTAGE` where memory was refused for the name, which is new and for
-/// which no place was kept, or for the slot that a send-once right that is made wants. Constant time,
-/// and logarithmic for a name above 65,535.
+/// # Errors
+/// A refusal changes nothing, except that room may have been made for the name. The first that holds is
+/// returned.
+/// - `INVALID_VALUE`: `to` is no name, or the number no disposition's.
+/// - `INVALID_CAPABILITY`: `from` is no name, or a dead name that could be sent.
+/// - `INVALID_NAME`: nothing is under `from`.
+/// - `INVALID_RIGHT`: `from` lacks the right.
+/// - `RIGHT_EXISTS`: the task has the port under another name.
+/// - `NAME_EXISTS`: something else is under the name.
+/// - `UREFS_OVERFLOW`: 65,535 references.
+/// - `NO_SPACE`: 65,535 names or 4,294,967,295 rights.
+/// - `RESOURCE_SHORTAGE`: memory was refused for the name, which is new and for which no place was kept, or
+///   for the slot of a send-once right that is made.
+///
+/// Constant time, and logarithmic for a name above 65,535.
 pub fn insert(world: &mut World, to: &TaskName, from: &TaskName, number: u32) -> Result<Reply, Code>
     requires there { (HasTask world.old to.now.task) × (HasTask world.old from.now.task) }
     requires stands { Stands world.old }
@@ -48,18 +55,21 @@ pub fn insert(world: &mut World, to: &TaskName, from: &TaskName, number: u32) ->
     Ok(Reply::Code(KernReturn::Success.number()))
 }
 
-/// Copies a right in from where it stands, and gives it to a task as a receipt would (Port Manipulation
-/// Interface, `mach_port_extract_right`): answers the name there, and 16, 17 or 18 for a receive, send
-/// or send-once right. `number` is the disposition's. The tasks live, and may be the same. A refusal
-/// changes nothing, but that room may have been made for a name. A send right that comes to 65,535
-/// references is dropped.
+/// Copies a right in from where it is, and gives it to a task as a receive would (Port Manipulation
+/// Interface, `mach_port_extract_right`). Returns the name there, and 16, 17 or 18 for a receive, send or
+/// send-once right. `number` is the disposition's. The tasks live, and may be the same. A send right that
+/// comes to 65,535 references is dropped.
 ///
-/// Errors, of which the first is answered: `INVALID_VALUE` where the number is no disposition's;
-/// `INVALID_NAME` where nothing stands under the name; `INVALID_RIGHT` where it lacks the right, or
-/// is dead; `NO_SPACE` at 65,535 names where a name is needed once the right was copied in, or at
-/// 4,294,967,295 rights; `RESOURCE_SHORTAGE` where memory was refused for a name, or for the slot that
-/// a send-once right that is made wants. Constant time, and
-/// logarithmic for a name above 65,535.
+/// # Errors
+/// A refusal changes nothing, except that room may have been made for a name. The first that holds is
+/// returned.
+/// - `INVALID_VALUE`: the number is no disposition's.
+/// - `INVALID_NAME`: nothing is under the name.
+/// - `INVALID_RIGHT`: the name lacks the right, or is dead.
+/// - `NO_SPACE`: 65,535 names where a name is needed once the right was copied in, or 4,294,967,295 rights.
+/// - `RESOURCE_SHORTAGE`: memory was refused for a name, or for the slot of a send-once right that is made.
+///
+/// Constant time, and logarithmic for a name above 65,535.
 pub fn extract(world: &mut World, from: &TaskName, number: u32, to: TaskId) -> Result<Reply, Code>
     requires there { (HasTask world.old from.now.task) × (HasTask world.old to) }
     requires stands { Stands world.old }
@@ -77,8 +87,8 @@ pub fn extract(world: &mut World, from: &TaskName, number: u32, to: TaskId) -> R
     Ok(Reply::Right(name, given.kind_number()))
 }
 
-/// Makes what memory is wanted for: a place for the name that the right comes under, where it needs one,
-/// and then a slot for what may come by it, where it is a send-once right that is made.
+/// Makes room where it is wanted: for the name under which the right comes, where it needs a new one, and
+/// then a slot for what may be sent to it, where it is a send-once right that is made.
 fn ready_insert(world: &mut World, to: &TaskName, handed: &Handed) -> Result<(), KernReturn>
     requires there { HasTask world.old to.now.task }
     requires usable { IsUsable to.now.name }

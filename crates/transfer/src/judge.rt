@@ -86,8 +86,8 @@ struct Going {
 }
 
 /// By which disposition, and for which port, a right may be inserted so, where there is memory: refused as
-/// [`insert`] refuses it, but for want of memory. `number` is the disposition's. The tasks live, and may be
-/// the same. Nothing changes. Constant time, and logarithmic for a name above 65,535.
+/// [`insert`] refuses it, except when out of memory. `number` is the disposition's. The tasks live, and may
+/// be the same. Nothing changes. Constant time, and logarithmic for a name above 65,535.
 ///
 /// [`insert`]: crate::insert
 pub fn judge_insert(
@@ -109,8 +109,8 @@ pub fn judge_insert(
 }
 
 /// By which disposition, and for which port, a right may be extracted so, where there is memory: refused as
-/// [`extract`] refuses it, but for want of memory. `number` is the disposition's. The tasks live, and may be
-/// the same. Nothing changes. Constant time, and logarithmic for a name above 65,535.
+/// [`extract`] refuses it, except when out of memory. `number` is the disposition's. The tasks live, and may
+/// be the same. Nothing changes. Constant time, and logarithmic for a name above 65,535.
 ///
 /// [`extract`]: crate::extract
 pub fn judge_extract(
@@ -201,7 +201,7 @@ fn find_going(
 impl Going {
     // ---- what is left when it went
 
-    /// What stands under the task's name.
+    /// What is under the task's name.
     fn entry_left(&self, world: &World, task: TaskId, name: Name) -> Option<Entry>
         ensures { result ≡ left_at world.now task self.now name }
     {
@@ -225,7 +225,7 @@ impl Going {
         }
     }
 
-    /// Whether receive or send rights for its port stand there.
+    /// Returns whether receive or send rights for its port stand there.
     fn is_for(&self, entry: &Option<Entry>) -> bool
         ensures { MatchBool result (port_under entry.now ≡ Some self.now.port) (port_under entry.now ≢ Some self.now.port) }
     {
@@ -250,7 +250,7 @@ impl Going {
         }
     }
 
-    /// Whether there are too many rights, with the one that may be made.
+    /// Returns whether there are too many rights, with the one that may be made.
     fn lacks_rights(&self, world: &World) -> bool
         ensures { MatchBool result (most_rights < rights_then world.now self.now) (rights_then world.now self.now ≤ most_rights) }
     {
@@ -260,7 +260,7 @@ impl Going {
 
     // ---- judged in what is left
 
-    /// Whether the task has the port under another name.
+    /// Returns whether the task has the port under another name.
     fn is_elsewhere(&self, world: &World, task: TaskId, name: Name) -> bool
         requires there { HasTask world.now task }
         requires goes { (number : ℕ) × CanGo world.now number self.now }
@@ -276,21 +276,21 @@ impl Going {
         }
     }
 
-    /// Whether something else stands under the name.
+    /// Returns whether something else is under the name.
     fn is_taken(&self, entry: &Option<Entry>) -> bool
         ensures { MatchBool result (IsTaken entry.now self.now.port (kind_sent self.now.given)) (¬ (IsTaken entry.now self.now.port (kind_sent self.now.given))) }
     {
         entry.is_some() && (self.given.is_send_once() || !self.is_for(entry))
     }
 
-    /// Whether there would be too many references.
+    /// Returns whether there would be too many references.
     fn overflows(&self, entry: &Option<Entry>) -> bool
         ensures { MatchBool result (Overflows entry.now (kind_sent self.now.given)) (¬ (Overflows entry.now (kind_sent self.now.given))) }
     {
         is_send(self.given) && references_of(entry) >= MOST_REFERENCES
     }
 
-    /// Whether there is no room for the right, or for the name where it is new.
+    /// Returns whether there is no room for the right, or for the name where it is new.
     fn lacks_space(&self, world: &World, task: TaskId, is_new: bool) -> bool
         requires there { HasTask world.now task }
         ensures { MatchBool result (LacksSpace (names_left world.now task self.now) (rights_then world.now self.now) (is_new ≡ true)) (¬ (LacksSpace (names_left world.now task self.now) (rights_then world.now self.now) (is_new ≡ true))) }
@@ -370,7 +370,7 @@ fn references_of(entry: &Option<Entry>) -> u32
     }
 }
 
-/// Whether a send right goes.
+/// Returns whether a send right goes.
 fn is_send(given: Disposition) -> bool
     ensures { MatchBool result (kind_sent given ≡ send) (kind_sent given ≢ send) }
 {

@@ -1,6 +1,6 @@
-//! One script of 200,000 lines with many ports, members, names, requests and rights in a message, one history of as
-//! many entries, and one script that is read in memory. What memory is asked for only at such sizes is given: no reply
-//! is a code for want of memory, no call goes unrecorded, and the history is judged.
+//! One script of 200,000 lines with many ports, members, names, requests and rights in a message, one history
+//! of as many entries, and one script that is read in memory. What memory is asked for only at such sizes is
+//! given: no reply is a code for out of memory, no call goes unrecorded, and the history is judged.
 use crate::playing::{Exchange, prints};
 use mach_run_base::Job;
 use mach_types::Profile;
@@ -128,7 +128,7 @@ fn repeated(alloc: Global, first: &str, line: &str, times: u32) -> Option<String
     Some(whole)
 }
 
-/// Whether a script of 200,000 lines that is in memory is read.
+/// Returns whether a script of 200,000 lines that is in memory is read.
 fn is_long_script_read(alloc: Global) -> bool {
     match repeated(alloc, "", "end 0\n", 200_000) {
         Some(script) => count_of_calls(alloc, script.as_str()) == Some(200_000),

@@ -37,7 +37,7 @@ pub struct Descriptor {
     pub long: bool,
 }
 
-/// Whether a word has a flag, one of the bits named above.
+/// Returns whether a word has a flag, one of the bits named above.
 fn has(word: u32, flag: u32) -> bool
     requires { 0 < flag }
     ensures { IsTrue result ↔ (word / flag % 2 ≡ 1) }
@@ -45,14 +45,14 @@ fn has(word: u32, flag: u32) -> bool
     word / flag % 2 == 1
 }
 
-/// Whether a name is one of the dispositions of rights, 16 to 21.
+/// Returns whether a name is one of the dispositions of rights, 16 to 21.
 fn names_ports(name: u16) -> bool
     ensures { IsTrue result ↔ NamesPorts name }
 {
     (16..=21).contains(&name)
 }
 
-/// Whether no item has this first word with this name and this size.
+/// Returns whether no item has this first word with this name and this size.
 fn is_bad_type(first: u32, name: u16, size: u16) -> bool
     ensures { IsTrue result ↔ BadType first name size }
 {
@@ -127,14 +127,15 @@ fn read_front(bytes: &[u8]) -> Result<Descriptor, MsgReturn>
     Ok(descriptor)
 }
 
-/// The descriptor that stands at an offset in bytes (IPC Interface, `mach_msg_type_t`). Whether its
-/// data ends within the bytes is not judged here.
+/// Reads the descriptor at an offset in bytes (IPC Interface, `mach_msg_type_t`). Whether its data ends
+/// within the bytes is not judged here.
 ///
 /// # Errors
 /// Each comes only for its fault, and the first of these faults gives the code:
 /// - [`MsgReturn::SendMsgTooSmall`]: fewer than 4 bytes left, or fewer than 12 for a long form.
-/// - [`MsgReturn::SendInvalidType`]: the inline bit clear, the deallocate or the unused bit set, a long
-///   form whose short fields are not all zero, a right whose size is not 32, or a name above 255.
+/// - [`MsgReturn::SendInvalidType`]: one of these. The inline bit is clear, or the deallocate or the unused
+///   bit is set. The short fields of a long form are not all zero. A right's size is not 32. A name is above
+///   255.
 ///
 /// Takes no memory, and looks at no byte but the descriptor's.
 pub fn read_descriptor(bytes: &[u8], at: usize) -> Result<Descriptor, MsgReturn>
