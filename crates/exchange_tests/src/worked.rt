@@ -60,27 +60,6 @@ const ITEM_OF_NO_DATA: (&str, &str) = (
     code 10000008\n",
 );
 
-// Bodies that end within a descriptor or its data, descriptors that none is, a header with a bit that no
-// message has, and a part of a header.
-const NO_MESSAGES: (&str, &str) = (
-    "task\nalloc 0 1\n\
-    send 0 140000800000000001000000000000000000000007000000000000300800ffffffffffff\n\
-    send 0 14000080000000000100000000000000000000000700000000000020\n\
-    send 0 14000080000000000100000000000000000000000700000011080110\n\
-    send 0 14000080000000000100000000000000000000000700000008080050\n\
-    send 0 140000800000000001000000000000000000000007000000000000300001080000000000\n\
-    send 0 140000401800000001000000000000000000000007000000\n\
-    send 0 14000040180000000100000000000000000000000700\n",
-    "task 0\nname 1\n\
-    code 10000008\n\
-    code 10000008\n\
-    code 1000000f\n\
-    code 1000000f\n\
-    code 1000000f\n\
-    code 10000010\n\
-    code 10000008\n",
-);
-
 // Two send rights for one port in a message gather under one name.
 const GATHERED_REFERENCES: (&str, &str) = (
     "task\n\
@@ -308,49 +287,12 @@ const SETS_THAT_CHANGE: (&str, &str) = (
     empty p 0\n",
 );
 
-// A message of 80 bytes with a reply and seven right words: made, moved, copied, dead and null ones, and data.
-const MANY_RIGHTS: (&str, &str) = (
-    "task\n\
-    task\n\
-    alloc 0 1\n\
-    alloc 1 1\n\
-    insert 0 2 1 1 20\n\
-    insert 0 3 1 1 21\n\
-    alloc 0 4\n\
-    send 0 131500805000000002000000010000000000000\
-    00a000000142002100100000001000000122001100300000008080510414243444500000013200310\
-    0400000000000000ffffffff1120011002000000\n\
-    recv 1 1 79 1\n\
-    recv 1 1 80 0\n\
-    names 1\n\
-    refs 1 3 0\n\
-    names 0\n\
-    status 0 1\n",
-    "task 0\n\
-    task 1\n\
-    name 1\n\
-    name 1\n\
-    code 00000000\n\
-    code 00000000\n\
-    name 4\n\
-    code 00000000\n\
-    toolarge 80\n\
-    message 1211008050000000020000000100000000000000\
-    0a000000112002100300000003000000122001100400000008080510414243444500000011200310\
-    ffffffff00000000ffffffff1120011001000000\n\
-    names 1:00030000 2:00040000 3:00010000 4:00040000\n\
-    refs 2\n\
-    names 1:00020000 4:00100000\n\
-    status 0 0 2 5 0 1 1 0 0\n",
-);
-
 /// The exchanges that are answered so on a new kernel.
-const EXCHANGES: [(&str, &str); 14] = [
+const EXCHANGES: [(&str, &str); 12] = [
     SMALLEST_MESSAGE,
     SEND_ONCE_RIGHT,
     LONG_DESCRIPTOR,
     ITEM_OF_NO_DATA,
-    NO_MESSAGES,
     GATHERED_REFERENCES,
     MOVED_REPLY,
     QUEUE_LIMIT,
@@ -359,7 +301,6 @@ const EXCHANGES: [(&str, &str); 14] = [
     NAMES_AND_ATTRIBUTES,
     MEMBER_OF_A_SET,
     SETS_THAT_CHANGE,
-    MANY_RIGHTS,
 ];
 
 /// This alone names the table: each mention of it is dear to prove.

@@ -153,26 +153,3 @@ fn a_task_has_a_fresh_name_at_each_index(rt: HostRuntime) {
     assert!(rt; both.replies.ends_with("\nname 16776960\ncode 00000003\n"));
     assert!(rt; is_answered(&rt, Profile::Two, Some(both)));
 }
-
-/// Calls that put a port of this name into a set of this name beside others; `None` where memory is refused.
-fn further_sets(alloc: Global, port: u32, set: u32) -> Option<Exchange> {
-    let mut both = Exchange::new(alloc);
-    both.add("task", "task 0")?;
-    writeln!(both.script, "alloc 0 1\nalloc 0 3").ok()?;
-    writeln!(both.replies, "name {port}\nname {set}").ok()?;
-    writeln!(
-        both.script,
-        "insmember 0 {port} {set}\nexmember 0 {port} {set}"
-    )
-    .ok()?;
-    both.replies
-        .push_str("code 00000004\ncode 00000004\n")
-        .ok()?;
-    Some(both)
-}
-
-#[test]
-fn a_port_is_in_one_set_at_most(rt: HostRuntime) {
-    assert!(rt; is_answered(&rt, Profile::One, further_sets(rt.alloc(), 1, 2)));
-    assert!(rt; is_answered(&rt, Profile::Two, further_sets(rt.alloc(), 256, 512)));
-}
