@@ -138,7 +138,7 @@ fn level_option<'a>(alloc: Global) -> Arg<'a> {
         .long("level")
         .action(ArgAction::Set)
         .value_parser(LEVELS)
-        .help("Which entries: all, or those whose call was refused or found nothing")
+        .help("Which entries: all, or calls refused, and receives with no message or one too long")
 }
 
 /// The subcommand that runs a script and prints its history, with its option.
