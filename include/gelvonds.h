@@ -297,15 +297,15 @@ gelvonds_code gelvonds_port_request_notification(gelvonds *kernel, gelvonds_task
 /* ---- messages: IPC Interface; docs/FORMATS.md has their bytes ----
  * Six words, of which the lowest byte comes first on every machine, and a body of a multiple of 4 bytes:
  *       as it is sent                                as it is received
- *    0  MACH_MSGH_BITS(the destination's             MACH_MSGH_BITS(kind of the right to answer with, kind of
+ *    0  MACH_MSGH_BITS(the destination's             MACH_MSGH_BITS(kind of the reply right, kind of
  *       disposition, the reply's or 0)               the right that it was sent to)
- *    4  not looked at                                its length
- *    8  the sender's name of the destination         the receiver's name of the right to answer with; 0 for none,
+ *    4  not read                                     its length
+ *    8  the sender's name of the destination         the receiver's name of the reply right; 0 for none,
  *                                                    MACH_PORT_DEAD where its port has died
  *   12  its name of the reply's right, or 0          its name of the port that it came to
- *   16  not looked at                                its number at that port
+ *   16  not read                                     its number at that port
  *   20  the id                                       as sent
- *   24  the body                                     as sent, but for names in items
+ *   24  the body                                     as sent, except for names in items
  * The body is raw bytes, or, with MACH_MSGH_BITS_COMPLEX in the first word, a list of items, in which rights go. To
  * answer: the low 8 bits of the first word received are the disposition, the word at 8 is the destination. */
 

@@ -115,7 +115,7 @@ static void wait_in_vain(gelvonds *kernel, gelvonds_task server, gelvonds_name s
     received(code, message, length, &waited);
     tell_code(gelvonds_task_terminate(kernel, server));
 
-    /* The right to answer went unused: send-once comes where the answer was to come. */
+    /* The reply right went unused: send-once comes where the reply was to come. */
     code = gelvonds_receive_again(kernel, client, message, sizeof message, false, &length, &waited);
     received(code, message, length, &waited);
     /* And the port has died: dead-name comes to the port that asked for it, with the client's name in its body. */

@@ -158,7 +158,7 @@ static front make_message(uint32_t *sequences) {
     return f;
 }
 
-/* The right to answer with goes; where it is a send-once right the client takes the notice. */
+/* Drops the reply right; if that is a send-once right the client takes the notice. */
 static int lose_reply(gelvonds *kernel, gelvonds_task server, gelvonds_task client, const front *f) {
     size_t length;
     gelvonds_waited waited;
