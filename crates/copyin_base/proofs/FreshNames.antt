@@ -11,7 +11,7 @@ use Rattle.mach_model.specs.State.{State, Target, at, given_with}
 use Rattle.mach_model.specs.State as machine
 use Rattle.mach_model.proofs.Names.{at_same, at_other, at_own}
 use Rattle.tagged_names.specs.Names.{Given, count_of, counted}
-use Rattle.tagged_names.proofs.Counting.{count_before, count_after, counted_here, counted_other}
+use Rattle.tagged_names.proofs.Counting.{count_before, counted_here, counted_other}
 use Rattle.name_space.specs.declared.Entry.{Entry}
 use Rattle.name_space.specs.Names.{SpaceView, IsFreshIn, IsFreshFor, HasRoomIn, CanCountIn, given_after, first_given}
 use Rattle.copyin_base.specs.Worlds.{WorldView, space_at, has_generations}
@@ -137,14 +137,3 @@ can_count (Some c) space name f small room = count_before _ name f.index (omega 
 pub fresh_has_room : (counts : Option Given) (space : SpaceView) (name : ℕ) → IsFreshIn counts space name → 0 < space.room → HasRoomIn counts space name
 fresh_has_room None space name f room = (f, room)
 fresh_has_room (Some c) space name f room = (f.index, room)
-
--- there is a place for it still once it was counted
-pub place_counted : (counts : Option Given) (space : SpaceView) (name : ℕ) → IsFreshIn counts space name → 0 < space.room → HasRoomIn (given_after counts name) (record space { given = given_after space.given name }) name
-place_counted None space name f room = (record { unused = f.unused; not_null = f.not_null; least = f.least }, room)
-place_counted (Some c) space name f room = (f.index, room)
-
--- after it was put in
-pub can_count_then : (counts : Option Given) (space : SpaceView) (name room : ℕ) (e : Entry) → IsFreshIn counts space name → name < 16777216 →
-    CanCountIn counts (record space { names = map.insert space.names name e; room = room }) name
-can_count_then None space name room e f small = tt
-can_count_then (Some c) space name room e f small = count_after space.names c name room space.kept e f.index (omega arith)

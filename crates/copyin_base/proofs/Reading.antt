@@ -207,7 +207,7 @@ module _ (live : ℕ → Bool) where
       low = f.low;
     }
 
-    room_kept : (counts : Option Given) (n : ℕ) → HasRoomIn counts (read_space live space) n → HasRoomIn counts space n
+    pub room_kept : (counts : Option Given) (n : ℕ) → HasRoomIn counts (read_space live space) n → HasRoomIn counts space n
     room_kept None n h = (record { unused = unused_read space.names n h.0.unused; not_null = h.0.not_null; least = λ k some less. sym (used_read space.names k) ∙ h.0.least k some less }, h.1)
     room_kept (Some c) n h = (index_kept (n / 256) h.0, h.1)
 

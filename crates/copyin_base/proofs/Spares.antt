@@ -6,7 +6,7 @@ use Rattle.name_space.specs.declared.Entry.{Entry}
 use Rattle.name_space.specs.Names.{SpaceView}
 use Rattle.port.specs.declared.Attributes.{Attributes}
 use Rattle.copyin_base.specs.Worlds.{WorldView, space_in, space_at}
-use Rattle.copyin_base.specs.Changes.{PutsLeft, InsertsEntry, MakesRoom, KeepsPlace, CountsName, SetsAttributes, SameButRoom}
+use Rattle.copyin_base.specs.Changes.{PutsLeft, KeepsPlace, SetsAttributes, SameButRoom}
 use Rattle.copyin_base.specs.Wanted.{room_in, room_of, KeepsSpares}
 use Rattle.copyin_base.proofs.Spaces.{each-space-set, space-push_same, space-push_other}
 
@@ -63,17 +63,8 @@ module _ (old new : WorldView) where
   pub left_keeps : (task name : ℕ) (left : Option Entry) → PutsLeft old task name left new → KeepsSpares old new
   left_keeps task name left p = keeps_space old new task p.space _ p.there (ap (λ (w : WorldView). w.spaces) p.rest) (omega arith) (ap (λ (w : WorldView). w.ports.spare) p.rest)
 
-  pub inserted_keeps : (task name : ℕ) (entry : Entry) → InsertsEntry old task name entry new → KeepsSpares old new
-  inserted_keeps task name entry p = keeps_space old new task p.space _ p.there (ap (λ (w : WorldView). w.spaces) p.rest) (omega arith) (ap (λ (w : WorldView). w.ports.spare) p.rest)
-
-  pub room_keeps : (task : ℕ) → MakesRoom old task 1 new → KeepsSpares old new
-  room_keeps task p = keeps_space old new task p.space _ p.there (ap (λ (w : WorldView). w.spaces) p.rest) (omega arith) (ap (λ (w : WorldView). w.ports.spare) p.rest)
-
   pub place_keeps : (task name : ℕ) → KeepsPlace old task name new → KeepsSpares old new
   place_keeps task name p = keeps_space old new task p.space _ p.there (ap (λ (w : WorldView). w.spaces) p.rest) (omega arith) (ap (λ (w : WorldView). w.ports.spare) p.rest)
-
-  pub count_keeps : (task name : ℕ) → CountsName old task name new → KeepsSpares old new
-  count_keeps task name p = keeps_space old new task p.space _ p.there (ap (λ (w : WorldView). w.spaces) p.rest) (omega arith) (ap (λ (w : WorldView). w.ports.spare) p.rest)
 
   pub attributes_keep : (port : ℕ) (attributes : Attributes) → SetsAttributes old port attributes new → KeepsSpares old new
   attributes_keep port attributes p = keeps_names old new (ap (λ (w : WorldView). w.spaces) p.rest) (ap (λ (w : WorldView). w.ports.spare) p.rest)

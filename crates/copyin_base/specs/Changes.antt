@@ -5,7 +5,7 @@ use Rattle.std.specs.FinMap as map
 use Rattle.mach_types.specs.Numbers.{most_names}
 use Rattle.name_space.specs.declared.Entry.{Entry}
 use Rattle.name_space.specs.Entry.{port_named, port_of}
-use Rattle.name_space.specs.Names.{SpaceView, IsUsable, HasPlace, HasNoOther, CanCountIn, given_after}
+use Rattle.name_space.specs.Names.{SpaceView, IsUsable, HasPlace, HasRoomIn, HasNoOther, CanCountIn, given_after}
 use Rattle.name_space.specs.Names.{port_at as named_at}
 use Rattle.port.specs.declared.Attributes.{Attributes}
 use Rattle.port.specs.declared.Holder.{Holder}
@@ -64,11 +64,17 @@ pub record KeepsPlace (old : WorldView) (task name : ℕ) (new : WorldView) : Ty
   pub there : space_at old task ≡ Some space
   pub rest : new ≡ with_space old task (record space { kept = Some name })
 
--- The name can be counted as a fresh one of the task.
-pub record CanCountName (w : WorldView) (task name : ℕ) : Type 0 where
+-- The task may have the entry under a fresh name, in room, and the name can be counted.
+pub record CanInsertFresh (w : WorldView) (task name : ℕ) (entry : Entry) : Type 0 where
+  pub can : CanInsert w task name entry
+  pub room : HasRoomIn can.space.given can.space name
+  pub counts : CanCountIn can.space.given can.space name
+
+-- The task has the entry under the name, which is counted as a fresh one where names have a generation.
+pub record InsertsFresh (old : WorldView) (task name : ℕ) (entry : Entry) (new : WorldView) : Type 0 where
   pub space : SpaceView
-  pub there : space_at w task ≡ Some space
-  pub can : CanCountIn space.given space name
+  pub there : space_at old task ≡ Some space
+  pub rest : new ≡ with_space old task (record space { names = map.insert space.names name entry; room = space.room - 1; given = given_after space.given name })
 
 -- The name was counted as a fresh one of the task, where names have a generation.
 pub record CountsName (old : WorldView) (task name : ℕ) (new : WorldView) : Type 0 where

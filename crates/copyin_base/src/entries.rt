@@ -2,7 +2,7 @@
 ghost use Rattle.std.specs.Prelude.{◌≡◌, Some, None, OnOk, OnErr, IfErr};
 ghost use Rattle.mach_types.specs.declared.codes.KernReturn.TheVariants as kern;
 ghost use Rattle.name_space.specs.Names.{IsUsable};
-ghost use Rattle.copyin_base.specs.Changes.{CanPutLeft, PutsLeft, CanInsert, InsertsEntry, CanCountName, CountsName, MakesRoom, KeepsPlace};
+ghost use Rattle.copyin_base.specs.Changes.{CanPutLeft, PutsLeft, CanInsert, InsertsEntry, CanInsertFresh, InsertsFresh, MakesRoom, KeepsPlace};
 ghost use Rattle.copyin_base.specs.Wanted.{LacksRoomFor, LacksPlace};
 ghost use Rattle.copyin_base.specs.Worlds.{HasTask};
 
@@ -66,19 +66,19 @@ impl World {
         space.insert(name, entry);
     }
 
-    /// Counts a fresh name of the task, before it is put in or after, so that the next one of its index is
-    /// another. Where names have no generation there is nothing to count.
+    /// Puts the entry under a fresh name, in a place that was made, and counts the name, so that the next
+    /// one of its index is another. Where names have no generation there is nothing to count.
     ///
     /// Takes no memory. Constant time.
     #[inline(always)]
-    pub fn count_name(&mut self, task: TaskId, name: Name)
-        requires { CanCountName self.old task name }
-        ensures { CountsName self.old task name self.new }
+    pub fn insert_fresh(&mut self, task: TaskId, name: Name, entry: Entry)
+        requires { CanInsertFresh self.old task name entry }
+        ensures { InsertsFresh self.old task name entry self.new }
     {
         let Some(space) = &mut self.spaces[task.number() as usize] else {
             unreachable!()
         };
-        space.count(name);
+        space.insert_fresh(name, entry);
     }
 
     /// Makes room for so many fresh names of the task. Room that is there stays and counts: where it is

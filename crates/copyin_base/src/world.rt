@@ -118,6 +118,7 @@ impl World {
     }
 
     /// What is under the task's name, if anything is. Constant time, and logarithmic for a name above 65,535.
+    #[inline(always)]
     pub fn lookup(&self, task: TaskId, name: Name) -> Option<Entry>
         ensures { result ≡ entry_at self.now task name }
     {

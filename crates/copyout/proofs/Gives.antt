@@ -17,8 +17,8 @@ use Rattle.port.specs.Ports.{IsLive, PortsView}
 use Rattle.port_set.specs.Sets.{SetsView}
 use Rattle.copyin_base.specs.Worlds.{WorldView, entry_in, entry_at, space_at, with_space, NoneLost}
 use Rattle.copyin_base.specs.Shows.{target_of, HasCount, RequestsStand}
-use Rattle.copyin_base.specs.Changes.{IsForLive, CanPutLeft, PutsLeft, InsertsEntry, CanInsert, CountsName}
-use Rattle.copyin_base.proofs.FreshNames.{fresh_unused, place_counted}
+use Rattle.copyin_base.specs.Changes.{IsForLive, CanPutLeft, PutsLeft, InsertsEntry, CanInsert, CanInsertFresh, InsertsFresh}
+use Rattle.copyin_base.proofs.FreshNames.{fresh_unused, fresh_has_room, can_count}
 use Rattle.copyin_base.proofs.Gets.{same_found, of_some}
 use Rattle.copyin_base.proofs.Spaces.{space-set_same, set-set}
 use Rattle.copyin_base.proofs.Reading.{named_port, get_read, named_kept, put_reads, reads_as}
@@ -178,57 +178,41 @@ rest-alone : (w w1 : WorldView) (task : ℕ) (kind : Kind) (port name : ℕ) (sp
     w1 ≡ record (with_space w task (record space { names = map.insert space.names name (alone kind port); room = space.room - 1 })) { ports = ports_given kind task port w.ports; ledger = w.ledger }
 rest-alone w w1 task kind port name space there puts = grind (arith, same_found)
 
--- under a fresh name
-module _ (w w1 w2 : WorldView) (task : ℕ) (kind : Kind) (port name : ℕ) (space : SpaceView) (there : space_at w task ≡ Some space) (counts : CountsName w task name w1) where
-  abbrev counted_space : SpaceView
-  counted_space = record space { given = given_after space.given name }
-
-  counted_is : w1 ≡ with_space w task counted_space
-  counted_is = counts.rest ∙ ap (λ (s : SpaceView). with_space w task (record s { given = given_after s.given name })) (same_found (space_at w task) counts.space space counts.there there)
-
-  counted_there : space_at w1 task ≡ Some counted_space
-  counted_there = ap (λ (x : WorldView). space_at x task) counted_is ∙ space-set_same w.spaces task counted_space space there
-
-  pub counted_ports : w1.ports ≡ w.ports
-  counted_ports = ap (λ (x : WorldView). x.ports) counts.rest
+-- under a fresh name, once the port knows who holds it
+module _ (w held w2 : WorldView) (task : ℕ) (kind : Kind) (port name : ℕ) (space : SpaceView) (there : space_at w task ≡ Some space) (holds : held ≡ record w { ports = ports_given kind task port w.ports }) where
+  held_there : space_at held task ≡ Some space
+  held_there = ap (λ (x : WorldView). space_at x task) holds ∙ there
 
   -- it can come there
-  pub can_take : IsUsable name → IsFreshFor space name → 0 < space.room → map.len space.names < most_names → (kind ≢ send_once → (n : ℕ) → port_at space.names n ≢ Some port) →
-      IsLive w.ports port → CanInsert w1 task name (alone kind port)
-  can_take usable fresh room few lone live = record {
-    space = counted_space;
-    there = counted_there;
-    usable = usable;
-    unused = fresh_unused space.given space name fresh;
-    few = few;
-    place = inl (place_counted space.given space name fresh room);
-    apart = no_other space.names kind port (alone kind port) refl lone;
-    lives = alone_lives w1 kind port (subst (λ (x : PortsView Kept). IsLive x port) (sym counted_ports) live);
+  pub can_come : IsUsable name → IsFreshFor space name → name < 16777216 → 0 < space.room → map.len space.names < most_names → (kind ≢ send_once → (n : ℕ) → port_at space.names n ≢ Some port) →
+      IsLive w.ports port → CanInsertFresh held task name (alone kind port)
+  can_come usable fresh small room few lone live = record {
+    can = record {
+      space = space;
+      there = held_there;
+      usable = usable;
+      unused = fresh_unused space.given space name fresh;
+      few = few;
+      place = inl (fresh_has_room space.given space name fresh room);
+      apart = no_other space.names kind port (alone kind port) refl lone;
+      lives = alone_lives held kind port (subst (λ (x : WorldView). IsLive x.ports port) (sym holds) (given_live task port w.ports kind port ∙ live));
+    };
+    room = fresh_has_room space.given space name fresh room;
+    counts = can_count space.given space name fresh small room;
   }
 
-  module _ (puts : InsertsEntry (record w1 { ports = ports_given kind task port w1.ports }) task name (alone kind port) w2) where
-    abbrev taken_space : SpaceView
-    taken_space = record counted_space { names = map.insert space.names name (alone kind port); room = space.room - 1 }
-
-    pub rest-taken : w2 ≡ record (with_space w task taken_space) { ports = ports_given kind task port w.ports; ledger = w.ledger }
-    rest-taken =
-        puts.rest
-        ∙ ap (λ (s : SpaceView). with_space (record w1 { ports = ports_given kind task port w1.ports }) task (record s { names = map.insert s.names name (alone kind port); room = s.room - 1 }))
-        (same_found (space_at w1 task) puts.space counted_space puts.there counted_there)
-        ∙ ap (λ (x : WorldView). with_space (record x { ports = ports_given kind task port x.ports }) task taken_space) counted_is
-        ∙ ap (λ (xs : List (Option SpaceView)). record w { spaces = xs; ports = ports_given kind task port w.ports }) (set-set w.spaces task (Some counted_space) (Some taken_space))
-
-    pub gives-taken : IsFreshFor space name → map.len space.names < most_names → (kind ≢ send_once → (n : ℕ) → port_at space.names n ≢ Some port) → GivesPort w task kind port name w2
-    gives-taken fresh room lone = record {
-      space = space;
-      there = there;
-      after = map.insert space.names name (alone kind port);
-      room = space.room - 1;
-      counts = given_after space.given name;
-      ledger = w.ledger;
-      given = inr (record { fresh = fresh; unused = fresh_unused space.given space name fresh; room = room; lone = lone; rest = refl }, refl, refl, refl);
-      rest = rest-taken;
-    }
+  pub gives-taken : InsertsFresh held task name (alone kind port) w2 → IsFreshFor space name → map.len space.names < most_names → (kind ≢ send_once → (n : ℕ) → port_at space.names n ≢ Some port) → GivesPort w task kind port name w2
+  gives-taken puts fresh room lone = record {
+    space = space;
+    there = there;
+    after = map.insert space.names name (alone kind port);
+    room = space.room - 1;
+    counts = given_after space.given name;
+    ledger = w.ledger;
+    given = inr (record { fresh = fresh; unused = fresh_unused space.given space name fresh; room = room; lone = lone; rest = refl }, refl, refl, refl);
+    rest = puts.rest ∙ ap (λ (s : SpaceView). with_space held task (record s { names = map.insert s.names name (alone kind port); room = s.room - 1; given = given_after s.given name })) (same_found (space_at held task) puts.space space puts.there held_there)
+        ∙ ap (λ (x : WorldView). with_space x task (record space { names = map.insert space.names name (alone kind port); room = space.room - 1; given = given_after space.given name })) holds;
+  }
 
 -- ---- A right that comes to a task: each request still stands on a name or a port that is there, and no port is lost.
 

@@ -157,8 +157,8 @@ pub(crate) fn take_name(world: &mut World, task: TaskId, given: Disposition, por
     ensures { GivesPort world.old task (kind_sent given) port result world.new }
 {
     let name = world.space(task).fresh();
-    world.count_name(task, name);
-    put_alone(world, task, given, port, name);
+    hold(world, task, given, port);
+    world.insert_fresh(task, name, alone(given, port));
     name
 }
 

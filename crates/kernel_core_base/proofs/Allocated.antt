@@ -23,12 +23,12 @@ use Rattle.rights.specs.Counts.{no_rights, with_more}
 use Rattle.name_space.specs.declared.Entry.{Entry}
 use Rattle.name_space.specs.declared.Entry.TheVariants as entry
 use Rattle.name_space.specs.Entry.{port_named}
-use Rattle.name_space.specs.Names.{Names, SpaceView, IsFreshFor, IsUsable, HasPlace, HasNoOther}
+use Rattle.name_space.specs.Names.{Names, SpaceView, IsFreshFor, IsUsable, HasPlace, HasNoOther, given_after}
 use Rattle.port.specs.Ports.{PortsView, IsLive}
 use Rattle.copyin_base.specs.Serving.{Completes, IsAllowed}
-use Rattle.copyin_base.specs.Changes.{MakesRoom, KeepsPlace, CanCountName, CountsName, SameButNaming, SameButRoom, IsForLive, CanInsert, InsertsEntry}
+use Rattle.copyin_base.specs.Changes.{MakesRoom, KeepsPlace, CountsName, SameButNaming, SameButRoom, IsForLive, CanInsert, CanInsertFresh, InsertsEntry, InsertsFresh}
 use Rattle.copyin_base.specs.Kept.{Kept}
-use Rattle.copyin_base.specs.Worlds.{WorldView, entry_in, entry_at, space_at, HasTask, space_in}
+use Rattle.copyin_base.specs.Worlds.{WorldView, entry_in, entry_at, space_at, with_space, HasTask, space_in}
 use Rattle.copyin_base.specs.Shows.{Agrees, HoldersAgree, Shows}
 use Rattle.copyin_base.specs.Stands.{Stands}
 use Rattle.copyin_base.proofs.Acting.{Does-so, done}
@@ -38,9 +38,9 @@ use Rattle.copyin_base.proofs.Holders.{ReceivesAt, KeepHolders, same_holders, ho
 use Rattle.copyin_base.proofs.NamesChanged.{added_agrees}
 use Rattle.copyin_base.proofs.Roomier.{room_made, place_kept, room_refl, room_entry, room_agrees, room_shows, naming_holders, naming_carriers, naming_slots, naming_requested, counted_naming, counted_agrees}
 use Rattle.copyin_base.proofs.SendersNoted.{senders_same, senders_kept, naming_senders}
-use Rattle.copyin_base.proofs.Spaces.{space-set_same}
+use Rattle.copyin_base.proofs.Spaces.{space-set_same, set-set}
 use Rattle.copyin_base.proofs.Putting.{each_put, put_other, put_own}
-use Rattle.copyin_base.proofs.FreshNames.{fresh_for, fresh_unused, fresh_has_room, can_count_then}
+use Rattle.copyin_base.proofs.FreshNames.{fresh_for, fresh_unused, fresh_has_room, can_count}
 use Rattle.copyin_base.proofs.Idle.{none_lost_room}
 use Rattle.kernel_core_base.specs.declared.names.NewRight.{NewRight}
 use Rattle.kernel_core_base.specs.declared.names.NewRight.TheVariants as new_right
@@ -146,16 +146,13 @@ not_full_roomy w w1 task r has m space there =
     let still : HasRoomOf w1 task r = has_still w w1 task r has m.space roomy m.there refl m.rest in
     subst (λ (x : SpaceView). map.len x.names < most_names) (same_found (space_at w1 task) still.space space still.there there) still.room
 
--- what was added under a fresh name can be counted
-pub can_count_added : (w v : WorldView) (task : ℕ) (r : NewRight) (name : ℕ) → Adds w task r name v → (space : SpaceView) → space_at w task ≡ Some space → IsFreshFor space name → name < 16777216 → CanCountName v task name
-can_count_added w v task r name adds space there fresh small =
-    let same : space ≡ adds.space = same_found (space_at w task) space adds.space there adds.there in
-    let own : SpaceView = record adds.space { names = map.insert adds.space.names name (entry_made w r); room = adds.space.room - 1 } in
-    record {
-      space = own;
-      there = ap (λ (x : WorldView). space_at x task) adds.rest ∙ space-set_same w.spaces task own adds.space adds.there;
-      can = can_count_then adds.space.given adds.space name (adds.space.room - 1) (entry_made w r) (subst (λ (x : SpaceView). IsFreshFor x name) same fresh) small;
-    }
+-- room was made for the name
+pub room_roomy : (w w1 : WorldView) (task : ℕ) → MakesRoom w task 1 w1 → (space : SpaceView) → space_at w1 task ≡ Some space → 0 < space.room
+room_roomy w w1 task m space there =
+    let roomy : SpaceView = record m.space { room = max m.space.room 1 } in
+    let at : space_at w1 task ≡ Some roomy = ap (λ (x : WorldView). space_at x task) m.rest ∙ space-set_same w.spaces task roomy m.space m.there in
+    let same : space.room ≡ max m.space.room 1 = ap (λ (x : SpaceView). x.room) (same_found (space_at w1 task) space roomy there at) in
+    omega arith
 
 pub can_add_kept : (w w1 : WorldView) → Stands w → (task : ℕ) (r : NewRight) (name : ℕ) → HasRoomOf w task r → KeepsPlace w task name w1 → IsUsable name → entry_at w task name ≡ None → CanAdd w1 task r name
 unfolding has_still
@@ -334,6 +331,15 @@ module _ (w w2 : WorldView) (task name : ℕ) (r : NewRight) (e : Entry) (can : 
     lives = subst (λ (x : WorldView). IsForLive x e) (sym made.rest) (subst (IsForLive (with_made w task r name)) (sym made.made) (is_there w task r name));
   }
 
+  -- it can come under a fresh name, in room
+  pub can_insert_fresh : (space : SpaceView) → space_at w task ≡ Some space → IsFreshFor space name → name < 16777216 → 0 < space.room → CanInsertFresh w2 task name e
+  unfolding can_insert
+  can_insert_fresh space found fresh small some =
+      let same : space ≡ can.has.space = same_found (space_at w task) space can.has.space found can.has.there in
+      let own : IsFreshFor can.has.space name = subst (λ (x : SpaceView). IsFreshFor x name) same fresh in
+      let room : 0 < can.has.space.room = subst (λ (x : SpaceView). 0 < x.room) same some in
+      record { can = can_insert; room = fresh_has_room can.has.space.given can.has.space name own room; counts = can_count can.has.space.given can.has.space name own small room }
+
   pub adds : (w3 : WorldView) → InsertsEntry w2 task name e w3 → Adds w task r name w3
   adds w3 i =
       let at : i.space ≡ can.has.space = same_found (space_at w2 task) i.space can.has.space i.there there in
@@ -344,3 +350,17 @@ module _ (w w2 : WorldView) (task name : ℕ) (r : NewRight) (e : Entry) (can : 
             ∙ ap (λ (xs : List (Option SpaceView)). record (with_made w task r name) { spaces = slice_set xs task (Some (record can.has.space { names = map.insert can.has.space.names name (entry_made w r); room = can.has.space.room - 1 })) })
             (same_spaces w task r name);
       }
+
+  -- what comes under a fresh name is added, and the name counted
+  pub adds_fresh : (w3 : WorldView) → InsertsFresh w2 task name e w3 → (v : WorldView) × Adds w task r name v × CountsName v task name w3
+  adds_fresh w3 i =
+      let put : SpaceView = record i.space { names = map.insert i.space.names name e; room = i.space.room - 1 } in
+      let v : WorldView = with_space w2 task put in (
+        v,
+        adds v record { space = i.space; there = i.there; rest = refl },
+        record {
+          space = put;
+          there = space-set_same w2.spaces task put i.space i.there;
+          rest = i.rest ∙ sym (ap (λ (xs : List (Option SpaceView)). record w2 { spaces = xs }) (set-set w2.spaces task (Some put) (Some (record put { given = given_after put.given name }))));
+        },
+      )

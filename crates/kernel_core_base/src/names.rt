@@ -66,8 +66,8 @@ pub fn allocate(world: &mut World, task: TaskId, right: u32) -> Result<Reply, Co
     let made = judge_allocate(world, task, right)?;
     world.reserve_names(task, 1)?;
     let name = world.space(task).fresh();
-    add_right(world, task, made, name)?;
-    world.count_name(task, name);
+    let entry = make_right(world, task, made, name)?;
+    world.insert_fresh(task, name, entry);
     Ok(Reply::Name(name))
 }
 

@@ -183,14 +183,13 @@ fn a_port_is_found_by_its_name(rt: HostRuntime) {
     assert!(rt; is_found(&mut space) && is_found_renamed(&mut space));
 }
 
-/// Gives a fresh name, counts it, and puts a dead name under it, in room that was made.
+/// Puts a dead name under a fresh name, which is counted, in room that was made.
 fn give(space: &mut Space) -> u32 {
     if space.room() == 0 || space.is_full() {
         return 0;
     }
     let name = space.fresh();
-    space.count(name);
-    space.insert(name, Entry::DeadName(UserRefs::one()));
+    space.insert_fresh(name, Entry::DeadName(UserRefs::one()));
     name.number()
 }
 

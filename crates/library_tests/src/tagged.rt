@@ -1,13 +1,12 @@
 use tagged_names::TaggedNames;
 
-// Gives a fresh name, counts it, and puts a value under it.
+// Puts a value under a fresh name, which is counted.
 fn put(names: &mut TaggedNames<u32>) -> u32 {
-    if names.reserve(1).is_err() || names.len() >= 65_535 {
+    if names.reserve(1).is_err() || names.room() == 0 || names.len() >= 65_535 {
         return 0;
     }
     let name = names.fresh();
-    names.insert(name, 1);
-    names.count(name);
+    names.insert_fresh(name, 1);
     name
 }
 

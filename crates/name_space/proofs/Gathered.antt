@@ -48,6 +48,13 @@ all_used m (suc bound) there =
     all_used (map.remove m (suc bound)) bound (λ n a b. ap is_some (out_other m (suc bound) n (λ c. omega arith)) ∙ there n a (omega arith)) in
     omega arith
 
+-- where there are fewer names than there can be, the fresh one is small
+pub fresh-fits : (m : Names) (q : ℕ) → IsFreshName m q → map.len m < most_names → q < 65536
+fresh-fits m q f few = elim (cases_lt q 65536) [
+  | inl h ↦ h
+  | inr h ↦ (let many : 65535 ≤ map.len m = all_used m 65535 (λ n a b. f.least n a (omega arith)) in absurd (omega arith))
+]
+
 module _ (low high : Names) where
   pub low_side : (q : ℕ) → map.get high q ≡ None → map.get (joined low high) q ≡ map.get low q
   low_side q none = get-joined low high q ∙ ap (λ o. option_or o (map.get low q)) none
@@ -98,10 +105,7 @@ module _ (low high : Names) (low_names : (q : ℕ) → 65536 ≤ q → map.get l
       ]
 
   pub fresh-small : (q : ℕ) → IsFreshName (joined low high) q → map.len (joined low high) < most_names → q < 65536
-  fresh-small q f few = elim (cases_lt q 65536) [
-    | inl h ↦ h
-    | inr h ↦ (let many : 65535 ≤ map.len (joined low high) = all_used (joined low high) 65535 (λ n a b. f.least n a (omega arith)) in absurd (omega arith))
-  ]
+  fresh-small q f few = fresh-fits (joined low high) q f few
 
   pub first-joined : (q : ℕ) → IsFreshName (joined low high) q → q < 65536 → IsFirstFree low q
   first-joined q f small = record {

@@ -34,7 +34,7 @@ module _ (t : SpaceView) (p : PortsView) (len : ℕ) (x : IsSound t p len) where
 
   module _ (u : SpaceView) (name : ℕ) (e : Entry) where
     -- a name comes
-    module _ (is : u ≡ record { names = map.insert t.names name e; room = t.room - 1; kept = t.kept; given = t.given }) (usable : IsUsable name) (unused : map.get t.names name ≡ None) (not_full : map.len t.names < most_names) where
+    module _ {given : Option Given} (is : u ≡ record { names = map.insert t.names name e; room = t.room - 1; kept = t.kept; given = given }) (usable : IsUsable name) (unused : map.get t.names name ≡ None) (not_full : map.len t.names < most_names) where
       came : (q : PortsView) → AreLinked (map.insert t.names name e) q.names → q.kept ≡ p.kept → p.room ≤ q.room + 1 → IsSound u q (len + 1)
       came q both kept room = grind (arith, over, len-new, put_none)
 

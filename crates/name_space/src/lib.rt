@@ -239,7 +239,7 @@ fn reserve_moved(table: &Table, ports: &mut Ports) -> Result<(), AllocError>
 
 impl Space {
     ghost use Rattle.name_space.specs.declared.Entry.{Entry as AnyEntry};
-    ghost use Rattle.name_space.specs.Names.{IsUsable, IsFreshFor, IsNextName, HasPlace, HasNoOther, MayWantPlace, CanCountIn, given_after, first_given};
+    ghost use Rattle.name_space.specs.Names.{IsUsable, IsFreshFor, IsNextName, HasPlace, HasRoomIn, HasNoOther, MayWantPlace, CanCountIn, given_after, first_given};
 
     /// A space without names, whose names will have a generation or not. Allocates nothing; constant time.
     pub fn new(alloc: Global, has_generations: bool) -> Space
@@ -295,7 +295,7 @@ impl Space {
 
     /// Returns the fresh name, where fewer than 65,535 names are in use. Without a generation it is the least
     /// unused number from 1. With one it is the least unused index from 1, times 256. Its low 8 bits are then
-    /// how often a fresh name was counted at this index ([`Space::count`]), modulo 256. Less than 2^24.
+    /// how often a fresh name was counted at this index ([`Space::insert_fresh`]), modulo 256. Less than 2^24.
     /// Constant time.
     #[inline(always)]
     pub fn fresh(&self) -> Name
@@ -306,16 +306,6 @@ impl Space {
         ensures small { result < 16777216 }
     {
         self.table.fresh()
-    }
-
-    /// Counts a fresh name at its index, before it is put in or after, so that the next fresh name of the
-    /// index is another. Without a generation there is nothing to count. Takes no memory; constant time.
-    #[inline(always)]
-    pub fn count(&mut self, name: Name)
-        requires { CanCountIn self.old.given self.old name }
-        ensures { self.new ≡ record self.old { given = given_after self.old.given name } }
-    {
-        self.table.count(name);
     }
 
     /// The name that has the port's receive right or send rights, if one has. Constant time.
@@ -384,6 +374,26 @@ impl Space {
         ensures { self.new ≡ record self.old { names = map.insert self.old.names name entry; room = self.old.room - 1 } }
     {
         self.table.insert(name, entry);
+        self.len += 1;
+        if let Some(port) = entry.port() {
+            self.ports.insert(port, name);
+        }
+    }
+
+    /// Puts the entry under a fresh name that is not in use, as [`Space::insert`] does, and counts the name
+    /// at its index, so that the next fresh name of the index is another. Without a generation there is
+    /// nothing to count. Takes no memory; constant time.
+    #[inline(always)]
+    pub fn insert_fresh(&mut self, name: Name, entry: Entry)
+        requires usable { IsUsable name }
+        requires unused { map.get self.old.names name ≡ None }
+        requires not_full { map.len self.old.names < most_names }
+        requires place { HasRoomIn self.old.given self.old name }
+        requires apart { HasNoOther self.old.names entry }
+        requires counts { CanCountIn self.old.given self.old name }
+        ensures { self.new ≡ record self.old { names = map.insert self.old.names name entry; room = self.old.room - 1; given = given_after self.old.given name } }
+    {
+        self.table.insert_fresh(name, entry);
         self.len += 1;
         if let Some(port) = entry.port() {
             self.ports.insert(port, name);

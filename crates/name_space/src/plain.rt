@@ -14,7 +14,7 @@ use std::alloc::{AllocError, Global};
 use std::marker::Model;
 
 // The least name that lies in no page.
-const FIRST_HIGH: u32 = 65_536;
+pub(crate) const FIRST_HIGH: u32 = 65_536;
 
 /// Entries by names, room for fresh names, and a place for one name.
 #[derive(Drop)]
@@ -48,17 +48,6 @@ fn join_send(held: &mut Entry) -> Entry
     let before = *held;
     *held = before.with_send();
     before
-}
-
-// Adds a send reference to the entry under a name above 65,535, and returns what it was before.
-fn add_send_high(high: &mut High<Entry>, name: u32) -> Entry
-    requires { map.contains_key high.old.names name ≡ true }
-    ensures value { map.get high.old.names name ≡ Some result }
-    ensures after { high.new ≡ record high.old { names = map.insert high.old.names name (with_send result) } }
-{
-    let entry = high.get(name).unwrap();
-    high.put(name, entry.with_send());
-    entry
 }
 
 impl Plain {
@@ -101,16 +90,22 @@ impl Plain {
         self.kept
     }
 
+    // What stands under a name that lies in pages.
     #[inline(always)]
-    pub(crate) fn get(&self, name: Name) -> Option<Entry>
+    pub(crate) fn get_low(&self, name: u32) -> Option<Entry>
+        requires { name < 65536 }
         ensures { result ≡ map.get self.now.names name }
     {
-        let number = name.number();
-        if number < FIRST_HIGH {
-            self.low.get(number)
-        } else {
-            self.high.get(number)
-        }
+        self.low.get(name)
+    }
+
+    // What stands under a name above all pages.
+    #[inline(never)]
+    pub(crate) fn get_high(&self, name: u32) -> Option<Entry>
+        requires { 65536 ≤ name }
+        ensures { result ≡ map.get self.now.names name }
+    {
+        self.high.get(name)
     }
 
     // The least unused number from 1.
@@ -166,62 +161,82 @@ impl Plain {
         Ok(())
     }
 
-    // Puts an entry under an unused name, in its place. Takes no memory.
+    // Puts an entry under an unused name that lies in pages, in its place. Takes no memory.
     #[inline(always)]
-    pub(crate) fn insert(&mut self, name: Name, entry: Entry)
+    pub(crate) fn insert_low(&mut self, name: u32, entry: Entry)
+        requires small { name < 65536 }
         requires usable { IsUsable name }
         requires unused { map.get self.old.names name ≡ None }
         requires not_full { map.len self.old.names < most_names }
         requires place { HasPlainPlace self.old name }
         ensures { self.new ≡ record self.old { names = map.insert self.old.names name entry; room = self.old.room - 1 } }
     {
-        let number = name.number();
         self.room = self.room.saturating_sub(1);
-        if number < FIRST_HIGH {
-            self.low.insert(number, entry);
-        } else {
-            self.high.put(number, entry);
-        }
+        self.low.insert(name, entry);
     }
 
-    // Puts an entry in place of what stands under a name. Takes no memory.
-    pub(crate) fn set(&mut self, name: Name, entry: Entry)
-        requires { map.contains_key self.old.names name ≡ true }
+    // Puts an entry under an unused name above all pages, in its place. Takes no memory.
+    #[inline(never)]
+    pub(crate) fn insert_high(&mut self, name: u32, entry: Entry)
+        requires great { 65536 ≤ name }
+        requires usable { IsUsable name }
+        requires unused { map.get self.old.names name ≡ None }
+        requires not_full { map.len self.old.names < most_names }
+        requires place { HasPlainPlace self.old name }
+        ensures { self.new ≡ record self.old { names = map.insert self.old.names name entry; room = self.old.room - 1 } }
+    {
+        self.room = self.room.saturating_sub(1);
+        self.high.put(name, entry);
+    }
+
+    // Puts an entry in place of what stands under a name in pages. Takes no memory.
+    #[inline(always)]
+    pub(crate) fn set_low(&mut self, name: u32, entry: Entry)
+        requires small { name < 65536 }
+        requires used { map.contains_key self.old.names name ≡ true }
         ensures { self.new ≡ record self.old { names = map.insert self.old.names name entry } }
     {
-        let number = name.number();
-        if number < FIRST_HIGH {
-            self.low.set(number, entry);
-        } else {
-            self.high.put(number, entry);
-        }
+        self.low.set(name, entry);
     }
 
-    // Adds a send reference to what stands under a name, and answers what stood there. Takes no memory.
-    pub(crate) fn add_send(&mut self, name: Name) -> Entry
-        requires { map.contains_key self.old.names name ≡ true }
+    // Puts an entry in place of what stands under a name above all pages. Takes no memory.
+    pub(crate) fn set_high(&mut self, name: u32, entry: Entry)
+        requires great { 65536 ≤ name }
+        requires used { map.contains_key self.old.names name ≡ true }
+        ensures { self.new ≡ record self.old { names = map.insert self.old.names name entry } }
+    {
+        self.high.put(name, entry);
+    }
+
+    // Adds a send reference to what stands under a name in pages, and returns what stood there. Takes no
+    // memory.
+    #[inline(always)]
+    pub(crate) fn add_send_low(&mut self, name: u32) -> Entry
+        requires small { name < 65536 }
+        requires used { map.contains_key self.old.names name ≡ true }
         ensures value { map.get self.old.names name ≡ Some result }
         ensures after { self.new ≡ record self.old { names = map.insert self.old.names name (with_send result) } }
     {
-        let number = name.number();
-        if number < FIRST_HIGH {
-            join_send(self.low.value_mut(number))
-        } else {
-            add_send_high(&mut self.high, number)
-        }
+        join_send(self.low.value_mut(name))
     }
 
-    // Takes out what stands under the name, and answers it.
+    // Takes out what stands under a name in pages, and returns it.
     #[inline(always)]
-    pub(crate) fn remove(&mut self, name: Name) -> Option<Entry>
+    pub(crate) fn remove_low(&mut self, name: u32) -> Option<Entry>
+        requires { name < 65536 }
         ensures value { result ≡ map.get self.old.names name }
         ensures after { self.new ≡ record self.old { names = map.remove self.old.names name } }
     {
-        let number = name.number();
-        if number < FIRST_HIGH {
-            self.low.remove(number)
-        } else {
-            self.high.remove(number)
-        }
+        self.low.remove(name)
+    }
+
+    // Takes out what stands under a name above all pages, and returns it.
+    #[inline(never)]
+    pub(crate) fn remove_high(&mut self, name: u32) -> Option<Entry>
+        requires { 65536 ≤ name }
+        ensures value { result ≡ map.get self.old.names name }
+        ensures after { self.new ≡ record self.old { names = map.remove self.old.names name } }
+    {
+        self.high.remove(name)
     }
 }

@@ -4,10 +4,11 @@ ghost use Rattle.std.specs.FinMap as map;
 ghost use Rattle.mach_types.specs.Numbers.{most_names};
 ghost use Rattle.name_space_base.specs.Pages.{IsNextUsed};
 ghost use Rattle.name_space.specs.Entry.{with_send};
-ghost use Rattle.name_space.specs.Names.{IsFreshFor, IsUsable, CanCountIn, MayWantIn, HasPlace, given_after, first_given};
+ghost use Rattle.name_space.specs.Names.{IsFreshFor, IsUsable, CanCountIn, HasRoomIn, MayWantIn, HasPlace, given_after, first_given};
+ghost use Rattle.name_space.specs.Table.{view_of, end_of};
 
 use crate::Entry;
-use crate::plain::Plain;
+use crate::plain::{FIRST_HIGH, Plain};
 use mach_types::Name;
 use std::alloc::{AllocError, Global};
 use std::marker::Model;
@@ -26,6 +27,9 @@ pub(crate) enum Kind {
 #[derive(Drop)]
 pub(crate) struct Table {
     kind: Kind,
+    // The names below this lie in the pages of names without a generation: 65,536, or 0 where names have
+    // one. So a look-up there asks for nothing else.
+    end: u32,
 }
 
 impl Model for Table {
@@ -36,20 +40,82 @@ impl Model for Table {
 
     ghost coded = { space_code entry_of.the_row.coded };
 
-    ghost use Rattle.name_space.specs.Table.{view_of};
+    ghost use Rattle.std.specs.Prelude.{◌≡◌};
+    ghost use Rattle.name_space.specs.Table.{view_of, end_of};
 
     ghost view = { λ a. view_of a.kind };
+
+    ghost invariant = { λ a. a.end ≡ end_of a.kind };
 }
 
-// Adds a send reference under a name with a generation, and answers what stood there.
-#[inline(never)]
-fn add_send_tagged(names: &mut TaggedNames<Entry>, name: u32) -> Entry
-    requires { map.contains_key names.old.names name ≡ true }
-    ensures value { map.get names.old.names name ≡ Some result }
-    ensures after { names.new ≡ record names.old { names = map.insert names.old.names name (with_send result) } }
+// What is under a name that lies in no page of names without a generation.
+#[inline(always)]
+fn get_apart(kind: &Kind, name: u32) -> Option<Entry>
+    requires { end_of kind.now ≤ name }
+    ensures { result ≡ map.get (view_of kind.now).names name }
 {
-    let entry = names.get(name).unwrap();
-    names.set(name, entry.with_send());
+    match kind {
+        Kind::Plain(names) => names.get_high(name),
+        Kind::Tagged(names) => names.get(name),
+    }
+}
+
+// Puts an entry under an unused name that lies in no page of names without a generation.
+#[inline(never)]
+fn insert_apart(kind: &mut Kind, name: u32, entry: Entry)
+    requires apart { end_of kind.old ≤ name }
+    requires usable { IsUsable name }
+    requires unused { map.get (view_of kind.old).names name ≡ None }
+    requires not_full { map.len (view_of kind.old).names < most_names }
+    requires place { HasPlace (view_of kind.old) name }
+    ensures view { view_of kind.new ≡ record (view_of kind.old) { names = map.insert (view_of kind.old).names name entry; room = (view_of kind.old).room - 1 } }
+    ensures end { end_of kind.new ≡ end_of kind.old }
+{
+    match kind {
+        Kind::Plain(names) => names.insert_high(name, entry),
+        Kind::Tagged(names) => names.insert(name, entry),
+    }
+}
+
+// Puts an entry in place of what is under such a name.
+#[inline(never)]
+fn set_apart(kind: &mut Kind, name: u32, entry: Entry)
+    requires apart { end_of kind.old ≤ name }
+    requires used { map.contains_key (view_of kind.old).names name ≡ true }
+    ensures view { view_of kind.new ≡ record (view_of kind.old) { names = map.insert (view_of kind.old).names name entry } }
+    ensures end { end_of kind.new ≡ end_of kind.old }
+{
+    match kind {
+        Kind::Plain(names) => names.set_high(name, entry),
+        Kind::Tagged(names) => names.set(name, entry),
+    }
+}
+
+// Takes out what is under such a name.
+#[inline(always)]
+fn remove_apart(kind: &mut Kind, name: u32) -> Option<Entry>
+    requires apart { end_of kind.old ≤ name }
+    ensures value { result ≡ map.get (view_of kind.old).names name }
+    ensures view { view_of kind.new ≡ record (view_of kind.old) { names = map.remove (view_of kind.old).names name } }
+    ensures end { end_of kind.new ≡ end_of kind.old }
+{
+    match kind {
+        Kind::Plain(names) => names.remove_high(name),
+        Kind::Tagged(names) => names.remove(name),
+    }
+}
+
+// Adds a send reference under such a name, and returns what was there.
+#[inline(never)]
+fn add_send_apart(kind: &mut Kind, name: u32) -> Entry
+    requires apart { end_of kind.old ≤ name }
+    requires used { map.contains_key (view_of kind.old).names name ≡ true }
+    ensures value { map.get (view_of kind.old).names name ≡ Some result }
+    ensures view { view_of kind.new ≡ record (view_of kind.old) { names = map.insert (view_of kind.old).names name (with_send result) } }
+    ensures end { end_of kind.new ≡ end_of kind.old }
+{
+    let entry = get_apart(kind, name).unwrap();
+    set_apart(kind, name, entry.with_send());
     entry
 }
 
@@ -61,10 +127,12 @@ impl Table {
         if has_generations {
             Table {
                 kind: Kind::Tagged(TaggedNames::new(alloc)),
+                end: 0,
             }
         } else {
             Table {
                 kind: Kind::Plain(Plain::new(alloc)),
+                end: FIRST_HIGH,
             }
         }
     }
@@ -109,9 +177,14 @@ impl Table {
     pub(crate) fn get(&self, name: Name) -> Option<Entry>
         ensures { result ≡ map.get self.now.names name }
     {
-        match &self.kind {
-            Kind::Plain(names) => names.get(name),
-            Kind::Tagged(names) => names.get(name.number()),
+        let number = name.number();
+        if number < self.end {
+            let Kind::Plain(names) = &self.kind else {
+                unreachable!()
+            };
+            names.get_low(number)
+        } else {
+            get_apart(&self.kind, number)
         }
     }
 
@@ -125,17 +198,6 @@ impl Table {
         match &self.kind {
             Kind::Plain(names) => names.fresh(),
             Kind::Tagged(names) => Name::new(names.fresh()),
-        }
-    }
-
-    // Counts a fresh name, where names have a generation. Takes no memory.
-    #[inline(always)]
-    pub(crate) fn count(&mut self, name: Name)
-        requires { CanCountIn self.old.given self.old name }
-        ensures { self.new ≡ record self.old { given = given_after self.old.given name } }
-    {
-        if let Kind::Tagged(names) = &mut self.kind {
-            names.count(name.number());
         }
     }
 
@@ -185,9 +247,31 @@ impl Table {
         requires place { HasPlace self.old name }
         ensures { self.new ≡ record self.old { names = map.insert self.old.names name entry; room = self.old.room - 1 } }
     {
+        let number = name.number();
+        if number < self.end {
+            let Kind::Plain(names) = &mut self.kind else {
+                unreachable!()
+            };
+            names.insert_low(number, entry);
+        } else {
+            insert_apart(&mut self.kind, number, entry);
+        }
+    }
+
+    // Puts an entry under a fresh name, in its place, and counts the name where names have a generation.
+    // Takes no memory.
+    #[inline(always)]
+    pub(crate) fn insert_fresh(&mut self, name: Name, entry: Entry)
+        requires usable { IsUsable name }
+        requires unused { map.get self.old.names name ≡ None }
+        requires not_full { map.len self.old.names < most_names }
+        requires place { HasRoomIn self.old.given self.old name }
+        requires counts { CanCountIn self.old.given self.old name }
+        ensures { self.new ≡ record self.old { names = map.insert self.old.names name entry; room = self.old.room - 1; given = given_after self.old.given name } }
+    {
         match &mut self.kind {
-            Kind::Plain(names) => names.insert(name, entry),
-            Kind::Tagged(names) => names.insert(name.number(), entry),
+            Kind::Plain(names) => names.insert_low(name.number(), entry),
+            Kind::Tagged(names) => names.insert_fresh(name.number(), entry),
         }
     }
 
@@ -197,9 +281,14 @@ impl Table {
         requires { map.contains_key self.old.names name ≡ true }
         ensures { self.new ≡ record self.old { names = map.insert self.old.names name entry } }
     {
-        match &mut self.kind {
-            Kind::Plain(names) => names.set(name, entry),
-            Kind::Tagged(names) => names.set(name.number(), entry),
+        let number = name.number();
+        if number < self.end {
+            let Kind::Plain(names) = &mut self.kind else {
+                unreachable!()
+            };
+            names.set_low(number, entry);
+        } else {
+            set_apart(&mut self.kind, number, entry);
         }
     }
 
@@ -210,9 +299,14 @@ impl Table {
         ensures value { map.get self.old.names name ≡ Some result }
         ensures after { self.new ≡ record self.old { names = map.insert self.old.names name (with_send result) } }
     {
-        match &mut self.kind {
-            Kind::Plain(names) => names.add_send(name),
-            Kind::Tagged(names) => add_send_tagged(names, name.number()),
+        let number = name.number();
+        if number < self.end {
+            let Kind::Plain(names) = &mut self.kind else {
+                unreachable!()
+            };
+            names.add_send_low(number)
+        } else {
+            add_send_apart(&mut self.kind, number)
         }
     }
 
@@ -222,9 +316,14 @@ impl Table {
         ensures value { result ≡ map.get self.old.names name }
         ensures after { self.new ≡ record self.old { names = map.remove self.old.names name } }
     {
-        match &mut self.kind {
-            Kind::Plain(names) => names.remove(name),
-            Kind::Tagged(names) => names.remove(name.number()),
+        let number = name.number();
+        if number < self.end {
+            let Kind::Plain(names) = &mut self.kind else {
+                unreachable!()
+            };
+            names.remove_low(number)
+        } else {
+            remove_apart(&mut self.kind, number)
         }
     }
 }

@@ -1,5 +1,5 @@
 -- Values in a tree, and the one that stands apart from them.
-use Rattle.std.proofs.Common.{◌≡◌, ◌≢◌, inl, inr, ℕ, ◌<◌, ◌≤◌, true, false, cond, nat_lt, List, refl, ap, sym, subst, ◌∙◌, Option, Some, None, is_some, IfSome, IfNone, arith}
+use Rattle.std.proofs.Common.{◌≡◌, ◌≢◌, inl, inr, ℕ, ◌<◌, ◌≤◌, true, false, cond, nat_lt, List, length, refl, ap, sym, subst, ◌∙◌, Option, Some, None, is_some, IfSome, IfNone, arith}
 use Rattle.std.proofs.lemmas.Bool.{cases_lt, cases_eq}
 use Rattle.std.proofs.lemmas.Bool.Decides.{nat_tests}
 use Rattle.std.specs.Ordering.{nat_cmp}
@@ -10,7 +10,7 @@ use Rattle.name_space_base.specs.Pages.{IsNextUsed}
 use Rattle.name_space_base.specs.High.{HighView, with_kept, least_name, HasApart, KeepsUsed}
 use Rattle.name_space_base.proofs.Options.{same_some, some_or_none, none_or_used, is_or_not}
 use Rattle.name_space_base.proofs.Tables.{same_gets, put_here, put_other, out_here, out_other}
-use Rattle.name_space_base.proofs.Tree.{tree, get-tree}
+use Rattle.name_space_base.proofs.Tree.{tree, get-tree, none_where_empty}
 
 is_less : (a b : ℕ) → a < b → nat_lt a b ≡ true
 is_less a b h = grind (arith, nat_tests)
@@ -71,6 +71,17 @@ module _ {V : Type 0} where
 
     pub kept_is : kept ≡ v.kept
     kept_is = ap (λ (a : HighView V). a.kept) view_is
+
+    -- nothing is in the tree, and nothing stands apart
+    pub none_in_either : length es ≡ 0 → e ≡ None → (q : ℕ) → map.get v.names q ≡ None
+    none_in_either no_entry no_value q = sym (ap (λ (m : map.FinMap nat_cmp V). map.get m q) names_are) ∙ ap (λ (x : Option V). map.get (with_kept kept x (tree es)) q) no_value ∙ either kept (none_where_empty es no_entry q)
+      where
+        either : (k : Option ℕ) → map.get (tree es) q ≡ None → map.get (with_kept k None (tree es)) q ≡ None
+        either None none = none
+        either (Some k) none = elim (cases_eq q k) [
+          | inl a ↦ ap (map.get (map.remove (tree es) k)) a ∙ out_here (tree es) k
+          | inr d ↦ out_other (tree es) k q d ∙ none
+        ]
 
     pub seen_kept : (k : ℕ) → v.kept ≡ Some k → e ≡ map.get v.names k
     seen_kept k h = sym (kept_here kept e (tree es) k (kept_is ∙ h)) ∙ ap (λ (m : map.FinMap nat_cmp V). map.get m k) names_are

@@ -98,6 +98,13 @@ module _ {T : Type 0} (ps : Sheets T) (full : List ℕ) (len front front_free ro
         | inr h ↦ let d : lost-in (n / 256) front ≡ 0 = lost-none (n / 256) front h in omega arith
       ]
 
+  -- the page of a free number isn't marked as full
+  pub not-marked : (v : T) → 0 < n → look ps n ≡ None → n < 65536 → has full (n / 256) ≡ false
+  not-marked v positive none small =
+      let more : taken (with_slot ps n (Some v)) (n / 256) ≡ taken ps (n / 256) + 1 = put-count v none in
+      let bound : taken (with_slot ps n (Some v)) (n / 256) ≤ 256 = bound-kept (Some v) positive in
+      s.marked (n / 256) (omega arith) ∙ ne_eqb (taken ps (n / 256)) 256 (λ e. omega arith)
+
   set-count : (v : T) → is_some (look ps n) ≡ true → taken (with_slot ps n (Some v)) (n / 256) ≡ taken ps (n / 256)
   set-count v used =
       let e = used-set (page_at ps (n / 256)) (n % 256) v within used in

@@ -1,5 +1,5 @@
 -- Optional values, and tests that fail.
-use Rattle.std.proofs.Common.{◌≡◌, ◌≢◌, ◌⊎◌, inl, inr, ℕ, Bool, true, false, refl, ap, sym, ◌∙◌, Option, Some, None, is_some, IfNone, Result, Ok, Err, OnErr}
+use Rattle.std.proofs.Common.{◌≡◌, ◌≢◌, ◌⊎◌, inl, inr, ℕ, Bool, true, false, refl, ap, sym, ◌∙◌, Option, Some, None, is_some, not, IsTrue, arith, IfNone, Result, Ok, Err, OnErr}
 use Rattle.std.proofs.lemmas.Bool.{cases_eq}
 
 pub same_some : {A : Type 0} (x y : A) → Some x ≡ Some y → x ≡ y
@@ -29,3 +29,8 @@ for_none (Some x) p = tt
 pub for_err : {A E P : Type 0} (r : Result A E) → P → OnErr r P
 for_err (Ok x) p = tt
 for_err (Err e) p = p
+
+-- a test that finds nothing
+pub none_told : {A : Type 0} (x : Option A) (b : Bool) → is_some x ≡ not b → IsTrue b → x ≡ None
+none_told None b e t = refl
+none_told (Some y) b e t = grind arith

@@ -1,5 +1,5 @@
 -- A number's bit in four words: changed in one of them, and searched in one after the other.
-use Rattle.std.proofs.Common.{◌≡◌, ◌≢◌, ℕ, min, ◌+◌, ◌-◌, ◌*◌, ◌/◌, ◌%◌, ◌^◌, ◌<◌, ◌≤◌, inl, inr, if◌then◌else◌, ◌==◌, List, length, get_or, set, refl, ap, sym, ◌∙◌, arith}
+use Rattle.std.proofs.Common.{◌≡◌, ◌≢◌, ℕ, min, ◌-◌, ◌*◌, ◌/◌, ◌%◌, ◌^◌, ◌<◌, ◌≤◌, inl, inr, if◌then◌else◌, ◌==◌, List, length, get_or, set, refl, ap, sym, ◌∙◌, arith}
 use Rattle.std.specs.Int.{bit_at, w64, bit_not, trailing_zeros}
 use Rattle.std.specs.Int.RustNames.{bit_or}
 use lib.Bits.{bit_and}

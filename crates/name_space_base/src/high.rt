@@ -96,8 +96,16 @@ impl<V: Copy> High<V> {
         }
     }
 
-    /// The least name from this one on that is in use. Logarithmic in the number of names.
+    /// Whether the tree and the place are both empty, so that no name is in use. Constant time.
     #[inline(always)]
+    pub fn is_empty(&self) -> bool
+        ensures { IsTrue result → (name : ℕ) → map.get self.now.names name ≡ None }
+    {
+        self.others.is_empty() && self.value.is_none()
+    }
+
+    /// The least name from this one on that is in use. Logarithmic in the number of names.
+    #[inline(never)]
     pub fn next(&self, from: u32) -> Option<u32>
         ensures found { IfSome result (λ name. IsNextUsed self.now.names from name) }
         ensures none { IfNone result ((n : ℕ) → from ≤ n → map.get self.now.names n ≡ None) }
@@ -154,21 +162,8 @@ impl<V: Copy> High<V> {
     }
 }
 
-// The least key from this one on. Where there is none at all, nothing is searched.
-#[inline(always)]
-fn next_in<V: Copy>(others: &BTreeMap<u32, V>, from: u32) -> Option<u32>
-    ensures found { IfSome result (λ name. IsNextUsed (map.from_entries {R = nat_cmp} others.now.entries) from name) }
-    ensures none { IfNone result ((n : ℕ) → from ≤ n → map.get (map.from_entries {R = nat_cmp} others.now.entries) n ≡ None) }
-{
-    if others.is_empty() {
-        return None;
-    }
-    first_from(others, from)
-}
-
 // The least key from this one on.
-#[inline(never)]
-fn first_from<V: Copy>(others: &BTreeMap<u32, V>, from: u32) -> Option<u32>
+fn next_in<V: Copy>(others: &BTreeMap<u32, V>, from: u32) -> Option<u32>
     ensures found { IfSome result (λ name. IsNextUsed (map.from_entries {R = nat_cmp} others.now.entries) from name) }
     ensures none { IfNone result ((n : ℕ) → from ≤ n → map.get (map.from_entries {R = nat_cmp} others.now.entries) n ≡ None) }
 {

@@ -5,7 +5,7 @@
 //! numbers, and keeps a place for one of them, so that a value can be put there without memory.
 #![tactic(auto)]
 
-ghost use Rattle.std.specs.Prelude.{◌≡◌, ℕ, ◌-◌, ◌/◌, ◌<◌, ◌≤◌, ◌↔◌, ◌==◌, if◌then◌else◌, IsTrue, true, max, length, Some, None, IfOk, IfSome, IfNone, IsOk, OnOk, OnErr};
+ghost use Rattle.std.specs.Prelude.{◌≡◌, ℕ, ◌-◌, ◌/◌, ◌<◌, ◌≤◌, ◌↔◌, ◌==◌, if◌then◌else◌, IsTrue, true, false, max, length, Some, None, IfOk, IfSome, IfNone, IsOk, OnOk, OnErr};
 ghost use Rattle.std.specs.Borrow.{sem};
 ghost use Rattle.std.specs.FinMap as map;
 ghost use Rattle.std.specs.FinSet as set;
@@ -87,15 +87,15 @@ fn make<T: Copy>(pages: &mut Vec<Page<T>>, page: usize, alloc: Global) -> Result
     held.make(alloc)
 }
 
-// Marks a page as full or not.
+// Marks a page that wasn't full, if it is full now.
+#[inline(always)]
 fn mark(full: &mut Bits, page: usize, is_full: bool)
-    requires { page < 256 }
+    requires small { page < 256 }
+    requires was_not { has full.old.words page ≡ false }
     ensures { (p : ℕ) → p < 256 → has full.new.words p ≡ (if p == page then is_full else has full.old.words p) }
 {
     if is_full {
         full.insert(page);
-    } else {
-        full.remove(page);
     }
 }
 
@@ -262,11 +262,20 @@ impl<T: Copy> Pages<T> {
         ensures after { self.new ≡ record self.old { values = map.remove self.old.values number } }
     {
         let value = self.get(number)?;
+        self.clear(number);
+        Some(value)
+    }
+
+    /// Takes out the value under a number that has one. Room and pages stay as they are. Constant time.
+    #[inline(always)]
+    pub fn clear(&mut self, number: u32)
+        requires { map.contains_key self.old.values number ≡ true }
+        ensures { self.new ≡ record self.old { values = map.remove self.old.values number } }
+    {
         let page = number as usize / PAGE;
         self.pages[page].clear(number as usize % PAGE);
         self.full.remove(page);
         self.front_free += usize::from(page < self.front);
         self.len -= 1;
-        Some(value)
     }
 }

@@ -1,17 +1,7 @@
--- What a count changes, and that a fresh name can be counted before it is put in, and after.
-use Rattle.std.proofs.Common.{arith, ◌≡◌, ◌≢◌, inl, ℕ, zero, suc, ◌+◌, ◌/◌, ◌%◌, ◌<◌, Option, is_some, unwrap_or, ap}
-use Rattle.std.proofs.lemmas.Bool.{cases_eq}
-use Rattle.std.specs.Ordering.{nat_cmp}
-use Rattle.std.specs.FinMap as map
+-- What a count changes, and that a fresh name can be counted.
+use Rattle.std.proofs.Common.{◌≡◌, ◌≢◌, inl, ℕ, zero, suc, ◌+◌, ◌/◌, ◌%◌, ◌<◌, unwrap_or, ap}
 use Rattle.name_space_base.proofs.Tables.{put_here, put_other, out_here, out_other}
-use Rattle.tagged_names.specs.Names.{TaggedView, Given, IsTaken, IsFreshIndex, CanCount, count_of, with_count, counted}
-
-pub taken_then : {V : Type 0} (names : map.FinMap nat_cmp V) (name : ℕ) (e : V) (i : ℕ) → IsTaken names i → IsTaken (map.insert names name e) i
-taken_then names name e i t = grind (arith, cases_eq, is_some, put_here, put_other)
-
-pub count_after : {V : Type 0} (names : map.FinMap nat_cmp V) (given : Given) (name room : ℕ) (kept : Option ℕ) (e : V) → IsFreshIndex names (name / 256) → name / 256 < 65536 →
-    CanCount record { names = map.insert names name e; given = given; room = room; kept = kept } (name / 256)
-count_after names given name room kept e f small = grind (arith, taken_then, is_some, put_here)
+use Rattle.tagged_names.specs.Names.{TaggedView, Given, IsFreshIndex, CanCount, count_of, with_count, counted}
 
 pub count_before : {V : Type 0} (v : TaggedView V) (name : ℕ) → IsFreshIndex v.names (name / 256) → name / 256 < 65536 → 0 < v.room → CanCount v (name / 256)
 count_before v name f small room = record { positive = f.positive; small = small; least = f.least; here = inl room }

@@ -15,6 +15,7 @@ use Rattle.tagged_names.proofs.Fresh.{all_taken, lesser_taken}
 pub sound_new : {V : Type 0} (p : PlacesView V) (c : CountsView) → ◌≡◌ {A = PlacesView V} p record { names = map.empty; room = 0; kept = None } → IsSound p c 0 0
 sound_new {V} p c is = record {
   counted = sym (ap (λ (w : PlacesView V). map.len w.names) is ∙ map.len-empty nat_cmp V);
+  few = omega arith;
   has_room = omega arith;
   has_counts = omega arith;
   has_one_more = λ awaited. elim awaited [ inl some ↦ absurd (omega arith) | inr w ↦ absurd (some_or_none w.0 _ w.1 (ap (λ (w : PlacesView V). w.kept) is)) ];
@@ -26,8 +27,8 @@ module _ {V : Type 0} (p : PlacesView V) (c : CountsView) (len room : ℕ) (x : 
     put_used e n is same none = grind (arith, some_or_none, put_here)
 
     pub sound_put : (e : V) (left : ℕ) → new.names ≡ map.insert p.names name e → new.kept ≡ p.kept → map.get p.names name ≡ None → p.room - 1 ≤ new.room → left ≡ room - 1
-        → (0 < room) ⊎ (p.kept ≡ Some name) → IsSound new c (len + 1) left
-    sound_put e left is same none fits less place = grind (arith, len-put, min, put_used, same_some)
+        → (0 < room) ⊎ (p.kept ≡ Some name) → map.len p.names < 65535 → IsSound new c (len + 1) left
+    sound_put e left is same none fits less place not_full = grind (arith, len-put, min, put_used, same_some)
 
     pub sound_set : (e : V) → new ≡ record { names = map.insert p.names name e; room = p.room; kept = p.kept } → map.contains_key p.names name ≡ true → IsSound new c len room
     sound_set e is used = grind (arith, len-kept, cases_eq, put_used, put_other)
@@ -44,7 +45,7 @@ module _ {V : Type 0} (p : PlacesView V) (c : CountsView) (len room : ℕ) (x : 
           let was = x.counted in
           let had = x.has_room in
           let reach = x.has_counts in
-          record { counted = omega arith; has_room = omega arith; has_counts = omega arith; has_one_more = λ awaited. omega arith }
+          let few = x.few in record { counted = omega arith; few = omega arith; has_room = omega arith; has_counts = omega arith; has_one_more = λ awaited. omega arith }
 
       pub sound_same : map.get p.names name ≡ None → IsSound new c len room
       sound_same none =
@@ -54,6 +55,7 @@ module _ {V : Type 0} (p : PlacesView V) (c : CountsView) (len room : ℕ) (x : 
           let had = x.has_room in
           record {
             counted = omega arith;
+            few = x.few;
             has_room = omega arith;
             has_counts = x.has_counts;
             has_one_more = λ awaited. x.has_one_more (elim awaited [
@@ -68,6 +70,14 @@ module _ {V : Type 0} (p : PlacesView V) (c : CountsView) (len room : ℕ) (x : 
               )
             ]);
           }
+
+-- other counts, with the same places
+pub sound_counted : {V : Type 0} (p : PlacesView V) (c : CountsView) (len room : ℕ) (new : CountsView) → new.reach ≡ c.reach → IsSound p c len room → IsSound p new len room
+sound_counted p c len room new same x = grind arith
+
+-- room as a whole is room among the places
+pub room_within : {V : Type 0} (p : PlacesView V) (c : CountsView) (len room : ℕ) → IsSound p c len room → (v : TaggedView V) → ◌≡◌ {A = TaggedView V} record { names = p.names; given = c.given; room = room; kept = p.kept } v → 0 < v.room → 0 < p.room
+room_within p c len room x v view_is some = grind arith
 
 -- a name that has a place as a whole has one among the places
 pub place_for : {V : Type 0} (p : PlacesView V) (c : CountsView) (len room : ℕ) → IsSound p c len room → (v : TaggedView V)

@@ -89,7 +89,7 @@ module _ {V : Type 0} (slots : PagesView (Slot V)) (others : HighView V) (x : Is
     Awaits name = (IsFreshIndex v.names (name / 256) × (0 < v.room)) ⊎ (v.kept ≡ Some name)
 
     module _ (name : ℕ) (place : Awaits name) (few : map.len v.names < 65535) where
-      fresh_open : IsFreshIndex v.names (name / 256) → IsOpen slots.values (name / 256)
+      pub fresh_open : IsFreshIndex v.names (name / 256) → IsOpen slots.values (name / 256)
       fresh_open f = (f.positive, fresh_fits (name / 256) f few, (fresh_place (name / 256) f few).free)
 
       pub kept_place : (IsOpen slots.values (name / 256) → ⊥) → others.kept ≡ Some name

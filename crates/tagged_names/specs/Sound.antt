@@ -11,6 +11,7 @@ IsAwaited places room = (0 < room) ⊎ ((name : ℕ) × (places.kept ≡ Some na
 -- The places have room, and each index that a fresh name has while there is room has a place for its count.
 pub record IsSound {V : Type 0} (places : PlacesView V) (counts : CountsView) (len room : ℕ) : Type 0 where
   pub counted : len ≡ map.len places.names
+  pub few : len ≤ 65535
   pub has_room : room ≤ places.room
   pub has_counts : min (len + room) 65535 ≤ counts.reach
   pub has_one_more : IsAwaited places room → min (len + room + 1) 65535 ≤ counts.reach

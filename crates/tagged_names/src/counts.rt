@@ -1,10 +1,14 @@
 //! How often a fresh name was counted at each index, modulo 256.
-ghost use Rattle.std.specs.Prelude.{◌≡◌, ℕ, ◌+◌, ◌<◌, ◌≤◌, OnOk, OnErr, IsOk, max};
+ghost use Rattle.std.specs.Prelude.{◌≡◌, ℕ, ◌+◌, ◌<◌, ◌≤◌, OnOk, OnErr, IsOk, max, min};
 ghost use Rattle.std.specs.FinMap as map;
 ghost use Rattle.tagged_names.specs.Names.{count_of, counted};
 
+use crate::MOST_INDICES;
 use std::alloc::{AllocError, Global};
 use std::marker::Model;
+
+// So many places are made at once.
+const BLOCK: usize = 256;
 
 /// A count for each index up to a greatest one.
 #[derive(Drop)]
@@ -46,15 +50,36 @@ impl Counts {
         }
     }
 
-    // Makes places for the counts of the indices up to this one. An error means that memory was refused.
+    // Makes places for the counts of the indices up to this one, at most 65,535, and for those of up to 511
+    // more. An error means that memory was refused.
+    #[inline(always)]
     pub(crate) fn reach(&mut self, index: usize) -> Result<(), AllocError>
+        ensures given { self.new.given ≡ self.old.given }
+        ensures kept { self.old.reach ≤ self.new.reach }
+        ensures few { self.new.reach ≤ max self.old.reach (index + 511) }
+        ensures ok { OnOk result (min index 65535 ≤ self.new.reach) }
+        ensures err { OnErr result (self.new ≡ self.old) }
+        ensures had_place { 0 < index → min index 65535 ≤ self.old.reach → IsOk result }
+    {
+        if index < self.bytes.len() {
+            return Ok(());
+        }
+        self.lengthen(index.min(MOST_INDICES))
+    }
+
+    // Makes places for the counts of the indices up to this one, and for those of up to 511 more.
+    #[inline(never)]
+    fn lengthen(&mut self, index: usize) -> Result<(), AllocError>
         requires { index < 65536 }
-        ensures ok { OnOk result (self.new ≡ record self.old { reach = max self.old.reach index }) }
+        ensures given { self.new.given ≡ self.old.given }
+        ensures kept { self.old.reach ≤ self.new.reach }
+        ensures few { self.new.reach ≤ max self.old.reach (index + 511) }
+        ensures ok { OnOk result (index ≤ self.new.reach) }
         ensures err { OnErr result (self.new ≡ self.old) }
         ensures had_place { 0 < index → index ≤ self.old.reach → IsOk result }
     {
         if self.bytes.len() <= index {
-            self.bytes.resize(index + 1, 0)?;
+            self.bytes.resize((index / BLOCK + 2) * BLOCK, 0)?;
         }
         Ok(())
     }

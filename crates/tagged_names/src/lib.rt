@@ -13,7 +13,7 @@
 ghost use Rattle.std.specs.Prelude.{◌≡◌, ◌≢◌, ◌↔◌, ℕ, ◌+◌, ◌-◌, ◌/◌, ◌<◌, ◌≤◌, IsTrue, true, max, min, Some, None, IfSome, IfNone, OnOk, OnErr, IsOk};
 ghost use Rattle.std.specs.FinMap as map;
 ghost use Rattle.name_space_base.specs.Pages.{IsNextUsed};
-ghost use Rattle.tagged_names.specs.Names.{IsFreshName, CanCount, HasPlace, MayWantPlace, counted};
+ghost use Rattle.tagged_names.specs.Names.{IsFreshName, IsFreshIndex, CanCount, HasPlace, MayWantPlace, counted};
 
 mod counts;
 mod places;
@@ -53,12 +53,14 @@ impl<V: Copy> Model for TaggedNames<V> {
     ghost invariant = { λ a. IsSound a.places a.counts a.len a.room };
 }
 
-// The greatest index whose fresh name may have to be counted, where so many names are in use and so many
-// are to come, and one more by the kept place.
+// An index up to which counts have places where so many names are in use and so many are to come, and one
+// more by the kept place. No fresh index is above 65,535.
 fn greatest_index(len: usize, room: usize) -> usize
-    ensures { result ≡ min (len + room + 1) 65535 }
+    requires { len < 65536 }
+    ensures enough { min (len + room + 1) 65535 ≤ result }
+    ensures few { result ≤ len + room + 1 }
 {
-    len.saturating_add(room).saturating_add(1).min(MOST_INDICES)
+    len + 1 + room.min(MOST_INDICES)
 }
 
 impl<V: Copy> TaggedNames<V> {
@@ -126,16 +128,6 @@ impl<V: Copy> TaggedNames<V> {
         NAMES * index + u32::from(self.counts.get(index))
     }
 
-    /// Counts a fresh name at the name's index, before the name is put in or after. Takes no memory;
-    /// constant time.
-    #[inline(always)]
-    pub fn count(&mut self, name: u32)
-        requires { CanCount self.old (name / 256) }
-        ensures { self.new ≡ record self.old { given = counted self.old.given (name / 256) } }
-    {
-        self.counts.count(name / NAMES);
-    }
-
     /// The name for which a place is kept, if there is one. Constant time.
     #[inline(never)]
     pub fn kept(&self) -> Option<u32>
@@ -187,6 +179,22 @@ impl<V: Copy> TaggedNames<V> {
         ensures { self.new ≡ record self.old { names = map.insert self.old.names name value; room = self.old.room - 1 } }
     {
         self.places.insert(name, value);
+        self.len += 1;
+        self.room = self.room.saturating_sub(1);
+    }
+
+    /// Puts a value under a fresh name, and counts the name at its index. Takes one from the room. Takes no
+    /// memory; constant time.
+    #[inline(always)]
+    pub fn insert_fresh(&mut self, name: u32, value: V)
+        requires not_full { map.len self.old.names < 65535 }
+        requires fresh { IsFreshIndex self.old.names (name / 256) }
+        requires room { 0 < self.old.room }
+        requires counts { CanCount self.old (name / 256) }
+        ensures { self.new ≡ record self.old { names = map.insert self.old.names name value; given = counted self.old.given (name / 256); room = self.old.room - 1 } }
+    {
+        self.counts.count(name / NAMES);
+        self.places.insert_fresh(name, value);
         self.len += 1;
         self.room = self.room.saturating_sub(1);
     }

@@ -84,13 +84,16 @@ fn least(a: Option<u32>, b: Option<u32>) -> Option<u32>
     }
 }
 
-// A name of the index in the tree.
+// A name of the index in the tree. Mostly no name is there, and nothing is searched.
 #[inline(always)]
 fn name_of_index<V: Copy>(others: &High<V>, index: u32) -> Option<u32>
     requires { index < 65536 }
     ensures found { IfSome result (λ name. (name / 256 ≡ index) × (map.contains_key others.now.names name ≡ true)) }
     ensures none { IfNone result ((n : ℕ) → n / 256 ≡ index → map.get others.now.names n ≡ None) }
 {
+    if others.is_empty() {
+        return None;
+    }
     let name = others.next(NAMES * index)?;
     if name / NAMES == index {
         return Some(name);
@@ -110,7 +113,7 @@ fn vacate<V: Copy>(slots: &mut Pages<Slot<V>>, others: &mut High<V>, name: u32)
 {
     let index = name / NAMES;
     let Some(other) = name_of_index(others, index) else {
-        slots.remove(index);
+        slots.clear(index);
         return;
     };
     if let Some(value) = others.remove(other) {
@@ -233,6 +236,19 @@ impl<V: Copy> Places<V> {
         } else {
             self.others.put(name, value);
         }
+    }
+
+    // Puts a value under a name of the fresh index. Takes no memory.
+    #[inline(always)]
+    pub(crate) fn insert_fresh(&mut self, name: u32, value: V)
+        requires not_full { map.len self.old.names < 65535 }
+        requires fresh { IsFreshIndex self.old.names (name / 256) }
+        requires room { 0 < self.old.room }
+        ensures names { self.new.names ≡ map.insert self.old.names name value }
+        ensures room { self.old.room - 1 ≤ self.new.room }
+        ensures kept { self.new.kept ≡ self.old.kept }
+    {
+        self.slots.insert(name / NAMES, Slot { name, value });
     }
 
     // Puts a value in place of the one under a name. Takes no memory.

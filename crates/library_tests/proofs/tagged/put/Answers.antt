@@ -1,8 +1,6 @@
-use Rattle.std.proofs.Common.{◌/◌, ℕ, sym, subst}
-use Rattle.tagged_names.specs.Names.{TaggedView, CanCount}
-use Rattle.tagged_names.proofs.Counting.{count_after}
+use Rattle.std.proofs.Common.{◌/◌, ◌<◌, arith}
+use Rattle.tagged_names.proofs.Counting.{count_before}
 use Rattle.library_tests.proofs.tagged.put.Goals as goal
 
-pub count-requires : goal.count-requires
-count-requires c =
-    subst (λ (w : TaggedView ℕ). CanCount w (c.fresh-name.result / 256)) (sym c.insert.ensures) (count_after _ _ c.fresh-name.result _ _ 1 c.fresh-name.ensures.fresh.index c.fresh-name.ensures.small)
+pub insert_fresh-requires-clause-counts : goal.insert_fresh-requires-clause-counts
+insert_fresh-requires-clause-counts c = count_before c.reserve.new.self c.fresh-name.result c.fresh-name.ensures.fresh.index c.fresh-name.ensures.small (omega arith)

@@ -5,7 +5,7 @@ use Rattle.name_space_base.specs.Pages.{PagesView, HasPlace}
 use Rattle.name_space_base.specs.Sound.{page_at, look, values_of, made_of, skipped, taken, IsSound}
 use Rattle.name_space_base.proofs.Laid.{Sheets, get-values, held-at, in_list, with_slot, look-kept, look-written, made-kept, values-put, same-view}
 use Rattle.name_space_base.proofs.Held.{place-within, byte-is, lost-in}
-use Rattle.name_space_base.proofs.Changed.{sound-put, taken-written, bound-kept, positive-front, few-values}
+use Rattle.name_space_base.proofs.Changed.{sound-put, not-marked, taken-written, bound-kept, positive-front, few-values}
 use Rattle.name_space_base.proofs.Pages.insert.Goals as goal
 
 pub index_mut-held-requires : goal.index_mut-held-requires
@@ -39,8 +39,17 @@ put-requires-clause-free g c =
     let held : c.index_mut-held.result.now ≡ page_at ps (n / 256) = held-at ps (n / 256) c.index_mut-held.result.now listed c.index_mut-held.ensures.value in
     ap (λ (l : List (Option g.row.T.Denot)). get_or l (n % 256) None) held ∙ free
 
-pub mark-requires : goal.mark-requires
-mark-requires g c = let small : c.args.number < 65536 = c.requires.small in omega arith
+pub mark-requires-clause-small : goal.mark-requires-clause-small
+mark-requires-clause-small g c = let small : c.args.number < 65536 = c.requires.small in omega arith
+
+pub mark-requires-clause-was_not : goal.mark-requires-clause-was_not
+mark-requires-clause-was_not g c =
+    let ps : Sheets g.row.T.Denot = c.self.inside.pages.items in
+    let n : ℕ = c.args.number in
+    let place : HasPlace record { values = values_of ps; room = c.self.inside.room; made = made_of ps } n = subst (λ (v : PagesView g.row.T.Denot). HasPlace v n) (sym c.self.view_is) c.requires.place in
+    let within : n % 256 < length (page_at ps (n / 256)) = place-within ps c.self.inside.full.words c.self.inside.len c.self.inside.front c.self.inside.front_free c.self.inside.room c.self.invariant n c.requires.small place in
+    let free : look ps n ≡ None = sym (get-values ps n) ∙ ap (λ (v : PagesView g.row.T.Denot). map.get v.values n) c.self.view_is ∙ c.requires.free in
+    not-marked ps c.self.inside.full.words c.self.inside.len c.self.inside.front c.self.inside.front_free c.self.inside.room c.self.invariant n within c.args.value c.requires.positive free c.requires.small
 
 pub overflow_sub-self : goal.overflow_sub-self
 overflow_sub-self g c =
