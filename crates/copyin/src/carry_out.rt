@@ -47,6 +47,7 @@ fn leave_port(ports: &mut Ports<Queued>, port: PortId)
 }
 
 // Sets what a right changes of its port when it goes.
+#[inline(always)]
 fn renew_port(ports: &mut Ports<Queued>, given: Disposition, mark: Mark)
     ensures { ports.new ≡ ports_copied given mark ports.old }
 {
@@ -61,6 +62,7 @@ fn renew_port(ports: &mut Ports<Queued>, given: Disposition, mark: Mark)
 }
 
 // Counts the right that is made, if one is.
+#[inline(always)]
 fn count_right(ledger: &mut Ledger, given: Disposition, mark: Mark)
     requires entered { (port : ℕ) → mark ≡ mark_of.Port port → IsEntered ledger.old port }
     requires room { ledger.old.total + made_by_mark given mark ≤ most_rights }
@@ -82,6 +84,7 @@ fn count_right(ledger: &mut Ledger, given: Disposition, mark: Mark)
 
 // What stands under the name. Names are read with the ports that are there, so it is for one of them,
 // if for any.
+#[inline(always)]
 fn entry_under(world: &World, task: TaskId, name: Name) -> Option<Entry>
     ensures value { result ≡ entry_at world.now task name }
     ensures lives { IfSome result (λ e. IsForLive world.now e) }
@@ -94,6 +97,7 @@ fn entry_under(world: &World, task: TaskId, name: Name) -> Option<Entry>
 // Leaves what is left of the right under the name that it goes from, and tells what stands for the
 // right. Where nothing is left the name goes, and the request on it ends. One that is made from a right
 // that stays leaves just that: no name is looked up for it.
+#[inline(always)]
 fn leave_name(world: &mut World, task: TaskId, name: Name, carried: Carried) -> Mark
     requires { CanCopy world.old task name carried }
     ensures left { (can : CanCopy world.old task name carried) → PutsLeft world.old task name can.copied.left world.new }
@@ -109,6 +113,7 @@ fn leave_name(world: &mut World, task: TaskId, name: Name, carried: Carried) -> 
 }
 
 // The port changes as the right's disposition says, and the right is counted if it is made.
+#[inline(always)]
 fn count_copied(world: &mut World, carried: Carried)
     requires entered { (port : ℕ) → carried.mark ≡ mark_of.Port port → IsEntered world.old.ledger port }
     requires room { world.old.ledger.total + made_by carried ≤ most_rights }
@@ -136,14 +141,37 @@ pub fn copy_name(world: &mut World, task: TaskId, name: Name, carried: Carried)
     copy_kept(world, task, name, &carried);
 }
 
-// As [`copy_name`], of a right that stays where it is kept: those of a message aren't copied once more.
-fn copy_kept(world: &mut World, task: TaskId, name: Name, carried: &Carried)
+// Sends the right, whether it moves or is made.
+#[inline(always)]
+fn copy_either(world: &mut World, task: TaskId, name: Name, carried: &Carried)
     requires { CanCopy world.old task name carried.now }
     ensures { CopiesRight world.old task carried.now.given name carried.now.mark world.new }
 {
     let given = carried.given;
     let mark = leave_name(world, task, name, *carried);
     count_copied(world, Carried { given, mark });
+}
+
+// Sends a right that moves. It is apart, so that one that is made wants no frame.
+#[inline(never)]
+fn copy_moved(world: &mut World, task: TaskId, name: Name, carried: &Carried)
+    requires { CanCopy world.old task name carried.now }
+    ensures { CopiesRight world.old task carried.now.given name carried.now.mark world.new }
+{
+    copy_either(world, task, name, carried);
+}
+
+// As [`copy_name`], of a right that stays where it is kept: those of a message aren't copied once more.
+#[inline(never)]
+fn copy_kept(world: &mut World, task: TaskId, name: Name, carried: &Carried)
+    requires { CanCopy world.old task name carried.now }
+    ensures { CopiesRight world.old task carried.now.given name carried.now.mark world.new }
+{
+    if carried.given.makes_right() {
+        copy_either(world, task, name, carried);
+    } else {
+        copy_moved(world, task, name, carried);
+    }
 }
 
 // Counts the send-once right that a message goes by, once it is queued, as unused no more.

@@ -15,6 +15,7 @@ impl World {
     /// What is under the name; `KERN_INVALID_NAME` where nothing is.
     ///
     /// Constant time, and logarithmic for a name above 65,535.
+    #[inline(always)]
     pub fn find(&self, task: TaskId, name: Name) -> Result<Entry, KernReturn>
         ensures ok { IfOk result (λ entry. entry_at self.now task name ≡ Some entry) }
         ensures err { IfErr result (λ code. IsRefused self.now (λ s. used_guards s task name) (kern_number code)) }
@@ -26,6 +27,7 @@ impl World {
     /// `KERN_INVALID_RIGHT` where that is no receive right.
     ///
     /// Constant time, and logarithmic for a name above 65,535.
+    #[inline(always)]
     pub fn find_receive(&self, task: TaskId, name: Name) -> Result<PortId, KernReturn>
         ensures ok { IfOk result (λ port. FindsReceive self.now task name port) }
         ensures err { IfErr result (λ code. IsRefused self.now (λ s. receive_guards s task name) (kern_number code)) }
@@ -40,6 +42,7 @@ impl World {
     /// where that is no port set.
     ///
     /// Constant time, and logarithmic for a name above 65,535.
+    #[inline(always)]
     pub fn find_set(&self, task: TaskId, name: Name) -> Result<SetId, KernReturn>
         ensures ok { IfOk result (λ set. entry_at self.now task name ≡ Some (AnyEntry.Set set)) }
         ensures err { IfErr result (λ code. IsRefused self.now (λ s. set_guards s task name) (kern_number code)) }

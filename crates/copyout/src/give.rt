@@ -206,6 +206,7 @@ fn shared_entry(world: &World, task: TaskId, given: Disposition, port: PortId) -
 }
 
 // Gives a receive or send-once right for a port that is there.
+#[inline(never)]
 fn give_other(world: &mut World, task: TaskId, given: Disposition, port: PortId) -> Name
     requires { CanGivePort world.old task (kind_sent given) port }
     ensures { GivesPort world.old task (kind_sent given) port result world.new }

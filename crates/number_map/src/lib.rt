@@ -102,6 +102,7 @@ fn slot_of(key: u64, slots: usize) -> usize
 }
 
 // Where the key lies.
+#[inline(always)]
 fn find<V: Copy>(nodes: &[Node<V>], heads: &[u32], key: u64) -> Option<usize>
     requires { IsIndexed nodes.now heads.now }
     ensures found { (x : ℕ) → result ≡ Some x → HasKey nodes.now key x }

@@ -6,7 +6,7 @@ use Rattle.copyin_base.specs.Worlds.{WorldView}
 use Rattle.copyin.specs.Copies.{ports_copied, ledger_copied, CopiesRight}
 use Rattle.copyin.specs.Judging.{made_by_mark}
 use Rattle.copyin.proofs.Going.{copies_right}
-use Rattle.copyin.proofs.carry_out.copy_kept.Goals as goal
+use Rattle.copyin.proofs.carry_out.copy_either.Goals as goal
 
 pub count_copied-requires-clause-entered : goal.count_copied-requires-clause-entered
 count_copied-requires-clause-entered c port to =
