@@ -12,7 +12,7 @@ use Rattle.copyin_base.specs.Kept.{Kept}
 use Rattle.copyin_base.specs.Requests.{RequestTablesView}
 use Rattle.copyin_base.specs.Worlds.{WorldView, HasTask, IsIdle, space_at, with_space, entry_in, entry_at}
 use Rattle.copyin_base.specs.Shows.{GivenAgrees, Agrees, HoldersAgree, CarriersAgree, SlotsSuffice, RequestsStand, Shows, target_of}
-use Rattle.copyin_base.specs.Changes.{MakesRoom, KeepsPlace, CountsName, SameButNaming, SameButRoom, with_slots}
+use Rattle.copyin_base.specs.Changes.{MakesRoom, KeepsPlace, SameButNaming, SameButRoom, with_slots}
 use Rattle.copyin_base.proofs.Gets.{length-set, same_found}
 use Rattle.copyin_base.proofs.FreshNames.{others_given, given_counted}
 use Rattle.copyin_base.proofs.Carriers.{carriers_same}
@@ -180,6 +180,12 @@ pub place_kept : (w v : WorldView) (task name : ℕ) → KeepsPlace w task name 
 place_kept w v task name m = subst (SameButRoom w) (sym m.rest) (roomier w task m.space m.space.room (Some name) m.there)
 
 -- ---- a fresh name was counted
+
+-- The name was counted as a fresh one of the task, and nothing else changed.
+pub record CountsName (old : WorldView) (task name : ℕ) (new : WorldView) : Type 0 where
+  pub space : SpaceView
+  pub there : space_at old task ≡ Some space
+  pub rest : new ≡ with_space old task (record space { given = given_after space.given name })
 
 module _ (w v : WorldView) (task name : ℕ) (c : CountsName w task name v) where
   pub counted_naming : SameButNaming w v

@@ -76,12 +76,6 @@ pub record InsertsFresh (old : WorldView) (task name : ℕ) (entry : Entry) (new
   pub there : space_at old task ≡ Some space
   pub rest : new ≡ with_space old task (record space { names = map.insert space.names name entry; room = space.room - 1; given = given_after space.given name })
 
--- The name was counted as a fresh one of the task, where names have a generation.
-pub record CountsName (old : WorldView) (task name : ℕ) (new : WorldView) : Type 0 where
-  pub space : SpaceView
-  pub there : space_at old task ≡ Some space
-  pub rest : new ≡ with_space old task (record space { given = given_after space.given name })
-
 -- All is as before, but for places for names to come and for counts of fresh ones.
 pub record SameButNaming (old new : WorldView) : Type 0 where
   pub tasks : length new.spaces ≡ length old.spaces

@@ -3,9 +3,9 @@ use Rattle.std.proofs.Common.{◌≡◌, ℕ, Option, Some, None, true, false, r
 use Rattle.std.specs.Prelude.{is_some}
 use Rattle.mach_types.specs.Tokens.{Kind}
 use Rattle.name_space.specs.Names.{Names, SpaceView, given_after}
-use Rattle.copyin_base.specs.Changes.{CountsName, SameButNaming}
+use Rattle.copyin_base.specs.Changes.{SameButNaming}
 use Rattle.copyin_base.specs.Worlds.{WorldView, entry_in, entry_at, space_at, with_space}
-use Rattle.copyin_base.proofs.Roomier.{same_but_naming}
+use Rattle.copyin_base.proofs.Roomier.{CountsName, same_but_naming}
 use Rattle.copyin_base.proofs.Spaces.{space-set_same, set-set}
 use Rattle.copyout.specs.Giving.{ports_given, TakesName, GivesPort}
 use Rattle.copyout.specs.Putting.{NewName, PutsPort}

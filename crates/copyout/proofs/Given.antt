@@ -34,8 +34,7 @@ use Rattle.copyin_base.proofs.Gets.{of_some, same_found}
 use Rattle.copyin_base.proofs.Putting.{each_put, put_same}
 use Rattle.copyin_base.proofs.Told.{port_of}
 use Rattle.copyin_base.proofs.FreshNames.{fresh_for}
-use Rattle.copyin_base.specs.Changes.{CountsName}
-use Rattle.copyin_base.proofs.Roomier.{counted_agrees}
+use Rattle.copyin_base.proofs.Roomier.{CountsName, counted_agrees}
 use Rattle.copyout.proofs.Counted.{new_of, put_world, gives_puts, joins_only, takes_counted}
 use Rattle.copyin_base.proofs.Changing.{target_named}
 use Rattle.copyin_base.proofs.Holders.{IsReceive, ReceivesIn, ReceivesAt, receives_at, put_receives, left_receives, added_receives, KeepHolders, ChangesHolder, same_holders, unheld, unheld_lying, holders_left, holders_given}

@@ -26,7 +26,7 @@ use Rattle.name_space.specs.Entry.{port_named}
 use Rattle.name_space.specs.Names.{Names, SpaceView, IsFreshFor, IsUsable, HasPlace, HasNoOther, given_after}
 use Rattle.port.specs.Ports.{PortsView, IsLive}
 use Rattle.copyin_base.specs.Serving.{Completes, IsAllowed}
-use Rattle.copyin_base.specs.Changes.{MakesRoom, KeepsPlace, CountsName, SameButNaming, SameButRoom, IsForLive, CanInsert, CanInsertFresh, InsertsEntry, InsertsFresh}
+use Rattle.copyin_base.specs.Changes.{MakesRoom, KeepsPlace, SameButNaming, SameButRoom, IsForLive, CanInsert, CanInsertFresh, InsertsEntry, InsertsFresh}
 use Rattle.copyin_base.specs.Kept.{Kept}
 use Rattle.copyin_base.specs.Worlds.{WorldView, entry_in, entry_at, space_at, with_space, HasTask, space_in}
 use Rattle.copyin_base.specs.Shows.{Agrees, HoldersAgree, Shows}
@@ -36,7 +36,7 @@ use Rattle.copyin_base.proofs.Agreeing.{own_names}
 use Rattle.copyin_base.proofs.Gets.{same_found, of_some}
 use Rattle.copyin_base.proofs.Holders.{ReceivesAt, KeepHolders, same_holders, holders_added, holders_made}
 use Rattle.copyin_base.proofs.NamesChanged.{added_agrees}
-use Rattle.copyin_base.proofs.Roomier.{room_made, place_kept, room_refl, room_entry, room_agrees, room_shows, naming_holders, naming_carriers, naming_slots, naming_requested, counted_naming, counted_agrees}
+use Rattle.copyin_base.proofs.Roomier.{CountsName, room_made, place_kept, room_refl, room_entry, room_agrees, room_shows, naming_holders, naming_carriers, naming_slots, naming_requested, counted_naming, counted_agrees}
 use Rattle.copyin_base.proofs.SendersNoted.{senders_same, senders_kept, naming_senders}
 use Rattle.copyin_base.proofs.Spaces.{space-set_same, set-set}
 use Rattle.copyin_base.proofs.Putting.{each_put, put_other, put_own}
