@@ -47,8 +47,9 @@ use Rattle.copyin_base.specs.Wanted.{room_in, room_of}
 use Rattle.copyin_base.proofs.Spaces.{each-space-set}
 use Rattle.copyin_base.proofs.Slots.{slot_for_once}
 use Rattle.copyin_base.specs.Carrying.{spans_for}
-use Rattle.copyin.specs.declared.copies.Copied.{Copied}
-use Rattle.copyin.specs.Copies.{copied_from, ledger_copied, CopiesRight, ports_copied, ledger_queued}
+use Rattle.dispositions.specs.declared.Copied.{Copied}
+use Rattle.dispositions.specs.Copies.{copied_from}
+use Rattle.copyin.specs.Copies.{ledger_copied, CopiesRight, ports_copied, ledger_queued}
 use Rattle.copyin.specs.Plans.{ChangesWord, ChangesWords, destination_word, reply_words, Judged, Commits, option_list, made_in}
 use Rattle.copyin.specs.declared.judge.Plan.{Plan}
 use Rattle.copyin.specs.Judging.{CopiesWord, CopiesReply, made_by_reply, made_by_all, CopiesBody}

@@ -36,8 +36,9 @@ use Rattle.copyin_base.proofs.Putting.{put_same}
 use Rattle.copyin_base.proofs.Changing.{named_no_set, Rest, target_found, held_by, has_count, changed_agrees}
 use Rattle.copyin_base.proofs.Requesting.{stands_after}
 use Rattle.copyin_base.proofs.Taking.{Without, take_held}
-use Rattle.copyin.specs.Copies.{attributes_copied, port_copied, ports_copied, ledger_copied, copied_from, one_less}
-use Rattle.copyin.specs.declared.copies.Copied.{Copied}
+use Rattle.dispositions.specs.Copies.{copied_from, one_less}
+use Rattle.copyin.specs.Copies.{attributes_copied, port_copied, ports_copied, ledger_copied}
+use Rattle.dispositions.specs.declared.Copied.{Copied}
 
 -- ---- The ports' attributes after a right was copied in.
 

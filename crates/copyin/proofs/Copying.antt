@@ -45,11 +45,12 @@ use Rattle.copyin_base.proofs.SendersNoted.{KeepsSends, sends_made, sends_shifte
 use Rattle.copyin_base.specs.Reading.{reading, live_in, AreGiven}
 use Rattle.copyin_base.proofs.Reading.{read_lives, space_read_in, entry_read_in, SamePorts, same_given, same_put}
 use Rattle.copyin_base.proofs.Written.{tables, ports_written, port_put}
-use Rattle.copyin.specs.Copies.{CopiesRight, copied_from, ledger_copied, ports_copied, ledger_queued, port_copied}
+use Rattle.dispositions.specs.Copies.{copied_from}
+use Rattle.copyin.specs.Copies.{CopiesRight, ledger_copied, ports_copied, ledger_queued, port_copied}
 use Rattle.copyin.specs.Plans.{ChangesWord, ChangesWords, destination_word, reply_words, option_list, Judged, Commits}
 use Rattle.copyin.proofs.Holding.{held_requested, held_ledger, held_requests, held_noted, held_none_lost}
 use Rattle.copyin.proofs.Keeping.{keeps, live_copied, still, else_copied}
-use Rattle.copyin.specs.declared.copies.Copied.{Copied}
+use Rattle.dispositions.specs.declared.Copied.{Copied}
 use Rattle.copyin.specs.Judging.{CopiesName, CopiesWord, PassesAs, made_by, made_by_mark, CopiesBody, made_by_all}
 use Rattle.copyin.proofs.CopiedIn.{after, goes}
 use Rattle.copyin.proofs.Judging.{number_of, kind_given, given_ports}

@@ -14,10 +14,11 @@ use Rattle.name_space.specs.Names.{Names, SpaceView, port_at}
 use Rattle.port.specs.Ports.{PortsView}
 use Rattle.port_set.specs.Sets.{SetsView}
 use Rattle.rights.specs.Ledger.{LedgerView}
-use Rattle.copyin.specs.declared.copies.Copied.{Copied}
+use Rattle.dispositions.specs.declared.Copied.{Copied}
 use Rattle.copyin_base.specs.declared.message.Carried.{Carried}
 use Rattle.copyin_base.specs.declared.message.Mark.{Mark}
-use Rattle.copyin.specs.Copies.{copied_from, ports_copied, ledger_copied, CopiesRight}
+use Rattle.dispositions.specs.Copies.{copied_from}
+use Rattle.copyin.specs.Copies.{ports_copied, ledger_copied, CopiesRight}
 use Rattle.copyin.specs.Judging.{made_by, made_by_mark}
 use Rattle.copyin_base.specs.Kept.{Kept}
 use Rattle.copyin_base.specs.Requests.{RequestTablesView, requests_after}

@@ -35,8 +35,9 @@ use Rattle.copyin_base.proofs.Listed.{none_listed, listed_one, listed_later}
 use Rattle.copyin_base.proofs.Told.{port_got}
 use Rattle.copyin_base.specs.Changes.{PutsLeft}
 use Rattle.copyin_base.specs.Requests.{requests_after}
-use Rattle.copyin.specs.declared.copies.Copied.{Copied}
-use Rattle.copyin.specs.Copies.{attributes_copied, copied_from, ports_copied, port_copied, CopiesRight}
+use Rattle.dispositions.specs.declared.Copied.{Copied}
+use Rattle.dispositions.specs.Copies.{copied_from}
+use Rattle.copyin.specs.Copies.{attributes_copied, ports_copied, port_copied, CopiesRight}
 use Rattle.copyin.specs.Plans.{destination_word, reply_words, option_list, Judged, ChangesWord, ChangesWords, Commits, message_for, made_in}
 use Rattle.copyin.proofs.Holding.{held_holders, held_made, held_carriers, all_held}
 use Rattle.copyin.proofs.Keeping.{keeps, if_either, else_copied}

@@ -33,9 +33,9 @@ use Rattle.copyin_base.specs.declared.message.Mark.TheVariants as mark
 use Rattle.copyin.specs.declared.touched.Touch.{Touch}
 use Rattle.copyin.specs.declared.touched.Touched.{Touched}
 use Rattle.copyin.specs.Overlays.{inline_touched, puts, over, Overlays}
-use Rattle.copyin.specs.declared.copies.Copied.{Copied}
+use Rattle.dispositions.specs.declared.Copied.{Copied}
 use Rattle.copyin.specs.declared.judge.Words.{Words}
-use Rattle.copyin.specs.Copies.{copied_from}
+use Rattle.dispositions.specs.Copies.{copied_from}
 use Rattle.copyin.specs.Goes.{HasOne, LeadsNowhere, OthersGo}
 use Rattle.copyin.specs.Judging.{CopiesName, CopiesWord, CopiesReply, CopiesBody, IsBad, BodyIsBad}
 

@@ -11,10 +11,11 @@ use Rattle.name_space.specs.declared.Entry.TheVariants as entry
 use Rattle.name_space.specs.Entry.{port_named, port_of}
 use Rattle.port.specs.Ports.{PortView, PortsView, IsLive}
 use Rattle.rights.specs.Ledger.{LedgerView, IsEntered}
-use Rattle.copyin.specs.declared.copies.Copied.{Copied}
+use Rattle.dispositions.specs.declared.Copied.{Copied}
 use Rattle.copyin_base.specs.declared.message.Mark.{Mark}
 use Rattle.copyin_base.specs.declared.message.Mark.TheVariants as mark
-use Rattle.copyin.specs.Copies.{copied_from, one_less, ports_copied, port_copied, ledger_copied}
+use Rattle.dispositions.specs.Copies.{copied_from, one_less}
+use Rattle.copyin.specs.Copies.{ports_copied, port_copied, ledger_copied}
 use Rattle.copyin.specs.Judging.{made_by_mark}
 use Rattle.copyin_base.specs.Kept.{Kept}
 

@@ -33,8 +33,8 @@ use Rattle.copyin_base.specs.Kept.{mark_of, reply_of}
 use Rattle.copyin_base.specs.Worlds.{WorldView, entry_in, put, space_at}
 use Rattle.copyin_base.specs.Shows.{target_of, Shows}
 use Rattle.copyin_base.specs.declared.message.Mark.{Mark}
-use Rattle.copyin.specs.declared.copies.Copied.{Copied}
-use Rattle.copyin.specs.Copies.{copied_from}
+use Rattle.dispositions.specs.declared.Copied.{Copied}
+use Rattle.dispositions.specs.Copies.{copied_from}
 use Rattle.copyin.specs.Judging.{CopiesName, CopiesReply, IsBad, BodyIsBad}
 use Rattle.copyin.proofs.CopiedIn.{own_held}
 use Rattle.copyin.proofs.Copying.{Along, Went, went, stepped, pairs, body_pairs}

@@ -1,10 +1,9 @@
--- What copying in takes from a name, what it leaves there, and what becomes of the tables.
-use Rattle.std.specs.Prelude.{◌≡◌, ℕ, Bool, ◌+◌, ◌-◌, ◌%◌, ◌^◌, Option, Some, None, if◌then◌else◌, nat_lt, slice_set}
+-- What becomes of the tables as a right is copied in.
+use Rattle.std.specs.Prelude.{◌≡◌, ℕ, Bool, ◌+◌, ◌-◌, ◌%◌, ◌^◌, Option, Some, None, if◌then◌else◌, slice_set}
 use Rattle.std.specs.FinMap as map
 use Rattle.mach_types.specs.declared.rights.Disposition.{Disposition}
-use Rattle.mach_types.specs.declared.rights.Disposition.TheVariants.{MoveReceive, MoveSend, MoveSendOnce, CopySend, MakeSend, MakeSendOnce}
+use Rattle.mach_types.specs.declared.rights.Disposition.TheVariants.{MoveReceive, CopySend, MakeSend, MakeSendOnce}
 use Rattle.name_space.specs.declared.Entry.{Entry}
-use Rattle.name_space.specs.declared.Entry.TheVariants as entry
 use Rattle.name_space.specs.Names.{SpaceView}
 use Rattle.port.specs.declared.Attributes.{Attributes}
 use Rattle.port.specs.Ports.{PortView, PortsView, with_port}
@@ -15,37 +14,8 @@ use Rattle.copyin_base.specs.declared.message.Mark.TheVariants as mark
 use Rattle.copyin_base.specs.Kept.{Kept}
 use Rattle.copyin_base.specs.Requests.{requests_after}
 use Rattle.copyin_base.specs.Worlds.{WorldView, put, space_at}
-use Rattle.copyin.specs.declared.copies.Copied.{Copied}
-
-abbrev pub leaving : Option Entry → (port : ℕ) → Option Copied
-leaving after p = Some (record { left = after; mark = mark.Port p })
-
-abbrev pub leaving_dead : Option Entry → Option Copied
-leaving_dead after = Some (record { left = after; mark = mark.Dead })
-
--- one reference less, and none of the last
-abbrev pub one_less : (ℕ → Entry) → Option Entry → ℕ → Option Entry
-one_less with_references otherwise n = if nat_lt 1 n then Some (with_references (n - 1)) else otherwise
-
--- The entry from which a right goes by the disposition, and what is left under the name; None where it may not.
-abbrev pub copied_from : Disposition → Entry → Option Copied
-copied_from MoveReceive (entry.Receive p) = leaving None p
-copied_from MoveReceive (entry.ReceiveAndSend p n) = leaving (Some (entry.Send p n)) p
-copied_from MoveSend (entry.Send p n) = leaving (one_less (entry.Send p) None n) p
-copied_from MoveSend (entry.ReceiveAndSend p n) = leaving (one_less (entry.ReceiveAndSend p) (Some (entry.Receive p)) n) p
-copied_from MoveSend (entry.DeadName n) = leaving_dead (one_less entry.DeadName None n)
-copied_from MoveSendOnce (entry.SendOnce p) = leaving None p
-copied_from MoveSendOnce (entry.DeadName n) = leaving_dead (one_less entry.DeadName None n)
-copied_from CopySend (entry.Send p n) = leaving (Some (entry.Send p n)) p
-copied_from CopySend (entry.ReceiveAndSend p n) = leaving (Some (entry.ReceiveAndSend p n)) p
-copied_from CopySend (entry.DeadName n) = leaving_dead (Some (entry.DeadName n))
-copied_from MakeSend (entry.Receive p) = leaving (Some (entry.Receive p)) p
-copied_from MakeSend (entry.ReceiveAndSend p n) = leaving (Some (entry.ReceiveAndSend p n)) p
-copied_from MakeSendOnce (entry.Receive p) = leaving (Some (entry.Receive p)) p
-copied_from MakeSendOnce (entry.ReceiveAndSend p n) = leaving (Some (entry.ReceiveAndSend p n)) p
-copied_from d x = None
-
--- ---- what becomes of the tables
+use Rattle.dispositions.specs.Copies.{copied_from}
+use Rattle.dispositions.specs.declared.Copied.{Copied}
 
 abbrev pub attributes_copied : Disposition → Attributes → Attributes
 attributes_copied MakeSend a = record a { make_send = (a.make_send + 1) % 2 ^ 32 }

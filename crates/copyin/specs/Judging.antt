@@ -8,11 +8,11 @@ use Rattle.mach_types.specs.Numbers.{disposition, null_word, dead_word}
 use Rattle.message_codec.specs.declared.words.PortWord.{PortWord}
 use Rattle.name_space.specs.declared.Entry.{Entry}
 use Rattle.name_space.specs.Names.{Names}
-use Rattle.copyin.specs.declared.copies.Copied.{Copied}
+use Rattle.dispositions.specs.declared.Copied.{Copied}
 use Rattle.copyin_base.specs.declared.message.Carried.{Carried}
 use Rattle.copyin_base.specs.declared.message.Mark.{Mark}
 use Rattle.copyin_base.specs.declared.message.Mark.TheVariants as mark
-use Rattle.copyin.specs.Copies.{copied_from}
+use Rattle.dispositions.specs.Copies.{copied_from}
 use Rattle.copyin_base.specs.Worlds.{put}
 
 -- The right goes from what stands under the word's name.

@@ -16,8 +16,8 @@ use Rattle.copyin.specs.declared.judge.Plan.{Plan}
 use Rattle.copyin.specs.declared.judge.Words.{Words}
 use Rattle.copyin_base.specs.declared.message.Carried.{Carried}
 use Rattle.copyin_base.specs.declared.message.Mark.TheVariants as mark
-use Rattle.copyin.specs.declared.copies.Copied.{Copied}
-use Rattle.copyin.specs.Copies.{copied_from}
+use Rattle.dispositions.specs.declared.Copied.{Copied}
+use Rattle.dispositions.specs.Copies.{copied_from}
 use Rattle.copyin.specs.Judging.{CopiesWord, made_by, made_by_all}
 use Rattle.copyin.specs.Plans.{destination_word, reply_words, Plans, message_for}
 use Rattle.copyin_base.specs.Kept.{receive_of}

@@ -18,9 +18,9 @@ ghost use Rattle.copyin_base.specs.Stands.{IsTied};
 ghost use Rattle.copyin_base.specs.Worlds.{NoneLost, entry_at, port_at};
 ghost use Rattle.copyin.specs.Copies.{ports_copied, ledger_copied, ledger_queued, CopiesRight};
 
-use crate::copies::copy_right;
 use crate::judge::Plan;
 use copyin_base::{Carried, Mark, Message, Queued, World};
+use dispositions::copy_right;
 use mach_types::{Disposition, Name, PortId, TaskId};
 use message_codec::PortWord;
 use name_space::Entry;

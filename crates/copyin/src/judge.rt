@@ -27,10 +27,10 @@ ghost use Rattle.copyin.specs.Plans.{CannotPlan, HasSlot, HasNoSlot, reply_words
 ghost use Rattle.copyin_base.specs.Stands.{IsTied};
 ghost use Rattle.copyin_base.specs.Worlds.{put, HasTask};
 
-use crate::copies::copy_right;
 use crate::loops::makes_loop;
 use crate::touched::{Touch, Touched, standing_after};
 use copyin_base::{Carried, CarriedRights, Envelope, Mark, Message, TaskNames, World};
+use dispositions::copy_right;
 use mach_types::limits::MOST_RIGHTS;
 use mach_types::{Disposition, MsgReturn, Name, PortId, TaskId};
 use message_codec::{INLINE_WORDS, Parsed, PortWord, port_words};

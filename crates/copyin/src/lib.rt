@@ -6,7 +6,6 @@
 #![tactic(auto)]
 
 mod carry_out;
-mod copies;
 mod judge;
 mod lone;
 mod loops;
@@ -15,7 +14,6 @@ mod slots;
 mod touched;
 
 pub use carry_out::{commit, copy_name};
-pub use copies::{Copied, copy_right};
 pub use copyin_base::World;
 pub use judge::{Plan, Words, check};
 pub use lone::check_lone;

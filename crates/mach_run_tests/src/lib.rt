@@ -6,9 +6,9 @@
 #[cfg(test)]
 mod checking;
 #[cfg(test)]
-mod dispositions;
-#[cfg(test)]
 mod memory_codes;
+#[cfg(test)]
+mod places;
 #[cfg(test)]
 mod tests;
 #[cfg(test)]

@@ -47,7 +47,7 @@ use Rattle.copyin_base.proofs.Roomier.{room_entry, room_has_task}
 use Rattle.copyin_base.specs.Wanted.{room_in}
 use Rattle.copyin_base.proofs.SendersNoted.{KeepsSends, sends_made}
 use Rattle.copyin_base.proofs.Told.{found, space_there}
-use Rattle.copyin.specs.declared.copies.Copied.{Copied}
+use Rattle.dispositions.specs.declared.Copied.{Copied}
 use Rattle.copyin.specs.Copies.{CopiesRight, ledger_copied}
 use Rattle.copyin.specs.Judging.{made_by_mark}
 use Rattle.copyin.specs.Planned.{CanCopy}

@@ -59,8 +59,9 @@ use Rattle.copyin_base.proofs.Requesting.{requests_stay}
 use Rattle.copyin_base.specs.declared.notice.Notice.{Notice}
 use Rattle.copyin_base.specs.Wanted.{room_of}
 use Rattle.copyin_base.proofs.Spares.{keeps_names, keeps_space, left_keeps}
-use Rattle.copyin.specs.Copies.{copied_from, ledger_copied, port_copied, ports_copied}
-use Rattle.copyin.specs.declared.copies.Copied.{Copied}
+use Rattle.dispositions.specs.Copies.{copied_from}
+use Rattle.copyin.specs.Copies.{ledger_copied, port_copied, ports_copied}
+use Rattle.dispositions.specs.declared.Copied.{Copied}
 use Rattle.copyin.proofs.Refused.{legal_copies}
 use Rattle.copyin.specs.Slots.{once_made_by_mark}
 use Rattle.copyin.proofs.Judging.{number_of}

@@ -21,8 +21,8 @@ use Rattle.port.specs.Ports.{IsLive}
 use Rattle.copyin_base.specs.declared.message.Mark.TheVariants as mark
 use Rattle.copyin_base.specs.Requests.{RequestTablesView, notify_of}
 use Rattle.copyin_base.specs.Worlds.{WorldView, entry_at, space_at}
-use Rattle.copyin.specs.Copies.{copied_from}
-use Rattle.copyin.specs.declared.copies.Copied.{Copied}
+use Rattle.dispositions.specs.Copies.{copied_from}
+use Rattle.dispositions.specs.declared.Copied.{Copied}
 use Rattle.notifications.specs.declared.request.Asked.{Asked}
 use Rattle.notifications.specs.declared.request.Paying.{Paying}
 use Rattle.notifications.specs.declared.request.Subject.{Subject}

@@ -27,9 +27,10 @@ ghost use Rattle.notifications.specs.Putting.{port_taken, taken_away, mark_for, 
 ghost use Rattle.notifications.specs.Requesting.{IsMisasked, variant_number, CanPay, GoesNot, capability_guards, Pays, entry_left, names_left, IsSubject, subject_guards, previous_in, ComesOut, is_made_by, rights_then, LacksSpace, MayRequest};
 
 use crate::post;
-use copyin::{copy_name, copy_right};
+use copyin::copy_name;
 use copyin_base::{Carried, Code, Mark, Notice, RequestTables, World};
 use copyout::give_right;
+use dispositions::copy_right;
 use mach_types::limits::{MOST_NAMES, MOST_REFERENCES, MOST_RIGHTS};
 use mach_types::{Disposition, KernReturn, Name, PortId, Reply, TaskId};
 use name_space::Entry;

@@ -25,8 +25,8 @@ use Rattle.copyin_base.specs.Worlds.{WorldView, entry_in, entry_at, space_at}
 use Rattle.copyin_base.specs.declared.message.Mark.TheVariants as mark
 use Rattle.copyin_base.proofs.Gets.{same_found}
 use Rattle.copyin_base.proofs.Told.{found}
-use Rattle.copyin.specs.Copies.{copied_from}
-use Rattle.copyin.specs.declared.copies.Copied.{Copied}
+use Rattle.dispositions.specs.Copies.{copied_from}
+use Rattle.dispositions.specs.declared.Copied.{Copied}
 use Rattle.copyin.proofs.Judging.{number_of, given_ports}
 use Rattle.copyin.proofs.Refused.{legal_copies}
 use Rattle.transfer.specs.Transfer.{going_guards}

@@ -24,8 +24,9 @@ use Rattle.copyin_base.specs.Worlds.{WorldView, entry_in, entry_at, put, space_a
 use Rattle.copyin_base.proofs.Gets.{same_found}
 use Rattle.copyin_base.proofs.Putting.{put_own, put_other, len_put, len_removed}
 use Rattle.copyin_base.proofs.SendersNoted.{KeepsSenders}
-use Rattle.copyin.specs.declared.copies.Copied.{Copied}
-use Rattle.copyin.specs.Copies.{copied_from, CopiesRight}
+use Rattle.dispositions.specs.declared.Copied.{Copied}
+use Rattle.dispositions.specs.Copies.{copied_from}
+use Rattle.copyin.specs.Copies.{CopiesRight}
 use Rattle.copyin.specs.Planned.{CanCopy}
 use Rattle.copyin.proofs.HoldersKept.{copied_carriers, copied_holders}
 use Rattle.copyin.proofs.CopiedIn.{after}

@@ -15,7 +15,7 @@ use Rattle.name_space.specs.Entry.{port_named, send_references}
 use Rattle.name_space.specs.Names.{SpaceView}
 use Rattle.copyin_base.specs.declared.message.Mark.TheVariants as mark
 use Rattle.copyin_base.specs.Worlds.{WorldView, entry_at, space_at}
-use Rattle.copyin.specs.Copies.{copied_from}
+use Rattle.dispositions.specs.Copies.{copied_from}
 use Rattle.copyin.specs.Judging.{made_by_mark}
 use Rattle.transfer.specs.declared.judge.Going.{Going}
 use Rattle.transfer.specs.declared.judge.Handed.{Handed}

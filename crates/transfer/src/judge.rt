@@ -14,8 +14,8 @@ ghost use Rattle.copyin_base.specs.Worlds.{HasTask};
 ghost use Rattle.transfer.specs.Transfer.{CanGo, MayInsert, MayExtract, WantsName, names_needed, going_guards, left_at, names_left, rights_then, port_under, references_under, IsElsewhere, IsTaken, Overflows, LacksSpace, insert_later, extract_later};
 ghost use Rattle.transfer.specs.Room.{slots_needed};
 
-use copyin::copy_right;
 use copyin_base::{Mark, World};
+use dispositions::copy_right;
 use mach_types::limits::{MOST_NAMES, MOST_REFERENCES, MOST_RIGHTS};
 use mach_types::{Disposition, KernReturn, Name, PortId, Right, TaskId};
 use name_space::Entry;

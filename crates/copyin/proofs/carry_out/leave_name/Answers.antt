@@ -1,7 +1,7 @@
 use Rattle.std.proofs.Common.{Option, IfSome, sym, ap, subst, ◌∙◌}
 use Rattle.std.specs.Prelude.{is_some}
 use Rattle.name_space.specs.declared.Entry.{Entry}
-use Rattle.copyin.specs.declared.copies.Copied.{Copied}
+use Rattle.dispositions.specs.declared.Copied.{Copied}
 use Rattle.copyin_base.specs.Changes.{IsForLive, PutsLeft}
 use Rattle.copyin.proofs.Going.{same_left, same_port}
 use Rattle.copyin.proofs.HoldersKept.{stays_put}

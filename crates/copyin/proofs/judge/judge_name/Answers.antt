@@ -1,7 +1,7 @@
 use Rattle.std.proofs.Common.{◌≡◌, Some, sym, ◌∙◌, refl}
 use Rattle.std.specs.FinMap as map
 use Rattle.copyin_base.specs.Worlds.{put}
-use Rattle.copyin.specs.Copies.{copied_from}
+use Rattle.dispositions.specs.Copies.{copied_from}
 use Rattle.copyin.proofs.HoldersKept.{leaves}
 use Rattle.copyin.proofs.judge.judge_name.Goals as goal
 

@@ -1,8 +1,12 @@
-//! What copying in takes from a name.
+//! What a right takes from the name that it goes from by a disposition, and what it leaves there.
+//!
+//! Nothing here takes memory, and each operation takes constant time.
+#![tactic(auto)]
+
 ghost use Rattle.std.specs.Prelude.{◌≡◌, ◌≢◌, ℕ, Some, None};
 ghost use Rattle.name_space.specs.declared.Entry.TheVariants as entry_of;
 ghost use Rattle.mach_types.specs.declared.rights.Disposition.TheVariants as disposition_of;
-ghost use Rattle.copyin.specs.Copies.{copied_from, leaving, leaving_dead, one_less};
+ghost use Rattle.dispositions.specs.Copies.{copied_from, leaving, leaving_dead, one_less};
 
 use copyin_base::Mark;
 use mach_types::{Disposition, PortId};
