@@ -55,7 +55,6 @@ enum NewRight {
 /// - `KERN_RESOURCE_SHORTAGE`: out of memory. A dead name takes none where there is room for its name.
 ///
 /// Constant time, and logarithmic for a name above 65,535, except where tables move to a larger place.
-#[inline(always)]
 pub fn allocate(world: &mut World, task: TaskId, right: u32) -> Result<Reply, Code>
     requires there { HasTask world.old task }
     requires stands { Stands world.old }
