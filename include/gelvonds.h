@@ -24,6 +24,9 @@
 #include <stddef.h>
 #include <stdint.h>
 
+/* The version of this header, and of the library that was installed with it. */
+#define GELVONDS_VERSION "1.0.0"
+
 #ifdef __cplusplus
 extern "C" {
 #endif
