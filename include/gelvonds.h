@@ -115,6 +115,12 @@ typedef struct gelvonds_waited {
 #define MACH_MSG_IPC_KERNEL 0x00000800
 #endif
 
+/* Words that are never names: no port, and a port that has died. */
+#ifndef MACH_PORT_NULL
+#define MACH_PORT_NULL 0u
+#define MACH_PORT_DEAD 0xffffffffu
+#endif
+
 /* The kinds of rights (mach_port_right_t), and the bits of a name's type (mach_port_type_t). */
 #ifndef MACH_PORT_RIGHT_SEND
 #define MACH_PORT_RIGHT_SEND 0u
