@@ -104,6 +104,14 @@ impl Kernel {
         }
     }
 
+    /// Returns the tables, for reading: what each task has under its names, the ports, the sets, the counts
+    /// of rights and the requests. Takes no memory. Constant time.
+    pub fn tables(&self) -> &World
+        ensures { result.now ≡ self.now.tables }
+    {
+        &self.world
+    }
+
     /// How many bytes, names or members the reply to a call has at most now, 0 to 65,536.
     ///
     /// Bytes where the call receives: as many as it has room for, 65,536 at most. Names, or members of
