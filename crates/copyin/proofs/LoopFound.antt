@@ -138,7 +138,7 @@ module _ (w : WorldView) (s : State) (sh : Shows w s) (p : ℕ) (v : PortView Ke
           sh.carriers.carried q u m.0 p at m.1 (kept_carries q m.0 e.message m.2 p (omega (arith, counted, lying_there))) v there_is
 
   -- a port that a queue holds lies there
-  lies_queued : (q : ℕ) → v.attributes.holder ≡ holder.QueueOf q → (k : ℕ) × LiesAt s receive p (in_message q k)
+  pub lies_queued : (q : ℕ) → v.attributes.holder ≡ holder.QueueOf q → (k : ℕ) × LiesAt s receive p (in_message q k)
   lies_queued q is = go (where_is s [] p (mid_lawful s sh.lawful) lives)
     where
       go : Where s p → (k : ℕ) × LiesAt s receive p (in_message q k)
