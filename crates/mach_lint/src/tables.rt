@@ -1,0 +1,105 @@
+//! The calls of scripts and the replies of histories, with their arguments.
+use crate::nearest::is_near;
+
+/// The calls of the kernel, with their arguments.
+const CALLS: &[(&str, &str)] = &[
+    ("task", ""),
+    ("end", "T"),
+    ("alloc", "T RIGHT"),
+    ("allocname", "T RIGHT NAME"),
+    ("dealloc", "T NAME"),
+    ("destroy", "T NAME"),
+    ("modrefs", "T NAME RIGHT DELTA"),
+    ("refs", "T NAME RIGHT"),
+    ("type", "T NAME"),
+    ("names", "T"),
+    ("rename", "T OLD NEW"),
+    ("insert", "T NAME FROM POLY DISP"),
+    ("extract", "T NAME DISP TO"),
+    ("status", "T NAME"),
+    ("qlimit", "T NAME N"),
+    ("mscount", "T NAME N"),
+    ("seqno", "T NAME N"),
+    ("move", "T MEMBER SET"),
+    ("insmember", "T MEMBER SET"),
+    ("exmember", "T MEMBER SET"),
+    ("members", "T NAME"),
+    ("notify", "T NAME VARIANT SYNC NOTIFY DISP"),
+    ("send", "T BYTES"),
+    ("recv", "T NAME ROOM LARGE"),
+    ("again", "T p|s ID ROOM LARGE"),
+];
+
+/// The lines of scripts that aren't calls of the kernel, with their arguments.
+const LINES: &[(&str, &str)] = &[("msg", "T OPTIONS NAME ROOM BYTES"), ("thread", "N")];
+
+/// The replies of histories, with their arguments.
+const REPLIES: &[(&str, &str)] = &[
+    ("code", "CODE"),
+    ("task", "N"),
+    ("name", "N"),
+    ("refs", "N"),
+    ("type", "TYPE"),
+    (
+        "status",
+        "SET SEQUENCE MAKESEND LIMIT QUEUED SENDONCE HASSEND DESTROYED NOSENDERS",
+    ),
+    ("right", "NAME KIND"),
+    ("previous", "NAME"),
+    ("message", "BYTES"),
+    ("empty", "p|s ID"),
+    ("toolarge", "N"),
+    ("names", "NAME:TYPE .."),
+    ("members", "NAME .."),
+];
+
+/// Returns the word's arguments in the table.
+fn find(table: &[(&'static str, &'static str)], word: &[u8]) -> Option<&'static str> {
+    for (name, arguments) in table {
+        if name.as_bytes() == word {
+            return Some(*arguments);
+        }
+    }
+    None
+}
+
+/// Returns the table's first word that differs little from this one.
+fn nearest(table: &[(&'static str, &'static str)], word: &[u8]) -> Option<&'static str> {
+    for (name, _) in table {
+        if is_near(name.as_bytes(), word) {
+            return Some(*name);
+        }
+    }
+    None
+}
+
+/// Returns the arguments of a call of the kernel.
+pub(crate) fn call_arguments(word: &[u8]) -> Option<&'static str> {
+    find(CALLS, word)
+}
+
+/// Returns the arguments of a script's line that begins with this word.
+pub(crate) fn line_arguments(word: &[u8]) -> Option<&'static str> {
+    match find(LINES, word) {
+        Some(arguments) => Some(arguments),
+        None => find(CALLS, word),
+    }
+}
+
+/// Returns the arguments of a reply.
+pub(crate) fn reply_arguments(word: &[u8]) -> Option<&'static str> {
+    find(REPLIES, word)
+}
+
+/// Returns the call, or line of a script, that differs little from this word.
+pub(crate) fn near_call(word: &[u8]) -> Option<&'static str> {
+    match nearest(CALLS, word) {
+        Some(name) => Some(name),
+        None => nearest(LINES, word),
+    }
+}
+
+/// Returns the reply that differs little from this word.
+pub(crate) fn near_reply(word: &[u8]) -> Option<&'static str> {
+    nearest(REPLIES, word)
+}
