@@ -1,0 +1,4 @@
+pub mod Codes
+pub mod Facts
+pub mod Needs
+pub mod Tables
