@@ -1,0 +1,68 @@
+//! Which entries are shown.
+use kernel_lock::Entry;
+use mach_types::{Event, Reply};
+use mach_words::task_of;
+
+/// Which entries of a history are shown.
+#[derive(Clone, Copy)]
+pub struct Filter {
+    /// Only calls of this task, and those that hand it a right.
+    pub task: Option<u32>,
+    /// Only entries that name the port of this identity, or carry a right for it.
+    pub port: Option<u64>,
+    /// Only refused calls.
+    pub refused: bool,
+    /// The number of the first entry to show. Entries count from 1.
+    pub from: u64,
+    /// The number of the last entry to show.
+    pub to: u64,
+}
+
+impl Filter {
+    /// Shows every entry.
+    pub fn all() -> Filter {
+        Filter {
+            task: None,
+            port: None,
+            refused: false,
+            from: 0,
+            to: u64::MAX,
+        }
+    }
+
+    /// Whether the entry of this number is shown, as far as its port isn't asked for.
+    pub(crate) fn shows(&self, number: u64, entry: &Entry) -> bool {
+        if number < self.from || self.to < number {
+            return false;
+        }
+        if self.refused && !is_refused(&entry.reply) {
+            return false;
+        }
+        match self.task {
+            Some(task) => is_about(entry, task),
+            None => true,
+        }
+    }
+}
+
+/// Whether the reply is a refusal: a code other than 0, or a message that is too long.
+fn is_refused(reply: &Reply) -> bool {
+    match reply {
+        Reply::Code(code) => *code != 0,
+        Reply::TooLarge(_) => true,
+        _ => false,
+    }
+}
+
+/// Whether the entry is a call of this task, or hands it a right.
+fn is_about(entry: &Entry, task: u32) -> bool {
+    match (&entry.event, &entry.reply) {
+        (Event::TaskCreate, Reply::Task(made)) => made.number() == task,
+        (Event::InsertRight(to, _, from, _, _), _) => to.number() == task || from.number() == task,
+        (Event::ExtractRight(from, _, _, to), _) => to.number() == task || from.number() == task,
+        (event, _) => match task_of(event) {
+            Some(caller) => caller.number() == task,
+            None => false,
+        },
+    }
+}

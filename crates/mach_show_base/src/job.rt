@@ -1,0 +1,94 @@
+//! The jobs of the program.
+ghost use Rattle.std.specs.Prelude.{◌≡◌, ◌≤◌};
+
+use crate::fault::{Fault, report};
+use crate::filter::Filter;
+use crate::linting::lint_file;
+use crate::text::{Shown, show_file};
+use mach_words::Labels;
+use std::alloc::Global;
+use std::io::{Read, Write};
+
+/// The kind of a text.
+#[derive(Clone, Copy)]
+pub enum Kind {
+    /// A script.
+    Script,
+    /// A history.
+    History,
+}
+
+/// What the program does.
+#[derive(Clone, Copy)]
+pub enum Job {
+    /// Shows the entries of a history that the filter lets through.
+    Text(Filter),
+    /// Lists the bad lines of a text of this kind. Without a kind the first line decides.
+    Lint(Option<Kind>),
+}
+
+/// A job, the name of its file, and labels.
+#[derive(Clone, Copy)]
+pub struct Work<'a> {
+    /// The job.
+    pub job: Job,
+    /// The name of the file, for faults.
+    pub name: &'a str,
+    /// The labels.
+    pub labels: &'a Labels,
+}
+
+/// Does the job on its file, and returns the program's status: 0 if it is done and no line is bad, otherwise 1.
+///
+/// The text goes to `out`. A fault goes to `err`, as a line: `cannot read NAME`, `bad line N` for the first line that is no
+/// entry, `not confirmed at N` for the first entry to which the kernel replies otherwise, `cannot write`, `out of memory`.
+/// A closed output is a fault without a line. What was written before stays.
+///
+/// `text` takes the time and memory of a kernel that makes the history's calls, and memory for names and queued messages.
+/// `lint` is linear in the text, and takes memory for its longest line.
+pub fn perform<R: Read, W: Write, E: Write>(
+    alloc: Global,
+    work: &Work<'_>,
+    file: &mut R,
+    out: &mut W,
+    err: &mut E,
+) -> u8
+    ensures status { result ≤ 1 }
+{
+    match start(alloc, work, file, out) {
+        Ok(false) => 0,
+        Ok(true) => 1,
+        Err(fault) => stop(fault, out, err),
+    }
+}
+
+/// Does the job, and returns whether a line is bad. Faults are those of [`perform`].
+fn start<'a, R: Read, W: Write>(
+    alloc: Global,
+    work: &Work<'a>,
+    file: &mut R,
+    out: &mut W,
+) -> Result<bool, Fault<'a>> {
+    let Work { job, name, labels } = *work;
+    match job {
+        Job::Text(filter) => {
+            let shown = Shown {
+                alloc,
+                filter,
+                labels,
+            };
+            show_file(name, &shown, file, out)?;
+            out.flush()?;
+            Ok(false)
+        }
+        Job::Lint(kind) => lint_file(alloc, name, kind, file, out),
+    }
+}
+
+/// Flushes the output, writes the fault, and returns the status.
+fn stop<W: Write, E: Write>(fault: Fault<'_>, out: &mut W, err: &mut E) -> u8
+    ensures { result ≡ 1 }
+{
+    let _ = out.flush();
+    report(fault, err)
+}

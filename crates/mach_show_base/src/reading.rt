@@ -1,0 +1,73 @@
+//! Reads files line by line.
+use crate::fault::Fault;
+use mach_words::{LabelFault, Labels};
+use memchr::memchr;
+use std::alloc::Global;
+use std::io;
+use std::io::{BufRead, BufReader, ErrorKind, Read, Write};
+
+/// How many bytes of a file are read at once.
+pub(crate) const READ_AT_ONCE: usize = 131_072;
+
+/// Reads the next line into `line`, with its line feed, and returns its length: 0 at the end.
+///
+/// If the reader doesn't have a whole line yet, `out` is flushed first. So the output is seen while the program waits.
+pub(crate) fn next_line<'a, R: Read, W: Write>(
+    name: &'a str,
+    reader: &mut BufReader<&mut R>,
+    line: &mut Vec<u8>,
+    out: &mut W,
+) -> Result<usize, Fault<'a>> {
+    line.clear();
+    if memchr(b'\n', reader.buffer()).is_none() {
+        out.flush()?;
+    }
+    match reader.read_until(b'\n', line) {
+        Ok(count) => Ok(count),
+        Err(error) => Err(fault_of(name, &error)),
+    }
+}
+
+/// Returns the fault for an error of the file.
+fn fault_of<'a>(name: &'a str, error: &io::Error) -> Fault<'a> {
+    match error.kind() {
+        ErrorKind::OutOfMemory => Fault::OutOfMemory,
+        _ => Fault::CannotRead(name),
+    }
+}
+
+/// Reads the labels of a file, one a line.
+///
+/// Returns `BadLabels` for the first line that is no label or labels something twice, `CannotRead` if the file can't be
+/// read, and `OutOfMemory`. Linear in the file; takes memory for the labels and the longest line.
+pub fn read_labels<'a, R: Read>(
+    alloc: Global,
+    name: &'a str,
+    file: &mut R,
+) -> Result<Labels, Fault<'a>> {
+    let mut labels = Labels::new(alloc);
+    let mut line = Vec::new(alloc);
+    let mut reader = match BufReader::with_capacity(alloc, READ_AT_ONCE, file) {
+        Ok(reader) => reader,
+        Err(_) => return Err(Fault::OutOfMemory),
+    };
+    for number in 1..u64::MAX {
+        if next_line(name, &mut reader, &mut line, &mut io::sink())? == 0 {
+            return Ok(labels);
+        }
+        match labels.read_line(text_of(line.as_slice())) {
+            Ok(()) => {}
+            Err(LabelFault::OutOfMemory) => return Err(Fault::OutOfMemory),
+            Err(fault) => return Err(Fault::BadLabels(number, fault)),
+        }
+    }
+    Err(Fault::CannotRead(name))
+}
+
+/// Returns the line without its line feed.
+fn text_of(line: &[u8]) -> &[u8] {
+    match line {
+        [text @ .., b'\n'] => text,
+        _ => line,
+    }
+}
