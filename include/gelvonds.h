@@ -13,8 +13,9 @@
  * code than 0 comes, nothing is written through a pointer, but for what a function's comment says.
  *
  * What can't be told, and so is left to the caller:
- *   - that a handle was set to GELVONDS_NONE, and then only by this library: never copied and used twice,
- *     never used while another call uses it (one lock round each handle, where threads share it);
+ *   - that a handle was set to GELVONDS_NONE, and then only by this library: never copied and used twice;
+ *   - that one call at a time uses a handle. C may pass the handle to another thread, and orders that by a lock,
+ *     a thread's start or join, or a SeqCst atomic. So threads that share a kernel hold one lock in each call;
  *   - that no pointer is NULL, also not one beside a length of 0, that each points to as many places as the
  *     call says, and that no two overlap. */
 #ifndef GELVONDS_H

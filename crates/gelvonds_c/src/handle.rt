@@ -27,6 +27,10 @@ impl Model for Handle {
     ghost also_owns = { λ h. held h.alloc h.ptr h.kernel };
 }
 
+// A kernel owns all that it holds, and nothing of it is counted or shared: `proofs/handle/Handle/TheSendSync/Send` proves
+// that a handle may go to another thread.
+unsafe impl Send for Handle {}
+
 impl Handle {
     /// No kernel. Takes no memory.
     pub fn none(alloc: Global) -> Handle
