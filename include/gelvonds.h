@@ -1,12 +1,12 @@
 /* Gelvonds for C: Mach 3 port IPC in one process, by calls of a kernel of one's own.
  *
- * Each function but gelvonds_make, gelvonds_make_with_profile and gelvonds_free makes one call of a task, by
- * the kernel's own step, and answers its code: Mach's number, or one of the library's own (GELVONDS_..). The
- * Mach calls are those of Keith Loepere, Mach 3 Kernel Interfaces (1992), in the chapter that each comment
- * names; docs/CALLS.md says what each does and which refusal comes first. docs/EMBEDDING.md says how to build
- * and link.
+ * Each function from gelvonds_task_create on makes one call of a task, by the kernel's own step, and answers its
+ * code: Mach's number, or one of the library's own (GELVONDS_..). The functions before it make and end a kernel,
+ * and tell its profile, the version, and the name of a code. The Mach calls are those of Keith Loepere, Mach 3
+ * Kernel Interfaces (1992), in the chapter that each comment names; docs/CALLS.md says what each does and which
+ * refusal comes first. docs/EMBEDDING.md says how to build and link.
  *
- * Each of these functions but gelvonds_receive_again may also answer
+ * Each of the functions that make a call, but gelvonds_receive_again, may also answer
  *   GELVONDS_NO_KERNEL  the handle holds no kernel
  *   KERN_INVALID_TASK   (not gelvonds_task_create) a task that it names doesn't live
  * and gelvonds_receive_again GELVONDS_NO_KERNEL, GELVONDS_NO_WAITED and KERN_INVALID_TASK. Where another
@@ -183,6 +183,26 @@ gelvonds_code gelvonds_make_with_profile(gelvonds *kernel, uint32_t profile);
 
 /* Ends the kernel: gives back all its memory, and the handle holds none. Nothing where it holds none. */
 void gelvonds_free(gelvonds *kernel);
+
+/* The kernel's profile, 1 or 2. Makes no call, and changes nothing.
+ * GELVONDS_NO_KERNEL: the handle holds no kernel. */
+gelvonds_code gelvonds_profile(gelvonds *kernel, uint32_t *profile);
+
+/* ---- texts ----
+ * Each writes its text and a 0 behind it, and returns the text's length in bytes, without the 0. Where the room is
+ * too short for both, nothing is written: the room is compared with what is returned, which is less than
+ * GELVONDS_TEXT_ROOM. They use no kernel, and may be called at any time, by any thread. */
+
+/* Room for each of these texts, with its 0. */
+#define GELVONDS_TEXT_ROOM 40u
+
+/* The name of a code as this header has it, such as KERN_INVALID_NAME. The code 0 is KERN_SUCCESS.
+ * MACH_RCV_BODY_ERROR comes with its other part, as MACH_RCV_BODY_ERROR|MACH_MSG_IPC_SPACE. A number that is no code
+ * has the empty name, so 0 is returned. */
+size_t gelvonds_code_name(gelvonds_code code, char *name, size_t room);
+
+/* The version of the library that is linked or loaded, to be compared with GELVONDS_VERSION. */
+size_t gelvonds_version(char *version, size_t room);
 
 /* ---- tasks: Task Interface ---- */
 

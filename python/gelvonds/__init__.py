@@ -9,8 +9,8 @@
     >>> received(kernel.receive(server, service)).body
     b'ping'
 
-`Kernel` has a method for each function of include/gelvonds.h, of the same name without `gelvonds_`. A call that is
-refused raises `MachError`, which has the code and its C name. docs/CALLS.md says what each call does and which refusal
+`Kernel` has a method for each function of include/gelvonds.h that takes a kernel, of the same name without `gelvonds_`;
+`profile` is a property. A call that is refused raises `MachError`, which has the code and its C name. docs/CALLS.md says what each call does and which refusal
 comes first, docs/FORMATS.md has the bytes of messages, and docs/PYTHON.md is a session.
 
 The library is looked for at GELVONDS_LIBRARY, then where pkg-config says, then by the loader.
@@ -120,9 +120,10 @@ _CODES: Dict[int, str] = {
     if re.match(r"KERN_|MACH_SEND_|MACH_RCV_|GELVONDS_", name)
 }
 
-# (the kind of a Waited, and no codes)
+# (the kind of a Waited, the room for a text, and no codes)
 GELVONDS_PORT = 1
 GELVONDS_SET = 2
+GELVONDS_TEXT_ROOM = 40
 
 
 def code_name(code: int) -> str:
@@ -425,6 +426,7 @@ _FUNCTIONS: Dict[str, Tuple[Any, ...]] = {
     "make": (),
     "make_with_profile": (_WORD,),
     "free": (),
+    "profile": (_WORDS,),
     "task_create": (_WORDS,),
     "task_terminate": (_WORD,),
     "port_allocate": (_WORD, _WORD, _WORDS),
@@ -448,6 +450,12 @@ _FUNCTIONS: Dict[str, Tuple[Any, ...]] = {
     "send": (_WORD, ctypes.c_char_p, _SIZE),
     "receive": (_WORD, _WORD, ctypes.c_char_p, _SIZE, ctypes.c_bool, _LENGTH, ctypes.POINTER(_Waited)),
     "receive_again": (_WORD, ctypes.c_char_p, _SIZE, ctypes.c_bool, _LENGTH, ctypes.POINTER(_Waited)),
+}
+
+# What the functions take that have no handle. They return a length.
+_TEXTS: Dict[str, Tuple[Any, ...]] = {
+    "code_name": (ctypes.c_int32, ctypes.c_char_p, _SIZE),
+    "version": (ctypes.c_char_p, _SIZE),
 }
 
 _loading = threading.Lock()
@@ -485,8 +493,23 @@ def _library() -> ctypes.CDLL:
                 function = getattr(loaded, "gelvonds_" + name)
                 function.argtypes = (ctypes.POINTER(_Handle),) + arguments
                 function.restype = None if name == "free" else ctypes.c_int32
+            for name, arguments in _TEXTS.items():
+                function = getattr(loaded, "gelvonds_" + name)
+                function.argtypes = arguments
+                function.restype = _SIZE
             _loaded = loaded
         return _loaded
+
+
+def _text(function: str, *arguments: Any) -> str:
+    text = ctypes.create_string_buffer(GELVONDS_TEXT_ROOM)
+    getattr(_library(), "gelvonds_" + function)(*arguments, text, GELVONDS_TEXT_ROOM)
+    return text.value.decode("ascii")
+
+
+def library_version() -> str:
+    """The version of the C library that is loaded. That of the package is `__version__`."""
+    return _text("version")
 
 
 def _free(library: ctypes.CDLL, handle: _Handle) -> None:
@@ -510,7 +533,6 @@ class Kernel:
             self._call("make")
         else:
             self._call("make_with_profile", _u32(profile, "the profile"))
-        self.profile = profile
         self._end = weakref.finalize(self, _free, self._library, self._handle)
         # (at the program's end a thread may still be in a call, and the memory goes anyway)
         self._end.atexit = False
@@ -535,6 +557,13 @@ class Kernel:
         code = self._ask(function, *arguments)
         if code:
             raise MachError(code)
+
+    @property
+    def profile(self) -> int:
+        """The kernel's profile, 1 or 2. Refused with `GELVONDS_NO_KERNEL` where the kernel was closed."""
+        profile = _WORD()
+        self._call("profile", ctypes.byref(profile))
+        return profile.value
 
     # -- tasks
 
@@ -728,6 +757,7 @@ __all__ = [
     "copy_send",
     "data",
     "library_path",
+    "library_version",
     "make_send",
     "make_send_once",
     "message",

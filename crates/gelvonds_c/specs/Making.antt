@@ -4,10 +4,11 @@ use Rattle.mach_types.specs.declared.profiles.Profile.{Profile}
 use Rattle.mach_types.specs.declared.profiles.Profile.TheVariants.{One, Two}
 use Rattle.mach_types.specs.declared.codes.KernReturn.TheVariants.{Success, InvalidArgument, ResourceShortage}
 use Rattle.mach_types.specs.Codes.{kern_number}
-use Rattle.mach_model.specs.State.{opening_in}
+use Rattle.mach_model.specs.State.{State, opening_in}
 use Rattle.copyin_base.specs.Shows.{Shows}
+use Rattle.copyin_base.specs.Worlds.{WorldView}
 use Rattle.gelvonds_c.specs.Held.{Kept}
-use Rattle.gelvonds_c.specs.Calls.{signed}
+use Rattle.gelvonds_c.specs.Calls.{signed, no_kernel}
 
 abbrev pub in_use : ℕ
 in_use = 0x47000002  -- GELVONDS_IN_USE
@@ -23,3 +24,12 @@ Makes profile (Some kernel) code new = (code ≡ signed in_use) × (new ≡ Some
 Makes None None code new = (code ≡ signed (kern_number InvalidArgument)) × (new ≡ None)
 Makes (Some profile) None code (Some kernel) = (code ≡ signed (kern_number Success)) × Shows kernel.tables (opening_in profile)
 Makes (Some profile) None code None = code ≡ signed (kern_number ResourceShortage)
+
+-- The number is that of the profile of the state that the kernel shows.
+abbrev pub IsProfileOf : WorldView → (number : ℕ) → Type 0
+IsProfileOf tables number = (s : State) → Shows tables s → profile_numbered number ≡ Some s.profile
+
+-- It is, and the kernel stays. A handle without one has no profile, and no number is written.
+abbrev pub TellsProfile : (old : Kept) → (code : ℤ) → (new : Kept) → (before after : ℕ) → Type 0
+TellsProfile None code new before after = (code ≡ signed no_kernel) × (new ≡ None) × (after ≡ before)
+TellsProfile (Some kernel) code new before after = (code ≡ signed (kern_number Success)) × (new ≡ Some kernel) × IsProfileOf kernel.tables after

@@ -7,7 +7,7 @@
 
 ghost use Rattle.std.specs.Prelude.{◌≡◌, ◌≢◌, None, Some};
 ghost use Rattle.mach_types.specs.declared.profiles.Profile.TheVariants.{One, Three};
-ghost use Rattle.gelvonds_c.specs.Making.{Makes, profile_numbered};
+ghost use Rattle.gelvonds_c.specs.Making.{IsProfileOf, Makes, TellsProfile, profile_numbered};
 
 mod call;
 mod codes;
@@ -18,9 +18,10 @@ mod notices;
 mod parts;
 mod receive_right;
 mod sets;
+mod texts;
 mod transfers;
 
-use crate::codes::{IN_USE, SUCCESS};
+use crate::codes::{IN_USE, NO_KERNEL, SUCCESS};
 use crate::handle::Handle;
 use kernel_core::Kernel;
 use mach_types::{KernReturn, Profile};
@@ -44,6 +45,22 @@ pub extern "C" fn gelvonds_make_with_profile(
     ensures { Makes (profile_numbered profile) handle.old.kernel result handle.new.kernel }
 {
     make(alloc, handle, profile_of(profile))
+}
+
+/// Writes the number of the kernel's profile, 1 or 2.
+///
+/// Where the handle holds no kernel the code says so, and nothing is written. No call is made, and the kernel
+/// stays. Takes no memory. Constant time.
+#[unsafe(no_mangle)]
+pub extern "C" fn gelvonds_profile(alloc: Global, handle: &mut Handle, profile: &mut u32) -> i32
+    ensures { TellsProfile handle.old.kernel result handle.new.kernel profile.old profile.new }
+{
+    let Some(kernel) = handle.take(alloc) else {
+        return NO_KERNEL;
+    };
+    *profile = number_of(&kernel);
+    *handle = Handle::of(kernel);
+    SUCCESS
 }
 
 /// Ends the kernel, if there is one: its memory is given back, and the handle holds none.
@@ -84,5 +101,16 @@ fn profile_of(number: u32) -> Option<Profile>
         1 => Some(Profile::One),
         2 => Some(Profile::Two),
         _ => None,
+    }
+}
+
+/// The number of the kernel's profile.
+fn number_of(kernel: &Kernel) -> u32
+    ensures { IsProfileOf kernel.now.tables result }
+{
+    if kernel.tables().has_generations() {
+        2
+    } else {
+        1
     }
 }
