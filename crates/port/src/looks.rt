@@ -5,6 +5,7 @@ ghost use Rattle.std.specs.FinMap as map;
 
 use crate::{Message, Ports, key_of};
 use mach_types::PortId;
+use std::collections::LinkedList;
 
 /// What a receive asks of a port first.
 #[derive(Clone, Copy, Debug, PartialEq, Eq)]
@@ -24,6 +25,14 @@ impl<M: Message> Ports<M> {
     {
         let key = key_of(&self.by_id, port)?;
         self.records[key].queue.front()
+    }
+
+    /// A port's queue, to read, if the port is there. Constant time.
+    pub fn queue(&self, port: PortId) -> Option<&LinkedList<M>>
+        ensures { option_copied result ≡ option_and_then (λ p. Some p.queue) (map.get self.now.ports port) }
+    {
+        let key = key_of(&self.by_id, port)?;
+        Some(&self.records[key].queue)
     }
 
     /// The message at the front of a port's queue, and the sequence number that it is received with, if the
