@@ -34,8 +34,9 @@ pub fn settle(world: &mut World) -> u64
     settle_parts(world)
 }
 
-// Whether a step's own part left nothing to do; the lists of ports tell whom nobody holds.
-fn is_idle(world: &World) -> bool
+/// Returns whether a step's own part left nothing to do; the lists of ports tell whom nobody holds. Constant
+/// time.
+pub fn is_idle(world: &World) -> bool
     ensures idle { IsTrue result ↔ IsIdle world.now }
     ensures lost { (port : ℕ) → Contains world.now.ports.lost port ↔ IsHeldBy world.now.ports port Holder.Nobody }
     ensures doomed { (port : ℕ) → Contains world.now.ports.doomed port ↔ IsHeldBy world.now.ports port Holder.Doomed }

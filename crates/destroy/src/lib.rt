@@ -10,4 +10,4 @@ mod losing;
 mod paying;
 mod telling;
 
-pub use ending::settle;
+pub use ending::{is_idle, settle};

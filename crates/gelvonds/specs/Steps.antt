@@ -6,6 +6,7 @@ use Rattle.mach_model.specs.State.{State}
 use Rattle.mach_laws.specs.Queued.{unused_onces}
 use Rattle.copyin_base.specs.Shows.{Shows}
 use Rattle.kernel_core.specs.Answers.{Answers}
+use Rattle.kernel_core.specs.Changing.{Touches}
 use Rattle.kernel_core.specs.Kernels.{KernelView, TakesTurns}
 use Rattle.kernel_core.specs.Wanted.{Wanted, Spares}
 
@@ -16,4 +17,6 @@ pub record IsStep (old : KernelView) (event : Event) (reply : Reply) (new : Kern
   -- where it may tell of want of memory, and the room that it leaves
   pub wanted : Wanted old.tables event reply
   pub spares : Spares old.tables new.tables
+  -- which ports and sets it may have changed
+  pub touches : Touches old.tables event reply new.tables new.touched
   pub unused_are : (s : State) → Shows new.tables s → new.tables.ledger.unused ≡ unused_onces s

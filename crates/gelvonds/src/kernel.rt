@@ -1,5 +1,5 @@
 //! A kernel with a call for each call of a task.
-ghost use Rattle.std.specs.Prelude.{◌≡◌, ◌≢◌, ◌≤◌, ℕ, IfOk, IfErr};
+ghost use Rattle.std.specs.Prelude.{◌≡◌, ◌≢◌, ◌≤◌, ℕ, None, IfOk, IfErr};
 ghost use Rattle.mach_types.specs.declared.calls.Event.TheVariants as AnyEvent;
 ghost use Rattle.mach_types.specs.declared.calls.Reply.{Reply as OneReply};
 ghost use Rattle.mach_types.specs.declared.calls.Reply.TheVariants as AnyReply;
@@ -12,6 +12,7 @@ ghost use Rattle.mach_laws.specs.JudgedPaths.{JudgedPath};
 ghost use Rattle.mach_types.specs.declared.profiles.Profile.TheVariants.{One, Three};
 ghost use Rattle.mach_laws.specs.Queued.{SlotsWithin, unused_onces};
 ghost use Rattle.copyin_base.specs.Shows.{Shows};
+ghost use Rattle.kernel_core.specs.Changing.{few};
 ghost use Rattle.kernel_core.specs.Bounds.{most_told, IsWithin};
 ghost use Rattle.gelvonds.specs.Steps.{IsStep};
 ghost use Rattle.gelvonds.specs.Results.{Answered, Sent, Received, done, extracted, notification_number, notify_name, notify_number};
@@ -22,7 +23,7 @@ use crate::results::{self, ExtractedRight, Receipt, SendError};
 use copyin_base::Code;
 use mach_types::{
     Bytes, Disposition, Event, KernReturn, Name, NameList, NameTypes, Profile, Reply, Right,
-    Status, TaskId, Waited,
+    Status, TaskId, Touched, Waited,
 };
 use message_codec::PortRight;
 use std::alloc::{AllocError, Global};
@@ -100,6 +101,7 @@ impl Kernel {
         ensures shows { Shows result.tables opening }
         ensures none { result.tables.ports.spare ≡ 0 }
         ensures turns { result.turns ≡ 0 }
+        ensures touched { result.touched ≡ few None None }
     {
         Kernel::with_profile(alloc, Profile::One)
     }
@@ -111,6 +113,7 @@ impl Kernel {
         ensures shows { Shows result.tables (opening_in profile) }
         ensures none { result.tables.ports.spare ≡ 0 }
         ensures turns { result.turns ≡ 0 }
+        ensures touched { result.touched ≡ few None None }
     {
         Kernel {
             kernel: kernel_core::Kernel::with_profile(alloc, profile),
@@ -146,6 +149,19 @@ impl Kernel {
         ensures { result ≡ self.now.turns }
     {
         self.kernel.last_turns()
+    }
+
+    /// Returns which ports and sets the last step may have changed: a queue, a limit, members, or where a receive
+    /// right lies. All others are for a task that waits as they were before (`kernel_core`'s `specs/Changing`).
+    ///
+    /// None before the first step and after a refusal. Few are named after a message that carried no receive right
+    /// was sent, or was received with a body of raw bytes; and after calls on names, references, limits and counts.
+    /// After every other call, and where ports died or notices were sent at the end of the step, it is `All`. Takes
+    /// no memory. Constant time, and logarithmic for a name above 65,535.
+    pub fn touched(&self) -> Touched
+        ensures { result ≡ self.now.touched }
+    {
+        self.kernel.touched()
     }
 
     /// `task_create` (Task Interface): makes a task with no names.

@@ -53,7 +53,7 @@ pub use copyin_base::Code;
 pub use kernel::{Kernel, run, run_with};
 pub use mach_types::{
     Bytes, Disposition, Event, KernReturn, MsgReturn, Name, NameList, NameTypes, PortId, Profile,
-    Reply, Right, SetId, Status, TaskId, Waited, limits,
+    Reply, Right, SetId, Status, TaskId, Touched, Waited, limits,
 };
 pub use message_codec::PortRight;
 pub use notification::{Notification, NotificationRequest};

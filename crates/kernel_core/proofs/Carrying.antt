@@ -1,14 +1,22 @@
 -- A plan is carried out: the send is done, or is refused for want of memory, which it may want.
-use Rattle.std.proofs.Common.{◌≡◌, ℕ, List, Result, Ok, Err, IfOk, IfErr, sym, subst}
+use Rattle.std.proofs.Common.{◌≡◌, ℕ, List, [], ◌∷◌, ◌∙◌, false, Option, Some, None, Result, Ok, Err, IfOk, IfErr, sym, subst}
+use Rattle.std.specs.Prelude.{◌≢◌}
 use Rattle.mach_types.specs.declared.calls.Event.{Event}
 use Rattle.mach_types.specs.declared.codes.MsgReturn.{MsgReturn}
 use Rattle.mach_types.specs.declared.codes.MsgReturn.TheVariants.{SendNoBuffer}
 use Rattle.mach_types.specs.Codes.{msg_number}
+use Rattle.std.proofs.lemmas.List.Elements.{All-cons, All-nil}
+use Rattle.mach_types.specs.Grammar.{WireBody}
+use Rattle.message_codec.specs.declared.text.Parsed.{Parsed}
+use Rattle.message_codec.specs.declared.words.PortWord.{PortWord}
+use Rattle.message_codec.specs.Parses.{Parses, is_items}
+use Rattle.message_codec.specs.Words.{body_words}
 use Rattle.copyin_base.specs.Serving.{Declines}
 use Rattle.copyin_base.specs.Worlds.{WorldView, HasTask}
 use Rattle.copyin.specs.declared.judge.Plan.{Plan}
+use Rattle.copyin.specs.Planned.{IsPlan}
 use Rattle.copyin.specs.Wanted.{WantsToSend}
-use Rattle.kernel_core.specs.Send.{PlansText, SendsText}
+use Rattle.kernel_core.specs.Send.{GoesTo, MovesNoReceive, PlansText, SendsText, TellsSent}
 use Rattle.kernel_core.proofs.Sending.{no_memory}
 use Rattle.kernel_core.proofs.Wanting.{plans_wants}
 
@@ -24,3 +32,21 @@ module _ {A : Type 0} (w new : WorldView) (task : ℕ) (bytes : List ℕ) (plan 
   pub short_wants : (r : Result A MsgReturn) → IfErr r (λ code. msg_number code ≡ msg_number SendNoBuffer → WantsToSend w task bytes)
   short_wants (Ok v) = tt
   short_wants (Err code) = λ same. plans_wants w task bytes p.parsed p.text p.is_plan.plans
+
+-- Where it went is told of the bytes.
+pub goes : (w : WorldView) (task : ℕ) (bytes : List ℕ) (plan : Plan) → PlansText w task bytes plan → (r : Result (Option ℕ) MsgReturn) → IfOk r (λ to. GoesTo plan to) → IfOk r (λ to. TellsSent w task bytes to)
+goes w task bytes plan p (Ok None) g = tt
+goes w task bytes plan p (Ok (Some port)) g = record { plan = plan; planned = p; goes = g }
+goes w task bytes plan p (Err code) g = tt
+
+-- A body of raw bytes moves no receive right, and one of one word moves none where the word does not.
+pub raw_moves_none : (w : WorldView) (task : ℕ) (bytes : List ℕ) (parsed : Parsed) (text : Parses bytes parsed) (plan : Plan) → IsPlan w task parsed text.written bytes plan → parsed.is_complex ≡ false → MovesNoReceive plan.words.body.items
+raw_moves_none w task bytes parsed text plan p simple = subst MovesNoReceive (sym p.words.body) (go text.written (sym text.is_complex ∙ simple))
+  where
+    go : (v : WireBody) → is_items v ≡ false → MovesNoReceive (body_words v)
+    go (WireBody.raw bs) e = All-nil (λ (x : PortWord). x.disposition ≢ 16)
+    go (WireBody.items xs) e = absurd (cc)
+
+pub lone_moves_none : (w : WorldView) (task : ℕ) (bytes : List ℕ) (parsed : Parsed) (text : Parses bytes parsed) (plan : Plan) → IsPlan w task parsed text.written bytes plan → (word : PortWord) → body_words text.written ≡ word ∷ [] → word.disposition ≢ 16 →
+    MovesNoReceive plan.words.body.items
+lone_moves_none w task bytes parsed text plan p word one not = subst MovesNoReceive (sym one ∙ sym p.words.body) (All-cons (λ (x : PortWord). x.disposition ≢ 16) word [] not (All-nil (λ (x : PortWord). x.disposition ≢ 16)))

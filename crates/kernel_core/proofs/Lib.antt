@@ -18,3 +18,4 @@ mod InTurn
 pub mod Limited
 pub mod Named
 pub mod Carrying
+mod Changed

@@ -3,6 +3,7 @@ use Rattle.std.specs.Prelude.{◌≡◌, ℕ, ◌≤◌, ◌⊎◌, refl}
 use Rattle.std.specs.Coded.{Coded, code_by, coded×, coded_ℕ}
 use Rattle.mach_types.specs.declared.calls.Event.{Event}
 use Rattle.mach_types.specs.declared.calls.Reply.{Reply}
+use Rattle.mach_types.specs.declared.touched.Touched.{Touched}
 use Rattle.mach_model.specs.State.{State}
 use Rattle.mach_model.specs.Machine.{Refused, Done}
 use Rattle.mach_model.specs.Notices.{Owed}
@@ -14,9 +15,12 @@ pub record KernelView : Type 0 where
   pub tables : WorldView
   -- in how many turns the last step ended
   pub turns : ℕ
+  -- which ports and sets it may have changed
+  pub touched : Touched
 
-abbrev pub kernel_code : Coded WorldView → Coded KernelView
-kernel_code world = code_by (WorldView × ℕ) (coded× world coded_ℕ) (λ k. (k.tables, k.turns)) (λ x. record { tables = x.0; turns = x.1 }) (λ _. refl)
+abbrev pub kernel_code : Coded WorldView → Coded Touched → Coded KernelView
+kernel_code world touched =
+    code_by (WorldView × (ℕ × Touched)) (coded× world (coded× coded_ℕ touched)) (λ k. (k.tables, (k.turns, k.touched))) (λ x. record { tables = x.0; turns = x.1.0; touched = x.1.1 }) (λ _. refl)
 
 -- So many turns are no more than there were rights, ports that live, and messages queued at them, together, before the step; no fewer than ports died in
 -- it; and no more than what its end did.

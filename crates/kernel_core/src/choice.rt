@@ -6,6 +6,7 @@ ghost use Rattle.port.specs.Ports.{PortView, IsLive, with_port};
 ghost use Rattle.kernel_core.specs.Choices.{SameButTurns};
 ghost use Rattle.port_set.specs.Sets.{IsReady, in_set};
 
+use crate::change::set_of;
 use copyin_base::World;
 use mach_types::{Event, Name, PortId, SetId, TaskId, Waited};
 use port::Attributes;
@@ -38,14 +39,6 @@ fn ready_under(world: &World, task: TaskId, set: SetId, name: Name) -> Option<Po
     let port = world.lookup(task, name)?.receive_port()?;
     let its = set_of(world, port)?;
     (its.number() == set.number() && world.ports.queued(port) > 0).then_some(port)
-}
-
-/// The set that a port is in.
-fn set_of(world: &World, port: PortId) -> Option<SetId> {
-    match world.ports.attributes(port) {
-        Some(attributes) => attributes.set,
-        None => None,
-    }
 }
 
 /// Members that are ready go to the end of their set, one after another, until the first is this port, which

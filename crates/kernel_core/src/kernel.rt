@@ -1,9 +1,10 @@
 //! A kernel, and its steps.
-ghost use Rattle.std.specs.Prelude.{◌≡◌, ◌≢◌, ◌≤◌, ℕ, Err, IfOk, IfErr, OnErr, MatchBool};
+ghost use Rattle.std.specs.Prelude.{◌≡◌, ◌≢◌, ◌≤◌, ℕ, List, true, Err, None, IfOk, IfErr, OnOk, OnErr, MatchBool};
 ghost use Rattle.mach_types.specs.declared.codes.KernReturn.TheVariants as kern;
 ghost use Rattle.mach_types.specs.declared.profiles.Profile.TheVariants.{Three};
 ghost use Rattle.mach_types.specs.Numbers.{most_bytes};
 ghost use Rattle.mach_types.specs.Codes.{kern_number};
+ghost use Rattle.mach_types.specs.declared.calls.Event.{Event as AnyEvent};
 ghost use Rattle.mach_types.specs.declared.calls.Reply.{Reply as AnyReply};
 ghost use Rattle.mach_model.specs.State.{State, opening_in};
 ghost use Rattle.mach_model.specs.Machine.{opening, Step};
@@ -14,28 +15,32 @@ ghost use Rattle.copyin_base.specs.Serving.{HasTasks, Declines};
 ghost use Rattle.rights.specs.Unused.{IsUnusedOfAll};
 ghost use Rattle.copyin_base.specs.Shows.{Shows, SlotsSuffice};
 ghost use Rattle.copyin_base.specs.Stands.{Stands};
-ghost use Rattle.copyin_base.specs.Worlds.{HasTask};
+ghost use Rattle.copyin_base.specs.Worlds.{HasTask, IsIdle};
+ghost use Rattle.destroy.specs.Stages.{IsMidway, KeepsRooms, SettlesIn};
 ghost use Rattle.kernel_core.specs.Answers.{Answers};
 ghost use Rattle.kernel_core.specs.Bounds.{most_told, IsWithin};
+ghost use Rattle.kernel_core.specs.Changing.{few, Touches};
 ghost use Rattle.kernel_core.specs.Choices.{SameButTurns};
 ghost use Rattle.kernel_core.specs.InTurn.{StepsInTurn};
 ghost use Rattle.kernel_core.specs.Kernels.{TakesTurns};
 ghost use Rattle.kernel_core.specs.Limits.{HasRoomFor, IsNearLimit};
+ghost use Rattle.kernel_core.specs.Send.{TellsSent};
 ghost use Rattle.kernel_core.specs.MemoryCodes.{TellsMemoryCode};
 ghost use Rattle.kernel_core.specs.Wanted.{Wanted, Spares, Performs};
 
+use crate::change::Change;
 use crate::memory::{has_room_for, tell_memory_code};
 use crate::receive::{Buffer, receive, receive_again};
 use crate::send::send;
 use crate::{bound, choice};
 use copyin_base::{Code, World};
-use destroy::settle;
+use destroy::{is_idle, settle};
 use kernel_core_base::{
     allocate, allocate_name, create_task, deallocate, destroy, get_refs, list_names, mod_refs,
     move_member, name_type, receive_status, rename, set_mscount, set_qlimit, set_seqno, set_status,
     terminate_task,
 };
-use mach_types::{Event, KernReturn, Name, Profile, Reply, TaskId};
+use mach_types::{Event, KernReturn, Name, PortId, Profile, Reply, TaskId, Touched};
 use notifications::{Asked, request_notification};
 use std::alloc::{AllocError, Global};
 use std::marker::Model;
@@ -49,6 +54,7 @@ pub struct Kernel {
     alloc: Global,
     world: World,
     turns: u64,
+    change: Change,
 }
 
 impl Model for Kernel {
@@ -68,13 +74,15 @@ impl Model for Kernel {
     ghost use Rattle.mach_types.specs.contracts.profiles.Profile as profile_of;
     ghost use Rattle.copyin_base.specs.Worlds.{world_code};
     ghost use Rattle.copyin_base.specs.Stands.{Stands};
+    ghost use Rattle.mach_types.specs.contracts.touched.Touched as touched;
+    ghost use Rattle.kernel_core.specs.Changing.{touched_by};
     ghost use Rattle.kernel_core.specs.Kernels.{KernelView, kernel_code};
 
     ghost Value = { KernelView };
 
-    ghost coded = { kernel_code (world_code (space_code entry.the_row.coded) (ports_code (kept_code carried.the_row.coded) attributes.the_row.coded) (ledger_code counts.the_row.coded) (sets_code set_record.the_row.coded) (request_tables_code request.the_row.coded port_id.the_row.coded) profile_of.the_row.coded) };
+    ghost coded = { kernel_code (world_code (space_code entry.the_row.coded) (ports_code (kept_code carried.the_row.coded) attributes.the_row.coded) (ledger_code counts.the_row.coded) (sets_code set_record.the_row.coded) (request_tables_code request.the_row.coded port_id.the_row.coded) profile_of.the_row.coded) touched.the_row.coded };
 
-    ghost view = { λ k. record { tables = k.world; turns = k.turns } };
+    ghost view = { λ k. record { tables = k.world; turns = k.turns; touched = touched_by k.world k.change } };
 
     ghost invariant = { λ k. Stands k.world };
 }
@@ -85,6 +93,7 @@ impl Kernel {
         ensures shows { Shows result.tables opening }
         ensures none { result.tables.ports.spare ≡ 0 }
         ensures turns { result.turns ≡ 0 }
+        ensures touched { result.touched ≡ few None None }
     {
         Kernel::with_profile(alloc, Profile::One)
     }
@@ -96,11 +105,13 @@ impl Kernel {
         ensures shows { Shows result.tables (opening_in profile) }
         ensures none { result.tables.ports.spare ≡ 0 }
         ensures turns { result.turns ≡ 0 }
+        ensures touched { result.touched ≡ few None None }
     {
         Kernel {
             alloc,
             world: World::new(alloc, profile),
             turns: 0,
+            change: Change::Nothing,
         }
     }
 
@@ -147,17 +158,22 @@ impl Kernel {
         ensures spares { Spares self.old.tables self.new.tables }
         ensures unused { (s : State) → Shows self.new.tables s → self.new.tables.ledger.unused ≡ unused_onces s }
         ensures in_turn { StepsInTurn self.old.tables event.now result self.new.tables }
+        ensures touches { Touches self.old.tables event.now result self.new.tables self.new.touched }
     {
         check_slots(&self.world);
-        match act(&mut self.world, self.alloc, event) {
+        let mut sent_to = None;
+        match act(&mut self.world, self.alloc, event, &mut sent_to) {
             Ok(reply) => {
                 check_slots(&self.world);
-                self.turns = settle(&mut self.world);
+                let Ending { turns, is_quiet } = end_step(&mut self.world);
+                self.turns = turns;
+                self.change = Change::after(is_quiet, event, &reply, sent_to);
                 check_slots(&self.world);
                 reply
             }
             Err(code) => {
                 self.turns = 0;
+                self.change = Change::Nothing;
                 check_slots(&self.world);
                 Reply::Code(code.number())
             }
@@ -210,6 +226,7 @@ impl Kernel {
         ensures same { SameButTurns self.old.tables self.new.tables }
         ensures shows { (s : State) → Shows self.old.tables s → Shows self.new.tables s }
         ensures turns { self.new.turns ≡ self.old.turns }
+        ensures touched { self.new.touched ≡ self.old.touched }
     {
         choice::give_turn(&mut self.world, event, member);
     }
@@ -223,6 +240,41 @@ impl Kernel {
     {
         self.turns
     }
+
+    /// Returns which ports and sets the last step may have changed: a queue, a limit, members, or where a
+    /// receive right lies. All others are for a task that waits as they were before the step (`specs/Changing`).
+    ///
+    /// None before the first step and after a refusal. Few are named after a message that carried no receive
+    /// right was sent, or was received with a body of raw bytes; and after calls on names, references, limits
+    /// and counts. After every other call, and where ports died or notices were sent at the end of the step, it
+    /// is `All`. Takes no memory. Constant time, and logarithmic for a name above 65,535.
+    pub fn touched(&self) -> Touched
+        ensures { result ≡ self.now.touched }
+    {
+        self.change.touched(&self.world)
+    }
+}
+
+/// How a step ended.
+#[derive(Clone, Copy)]
+struct Ending {
+    /// In how many turns.
+    turns: u64,
+    /// Whether nothing was left to do.
+    is_quiet: bool,
+}
+
+/// Ends a step by [`settle`], where something is left to do.
+#[inline(always)]
+fn end_step(world: &mut World) -> Ending
+    requires { IsMidway world.old }
+    ensures settles { SettlesIn world.old result.turns world.new }
+    ensures rooms { KeepsRooms world.old world.new }
+    ensures quiet { result.is_quiet ≡ true → IsIdle world.old × (world.new ≡ world.old) }
+{
+    let is_quiet = is_idle(world);
+    let turns = if is_quiet { 0 } else { settle(world) };
+    Ending { turns, is_quiet }
 }
 
 /// A message slot is spare for each send-once right to which no queued message was sent: before a step, after
@@ -237,14 +289,21 @@ fn check_slots(world: &World)
 
 /// Does the call's own part of a step, up to what [`settle`] ends, or refuses it.
 ///
-/// `KERN_INVALID_TASK` where a task that it names doesn't live; then as the call.
+/// `KERN_INVALID_TASK` where a task that it names doesn't live; then as the call. In `sent_to` a send leaves the
+/// port that its message went to, where no receive right went along.
 #[inline(always)]
-fn act(world: &mut World, alloc: Global, event: &Event) -> Result<Reply, Code>
+fn act(
+    world: &mut World,
+    alloc: Global,
+    event: &Event,
+    sent_to: &mut Option<PortId>,
+) -> Result<Reply, Code>
     requires { Stands world.old }
-    ensures { Performs world.old event.now result world.new }
+    ensures performs { Performs world.old event.now result world.new }
+    ensures to { (task : ℕ) (bytes : List ℕ) → event.now ≡ AnyEvent.Send task bytes → OnOk result (TellsSent world.old task bytes sent_to.new) }
 {
     check_tasks(world, event)?;
-    serve(world, alloc, event)
+    serve(world, alloc, event, sent_to)
 }
 
 /// Whether the tasks that the call names live: `KERN_INVALID_TASK` where one doesn't. Constant time.
@@ -318,10 +377,16 @@ fn refuse_several() -> Result<Reply, Code>
 
 /// Makes the call on the tables, where the tasks that it names live.
 #[inline(always)]
-fn serve(world: &mut World, alloc: Global, event: &Event) -> Result<Reply, Code>
+fn serve(
+    world: &mut World,
+    alloc: Global,
+    event: &Event,
+    sent_to: &mut Option<PortId>,
+) -> Result<Reply, Code>
     requires there { HasTasks world.old event.now }
     requires stands { Stands world.old }
-    ensures { Performs world.old event.now result world.new }
+    ensures performs { Performs world.old event.now result world.new }
+    ensures to { (task : ℕ) (bytes : List ℕ) → event.now ≡ AnyEvent.Send task bytes → OnOk result (TellsSent world.old task bytes sent_to.new) }
 {
     match event {
         Event::TaskCreate => create_task(world, alloc),
@@ -359,7 +424,7 @@ fn serve(world: &mut World, alloc: Global, event: &Event) -> Result<Reply, Code>
             };
             request_notification(world, *task, *name, &asked)
         }
-        Event::Send(task, bytes) => send(world, alloc, *task, bytes),
+        Event::Send(task, bytes) => send(world, alloc, *task, bytes, sent_to),
         Event::Receive(task, name, room, large) => {
             receive(world, alloc, *task, *name, Buffer::new(*room, *large))
         }

@@ -8,6 +8,7 @@
 #![tactic(auto)]
 
 mod bound;
+mod change;
 mod choice;
 mod kernel;
 mod memory;

@@ -1,5 +1,6 @@
 //! Sending a message.
-ghost use Rattle.std.specs.Prelude.{◌≡◌, ◌≢◌, ℕ, [], ◌∷◌, List, IfOk, IfErr, OnOk, OnErr};
+ghost use Rattle.std.specs.Prelude.{◌≡◌, ◌≢◌, false, ℕ, [], ◌∷◌, List, IfOk, IfErr, OnOk, OnErr};
+ghost use Rattle.std.specs.Bool.{OnFalse};
 ghost use Rattle.mach_types.specs.declared.calls.Event.{Event as AnyEvent};
 ghost use Rattle.mach_types.specs.declared.codes.MsgReturn.TheVariants.{SendNoBuffer};
 ghost use Rattle.mach_types.specs.Codes.{msg_number};
@@ -9,13 +10,15 @@ ghost use Rattle.copyin.specs.Wanted.{WantsToSend};
 ghost use Rattle.message_codec.specs.Parses.{Parses};
 ghost use Rattle.message_codec.specs.Plain.{parsed_lone, parsed_plain, parsed_request};
 ghost use Rattle.message_codec.specs.Words.{body_words};
-ghost use Rattle.kernel_core.specs.Send.{PlansText, SendsText, UsesSlot};
+ghost use Rattle.kernel_core.specs.Send.{GoesTo, MovesNoReceive, PlansText, SendsText, TellsSent, UsesSlot};
 ghost use Rattle.copyin_base.specs.Worlds.{HasTask};
 
 use copyin::{Plan, check, check_lone, check_plain, check_request, commit};
 use copyin_base::{Code, World};
-use mach_types::{Bytes, MsgReturn, Reply, TaskId};
-use message_codec::{Lone, Plain, Request, parse, parse_lone, parse_plain, parse_request};
+use mach_types::{Bytes, MsgReturn, PortId, Reply, TaskId};
+use message_codec::{
+    Lone, Plain, PortWord, Request, parse, parse_lone, parse_plain, parse_request,
+};
 use std::alloc::Global;
 
 /// `Send` (IPC Interface, `mach_msg` with `MACH_SEND_MSG`). The task lives. A refusal leaves all as it was.
@@ -25,31 +28,41 @@ use std::alloc::Global;
 /// - those of its rights and of the message as a whole, as [`copyin::check`];
 /// - `MACH_SEND_NO_BUFFER`: memory was refused for the slots that it wants.
 ///
+/// In `sent_to` it leaves the port that the message went to, where no receive right went along.
+///
 /// Linear in the message, except for what [`copyin::check`] says of each right.
 pub(crate) fn send(
     world: &mut World,
     alloc: Global,
     task: TaskId,
     bytes: &Bytes,
+    sent_to: &mut Option<PortId>,
 ) -> Result<Reply, Code>
     requires there { HasTask world.old task }
     requires stands { Stands world.old }
     ensures serves { Serves world.old (AnyEvent.Send task bytes.now) result world.new }
     ensures sent { OnOk result (UsesSlot world.old world.new) }
     ensures refused { OnErr result (world.new ≡ world.old) }
+    ensures to { OnOk result (TellsSent world.old task bytes.now sent_to.new) }
 
     // Memory is wanted only where the message could be sent, or isn't short.
     ensures wanted { IfErr result (λ code. code_number code ≡ msg_number SendNoBuffer → WantsToSend world.old task bytes.now) }
 {
-    send_text(world, alloc, task, bytes.as_slice())?;
+    *sent_to = send_text(world, alloc, task, bytes.as_slice())?;
     Ok(Reply::Code(MsgReturn::Success.number()))
 }
 
 /// Reads the text, judges its rights, and only then changes the tables.
-fn send_text(world: &mut World, alloc: Global, task: TaskId, bytes: &[u8]) -> Result<(), MsgReturn>
+fn send_text(
+    world: &mut World,
+    alloc: Global,
+    task: TaskId,
+    bytes: &[u8],
+) -> Result<Option<PortId>, MsgReturn>
     requires there { HasTask world.old task }
     requires stands { Stands world.old }
     ensures ok { IfOk result (λ _. SendsText world.old task bytes.now world.new) }
+    ensures to { IfOk result (λ to. TellsSent world.old task bytes.now to) }
     ensures err { IfErr result (λ code. Declines world.old (AnyEvent.Send task bytes.now) (msg_number code) world.old) }
     ensures refused { OnErr result (world.new ≡ world.old) }
     ensures wanted { IfErr result (λ code. msg_number code ≡ msg_number SendNoBuffer → WantsToSend world.old task bytes.now) }
@@ -67,17 +80,18 @@ fn send_plain(
     task: TaskId,
     plain: &Plain,
     bytes: &[u8],
-) -> Result<(), MsgReturn>
+) -> Result<Option<PortId>, MsgReturn>
     requires there { HasTask world.old task }
     requires stands { Stands world.old }
     requires parses { Parses bytes.now (parsed_plain plain.now) }
     ensures ok { IfOk result (λ _. SendsText world.old task bytes.now world.new) }
+    ensures to { IfOk result (λ to. TellsSent world.old task bytes.now to) }
     ensures err { IfErr result (λ code. Declines world.old (AnyEvent.Send task bytes.now) (msg_number code) world.old) }
     ensures refused { OnErr result (world.new ≡ world.old) }
     ensures wanted { IfErr result (λ code. msg_number code ≡ msg_number SendNoBuffer → WantsToSend world.old task bytes.now) }
 {
     match check_plain(world, alloc, task, plain, bytes) {
-        Ok(plan) => carry_out(world, plan),
+        Ok(plan) => carry_out(world, plan, false),
         Err(code) => Err(code),
     }
 }
@@ -88,10 +102,11 @@ fn send_carrying(
     alloc: Global,
     task: TaskId,
     bytes: &[u8],
-) -> Result<(), MsgReturn>
+) -> Result<Option<PortId>, MsgReturn>
     requires there { HasTask world.old task }
     requires stands { Stands world.old }
     ensures ok { IfOk result (λ _. SendsText world.old task bytes.now world.new) }
+    ensures to { IfOk result (λ to. TellsSent world.old task bytes.now to) }
     ensures err { IfErr result (λ code. Declines world.old (AnyEvent.Send task bytes.now) (msg_number code) world.old) }
     ensures refused { OnErr result (world.new ≡ world.old) }
     ensures wanted { IfErr result (λ code. msg_number code ≡ msg_number SendNoBuffer → WantsToSend world.old task bytes.now) }
@@ -109,28 +124,35 @@ fn send_request(
     task: TaskId,
     request: &Request,
     bytes: &[u8],
-) -> Result<(), MsgReturn>
+) -> Result<Option<PortId>, MsgReturn>
     requires there { HasTask world.old task }
     requires stands { Stands world.old }
     requires parses { Parses bytes.now (parsed_request request.now) }
     requires answered { request.now.local_kind ≢ 0 }
     ensures ok { IfOk result (λ _. SendsText world.old task bytes.now world.new) }
+    ensures to { IfOk result (λ to. TellsSent world.old task bytes.now to) }
     ensures err { IfErr result (λ code. Declines world.old (AnyEvent.Send task bytes.now) (msg_number code) world.old) }
     ensures refused { OnErr result (world.new ≡ world.old) }
     ensures wanted { IfErr result (λ code. msg_number code ≡ msg_number SendNoBuffer → WantsToSend world.old task bytes.now) }
 {
     match check_request(world, alloc, task, request, bytes) {
-        Ok(plan) => carry_out(world, plan),
+        Ok(plan) => carry_out(world, plan, false),
         Err(code) => Err(code),
     }
 }
 
 /// Sends what is neither of these: a message whose body is a list of items, of which many have one right and
 /// nothing else.
-fn send_items(world: &mut World, alloc: Global, task: TaskId, bytes: &[u8]) -> Result<(), MsgReturn>
+fn send_items(
+    world: &mut World,
+    alloc: Global,
+    task: TaskId,
+    bytes: &[u8],
+) -> Result<Option<PortId>, MsgReturn>
     requires there { HasTask world.old task }
     requires stands { Stands world.old }
     ensures ok { IfOk result (λ _. SendsText world.old task bytes.now world.new) }
+    ensures to { IfOk result (λ to. TellsSent world.old task bytes.now to) }
     ensures err { IfErr result (λ code. Declines world.old (AnyEvent.Send task bytes.now) (msg_number code) world.old) }
     ensures refused { OnErr result (world.new ≡ world.old) }
     ensures wanted { IfErr result (λ code. msg_number code ≡ msg_number SendNoBuffer → WantsToSend world.old task bytes.now) }
@@ -148,27 +170,34 @@ fn send_lone(
     task: TaskId,
     lone: &Lone,
     bytes: &[u8],
-) -> Result<(), MsgReturn>
+) -> Result<Option<PortId>, MsgReturn>
     requires there { HasTask world.old task }
     requires stands { Stands world.old }
     requires parses { Parses bytes.now (parsed_lone lone.now) }
     requires word { (p : Parses bytes.now (parsed_lone lone.now)) → body_words p.written ≡ lone.now.word ∷ [] }
     ensures ok { IfOk result (λ _. SendsText world.old task bytes.now world.new) }
+    ensures to { IfOk result (λ to. TellsSent world.old task bytes.now to) }
     ensures err { IfErr result (λ code. Declines world.old (AnyEvent.Send task bytes.now) (msg_number code) world.old) }
     ensures refused { OnErr result (world.new ≡ world.old) }
     ensures wanted { IfErr result (λ code. msg_number code ≡ msg_number SendNoBuffer → WantsToSend world.old task bytes.now) }
 {
     match check_lone(world, alloc, task, lone, bytes) {
-        Ok(plan) => carry_out(world, plan),
+        Ok(plan) => carry_out(world, plan, moves_receive(&lone.word)),
         Err(code) => Err(code),
     }
 }
 
 /// Sends a message, whatever it carries.
-fn send_any(world: &mut World, alloc: Global, task: TaskId, bytes: &[u8]) -> Result<(), MsgReturn>
+fn send_any(
+    world: &mut World,
+    alloc: Global,
+    task: TaskId,
+    bytes: &[u8],
+) -> Result<Option<PortId>, MsgReturn>
     requires there { HasTask world.old task }
     requires stands { Stands world.old }
     ensures ok { IfOk result (λ _. SendsText world.old task bytes.now world.new) }
+    ensures to { IfOk result (λ to. TellsSent world.old task bytes.now to) }
     ensures err { IfErr result (λ code. Declines world.old (AnyEvent.Send task bytes.now) (msg_number code) world.old) }
     ensures refused { OnErr result (world.new ≡ world.old) }
     ensures wanted { IfErr result (λ code. msg_number code ≡ msg_number SendNoBuffer → WantsToSend world.old task bytes.now) }
@@ -179,24 +208,59 @@ fn send_any(world: &mut World, alloc: Global, task: TaskId, bytes: &[u8]) -> Res
         Err(code) => return Err(code),
     };
     match check(world, alloc, task, &parsed, bytes) {
-        Ok(plan) => carry_out(world, plan),
+        Ok(plan) => {
+            let moves = any_moves_receive(plan.words.body.as_slice());
+            carry_out(world, plan, moves)
+        }
         Err(code) => Err(code),
     }
 }
 
-/// Makes the slots that the plan wants, and sends its message. `MACH_SEND_NO_BUFFER` where memory was
-/// refused for them; all is then as before.
+/// Makes the slots that the plan wants, and sends its message, whose body may move receive rights. Returns the
+/// port that it went to, where it moves none. `MACH_SEND_NO_BUFFER` where memory was refused for the slots; all
+/// is then as before.
 #[inline(always)]
-fn carry_out(world: &mut World, plan: Plan) -> Result<(), MsgReturn>
+fn carry_out(world: &mut World, plan: Plan, moves: bool) -> Result<Option<PortId>, MsgReturn>
     requires stands { Stands world.old }
     requires planned { (task : ℕ) × (bytes : List ℕ) × PlansText world.old task bytes plan }
+    requires moves { moves ≡ false → MovesNoReceive plan.words.body.items }
     ensures ok { IfOk result (λ _. (task : ℕ) (bytes : List ℕ) → PlansText world.old task bytes plan → SendsText world.old task bytes world.new) }
+    ensures to { IfOk result (λ to. GoesTo plan to) }
     ensures err { IfErr result (λ code. code ≡ SendNoBuffer) }
     ensures refused { OnErr result (world.new ≡ world.old) }
 {
     let Ok(()) = world.reserve_slots(plan.count_slots()) else {
         return Err(MsgReturn::SendNoBuffer);
     };
+    let to = plain_destination(&plan, moves);
     commit(world, plan);
-    Ok(())
+    Ok(to)
+}
+
+/// The port that the plan's message goes to, whose body may move receive rights; none where it does.
+#[inline(always)]
+fn plain_destination(plan: &Plan, moves: bool) -> Option<PortId>
+    requires { moves ≡ false → MovesNoReceive plan.now.words.body.items }
+    ensures { GoesTo plan.now result }
+{
+    if moves { None } else { Some(plan.port) }
+}
+
+/// Whether a receive right goes by one of the words.
+fn any_moves_receive(words: &[PortWord]) -> bool
+    ensures { OnFalse result (MovesNoReceive words.now) }
+{
+    for word in words {
+        if moves_receive(word) {
+            return true;
+        }
+    }
+    false
+}
+
+/// Whether a receive right goes by the word.
+fn moves_receive(word: &PortWord) -> bool
+    ensures { OnFalse result (word.now.disposition ≢ 16) }
+{
+    word.disposition == 16
 }

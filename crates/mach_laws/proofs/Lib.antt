@@ -32,3 +32,5 @@ mod OwedMeans
 mod Making
 mod Made
 mod Leaving
+pub mod Touching
+pub mod QuietEnd

@@ -28,3 +28,4 @@ pub mod Unanswered
 pub mod Senderless
 pub mod Deleting
 pub mod SendingAway
+pub mod Touching

@@ -1,7 +1,7 @@
 use Rattle.mach_types.specs.Codes.{msg_number}
 use Rattle.copyin_base.proofs.Tied.{stands_is_tied}
 use Rattle.kernel_core.specs.Send.{PlansText}
-use Rattle.kernel_core.proofs.Carrying.{carried, short_declined, short_wants}
+use Rattle.kernel_core.proofs.Carrying.{carried, goes, short_declined, short_wants}
 use Rattle.kernel_core.proofs.Sending.{text_declined, plan_declined}
 use Rattle.kernel_core.proofs.Wanting.{parse_wants, check_wants}
 use Rattle.kernel_core.proofs.send.send_any.Goals as goal
@@ -47,3 +47,9 @@ pub returns-clause-wanted : goal.returns-clause-wanted
 returns-clause-wanted c =
     let text = c.in-Ok.ensures.ok in
     check_wants c.args.world.now c.args.task c.args.bytes.now c.in-Ok.parsed text (msg_number c.in-Err-check.code) (c.in-Err-check.ensures.err text)
+
+pub returns-in-Ok-check-clause-to : goal.returns-in-Ok-check-clause-to
+returns-in-Ok-check-clause-to c =
+    let text = c.in-Ok.ensures.ok in
+    let p : PlansText c.args.world.now c.args.task c.args.bytes.now c.in-Ok-check.plan = record { parsed = c.in-Ok.parsed; text = text; is_plan = c.in-Ok-check.ensures.ok text } in
+    goes c.args.world.now c.args.task c.args.bytes.now c.in-Ok-check.plan p c.carry_out.result c.carry_out.ensures.to

@@ -1,8 +1,9 @@
+use Rattle.std.proofs.Common.{refl}
 use Rattle.mach_types.specs.Codes.{msg_number}
 use Rattle.message_codec.specs.Plain.{parsed_plain}
 use Rattle.copyin_base.proofs.Tied.{stands_is_tied}
 use Rattle.kernel_core.specs.Send.{PlansText}
-use Rattle.kernel_core.proofs.Carrying.{carried, short_declined, short_wants}
+use Rattle.kernel_core.proofs.Carrying.{carried, goes, raw_moves_none, short_declined, short_wants}
 use Rattle.kernel_core.proofs.Sending.{plan_declined}
 use Rattle.kernel_core.proofs.Wanting.{check_wants}
 use Rattle.kernel_core.proofs.send.send_plain.Goals as goal
@@ -42,3 +43,14 @@ pub returns-in-Err-clause-wanted : goal.returns-in-Err-clause-wanted
 returns-in-Err-clause-wanted c =
     let text = c.requires.parses in
     check_wants c.args.world.now c.args.task c.args.bytes.now (parsed_plain c.args.plain.now) text (msg_number c.in-Err.code) (c.in-Err.ensures.err text)
+
+pub returns-in-Ok-clause-to : goal.returns-in-Ok-clause-to
+returns-in-Ok-clause-to c =
+    let text = c.requires.parses in
+    let p : PlansText c.args.world.now c.args.task c.args.bytes.now c.in-Ok.plan = record { parsed = parsed_plain c.args.plain.now; text = text; is_plan = c.in-Ok.ensures.ok text } in
+    goes c.args.world.now c.args.task c.args.bytes.now c.in-Ok.plan p c.carry_out.result c.carry_out.ensures.to
+
+pub carry_out-requires-clause-moves : goal.carry_out-requires-clause-moves
+carry_out-requires-clause-moves c = λ is.
+    let text = c.requires.parses in
+    raw_moves_none c.args.world.now c.args.task c.args.bytes.now (parsed_plain c.args.plain.now) text c.in-Ok.plan (c.in-Ok.ensures.ok text) refl

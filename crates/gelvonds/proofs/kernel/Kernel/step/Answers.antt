@@ -14,6 +14,7 @@ returns-clause-step c =
       turns = c.step.ensures.turns;
       wanted = c.step.ensures.wanted;
       spares = c.step.ensures.spares;
+      touches = c.step.ensures.touches;
       unused_are = c.step.ensures.unused;
     })
 

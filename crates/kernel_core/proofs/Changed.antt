@@ -1,0 +1,345 @@
+-- What a kernel keeps of a step covers all that the machine's step changes of ports and sets.
+use Rattle.std.proofs.Common.{◌≡◌, ℕ, ◌<◌, ◌^◌, ◌%◌, List, [], ◌∷◌, Option, Some, None, refl, sym, ap, subst, ◌∙◌, arith, true, false, Bool, inl, inr, ◌⊎◌, length, is_some}
+use Rattle.std.specs.Prelude.{◌≢◌, ◌==◌, not, if◌then◌else◌, Contains, nat_lt, All}
+use Rattle.std.specs.FinMap as map
+use Rattle.std.specs.Option.{option_map, option_and_then, option_to_list}
+use Rattle.std.proofs.lemmas.List.Elements.{All-head, All-tail, All-cons, All-nil}
+use Rattle.std.proofs.lemmas.Bool.{and_parts, ltb-true}
+use Rattle.mach_types.specs.declared.calls.Event.{Event}
+use Rattle.mach_types.specs.declared.calls.Reply.{Reply}
+use Rattle.mach_types.specs.declared.calls.Waited.{Waited}
+use Rattle.mach_types.specs.declared.touched.Touched.{Touched}
+use Rattle.mach_types.specs.declared.touched.Touched.TheVariants.{All as Any}
+use Rattle.mach_types.specs.Touching.{Covers}
+use Rattle.mach_types.specs.Tokens.{Kind, Request, in_request, count}
+use Rattle.mach_types.specs.Grammar.{Header, WireBody, text, Spells}
+use Rattle.mach_types.specs.TextGuards.{word_at}
+use Rattle.mach_model.specs.State.{State, Names, Target, lookup, gives}
+use Rattle.mach_model.specs.Carried.{lying}
+use Rattle.mach_model.specs.Lawful.{IsLawful}
+use Rattle.mach_model.specs.Midway.{MidLawful}
+use Rattle.mach_model.specs.Acts.{Does}
+use Rattle.mach_model.specs.Names.{Makes}
+use Rattle.mach_model.specs.Notices.{Owed}
+use Rattle.mach_model.specs.Receive.{Receipt, Receives}
+use Rattle.mach_model.specs.Send.{Sends}
+use Rattle.mach_model.specs.Settles.{Settles}
+use Rattle.mach_model.proofs.Failing.{refusal_fails}
+use Rattle.mach_model.proofs.MessagesLawful.{first_byte}
+use Rattle.mach_model.proofs.Names.{at_own, get_own}
+use Rattle.mach_model.proofs.NamesLawful.{gives-lawful}
+use Rattle.mach_laws.specs.Touching.{TouchesOnly}
+use Rattle.mach_laws.proofs.QuietEnd.{IsQuietEnd, ends_quietly}
+use Rattle.mach_laws.proofs.Touching.{Keeps, Changes, keeps_same, keeps_by, changes_none, changes_end, touches, touches_before, gives_keeps, made_touches, set_changes, dead_keeps, IsOtherWord, SendsOthers, keeps_trans, sends_change, sends_alike, ReceivesOthers, receives_change, creates_keep, renames_keep, limit_changes}
+use Rattle.name_space.specs.declared.Entry.{Entry as Named}
+use Rattle.name_space.specs.declared.Entry.TheVariants as named
+use Rattle.name_space.specs.Entry.{port_named}
+use Rattle.port.specs.Ports.{PortView}
+use Rattle.message_codec.specs.declared.words.PortWord.{PortWord}
+use Rattle.copyin_base.specs.Kept.{Kept}
+use Rattle.copyin_base.specs.Posted.{with_posted}
+use Rattle.copyin_base.specs.Requests.{notify_of, rights_kept, rights_went}
+use Rattle.copyin_base.specs.Serving.{Completes, Declines}
+use Rattle.copyin_base.specs.Shows.{Agrees, Shows, target_of}
+use Rattle.copyin_base.specs.Worlds.{WorldView, entry_at, port_at, IsIdle}
+use Rattle.copyin_base.specs.Serving.{ShowsMid}
+use Rattle.message_codec.specs.Words.{body_words}
+use Rattle.mach_types.specs.Bodies.{body_words as machine_words}
+use Rattle.copyin.proofs.Copying.{pairs, body_pairs}
+use Rattle.copyin.proofs.Planning.{message, third, copied, none_receives}
+use Rattle.destroy.specs.Stages.{SettlesIn}
+use Rattle.kernel_core.specs.declared.change.Change.TheVariants as change
+use Rattle.kernel_core.specs.Changing.{few, port_under, set_of, with_set, touched_by, gives_none, by_message, by_receipt, by_send, change_of, Touches}
+use Rattle.kernel_core.specs.Send.{MovesNoReceive, SendsTo, TellsSent}
+
+-- ---- where nothing is left to do, the state midway and the one after are shown by the same tables
+
+module _ (w : WorldView) (mid t : State) (a : Agrees w mid) (b : Shows w t) (l : MidLawful mid []) (idle : IsIdle w) where
+  same_sets : (p : ℕ) (o : Option (PortView Kept)) → port_at w p ≡ o → t.sets_of p ≡ mid.sets_of p
+  same_sets p None is =
+      let c : mid.live_port p ≡ false = sym (a.live_port p) ∙ ap is_some is in
+      let d : t.live_port p ≡ false = sym (b.agrees.live_port p) ∙ ap is_some is in
+      b.lawful.no_sets p d ∙ sym (l.no_sets p c)
+  same_sets p (Some v) is = sym (b.agrees.ports p v is).sets ∙ (a.ports p v is).sets
+
+  none_by : (live : ℕ → Bool) (o : Option ℕ) (kind : Kind) (q : ℕ) → is_some o ≡ false → rights_kept live o kind q ≡ 0
+  none_by live None kind q e = refl
+  none_by live (Some n) kind q e = absurd (cc)
+
+  none_kept : (r : Request) → mid.stands r ≡ false → (kind : Kind) (q : ℕ) → lying mid kind q (in_request r) ≡ 0
+  none_kept r gone kind q =
+      let kept = a.kept r kind q in
+      let none = none_by mid.live_port (notify_of w.requests r) kind q (sym (a.standing r) ∙ gone) in
+      let went : rights_went mid.live_port w.requests.names.went r kind q ≡ 0 = rw idle.went refl in
+      omega (arith, kept, none, went)
+
+  pub quiet_end : IsQuietEnd mid t
+  quiet_end = record {
+    live = λ p. sym (b.agrees.live_port p) ∙ a.live_port p;
+    sets = λ p. same_sets p (port_at w p) refl;
+    stands = λ r. b.agrees.standing r ∙ sym (a.standing r);
+    kept = none_kept;
+  }
+
+-- ---- what is covered
+
+-- After a quiet end this is all that the step changed; it owed nothing.
+abbrev OwnTouches : (s mid : State) → Owed → Touched → Type 0
+OwnTouches s mid owed touched = (touched ≡ Any) ⊎ (owed ≡ []) × ((t : State) → Keeps mid t → TouchesOnly s t touched)
+
+pub touches_all : (s t : State) → TouchesOnly s t Any
+touches_all s t = record { ports = λ p not. absurd (not tt); sets = λ set there not. absurd (not tt) }
+
+none_some : {A : Type 0} (x : A) → None ≡ Some x → ⊥
+none_some x e = cc
+
+one_some : {A : Type 0} (x y : A) → Some x ≡ Some y → x ≡ y
+one_some x y e = cc
+
+-- nothing that is waited for has changed
+unchanged : (s mid : State) (owed : Owed) (touched : Touched) → Changes s mid None None → owed ≡ [] → OwnTouches s mid owed touched
+unchanged s mid owed touched c none = inr (
+  none,
+  λ t k.
+      touches s t None None touched (changes_end s mid t None None c k) (λ p e. absurd (none_some p e)) (λ p e. absurd (none_some p e)) (λ p set e. absurd (none_some p e)),
+)
+
+kept_all : (s mid : State) (owed : Owed) (touched : Touched) → Keeps s mid → owed ≡ [] → OwnTouches s mid owed touched
+kept_all s mid owed touched k none = unchanged s mid owed touched (changes_none s mid None None k) none
+
+-- a name for a port stands for it in the tables
+named_port : (o : Option Named) (p : ℕ) → Some (Target.port p) ≡ option_map target_of o → option_and_then port_named o ≡ Some p
+named_port None p e = cc
+named_port (Some (named.Receive q)) p e = grind arith
+named_port (Some (named.Send q n)) p e = grind arith
+named_port (Some (named.ReceiveAndSend q n)) p e = grind arith
+named_port (Some (named.SendOnce q)) p e = cc
+named_port (Some (named.DeadName n)) p e = cc
+named_port (Some (named.Set set)) p e = cc
+
+module _ (w : WorldView) (mid : State) (a : Agrees w mid) where
+  under : (task name p : ℕ) → lookup mid task name ≡ Some (Target.port p) → port_under w task name ≡ Some p
+  under task name p is = named_port (entry_at w task name) p (sym is ∙ a.naming task name)
+
+  covers_port : (p : ℕ) → Covers (with_set w (Some p)) (Waited.Port p)
+  covers_port p = (0, omega arith, refl)
+
+  covers_alone : (o : Option ℕ) (p : ℕ) → o ≡ Some p → Covers (few (option_map Waited.Port o) None) (Waited.Port p)
+  covers_alone o p e = rw e (0, omega arith, refl)
+
+  covers_set : (l : MidLawful mid []) (p set : ℕ) → Contains (mid.sets_of p) set → Covers (with_set w (Some p)) (Waited.Set set)
+  covers_set l p set in_it = go (port_at w p) refl
+    where
+      in_one : (o : Option ℕ) → Contains (option_to_list o) set → o ≡ Some set
+      in_one None (i, below, is) = absurd (omega (arith, below))
+      in_one (Some x) one = grind arith
+
+      none_in : Contains [] set → ⊥
+      none_in (i, below, is) = omega (arith, below)
+
+      go : (o : Option (PortView Kept)) → port_at w p ≡ o → Covers (with_set w (Some p)) (Waited.Set set)
+      go None is = absurd (none_in (subst (λ (xs : List ℕ). Contains xs set) (l.no_sets p (sym (a.live_port p) ∙ ap is_some is)) in_it))
+      go (Some v) is =
+          let e : v.attributes.set ≡ Some set = in_one v.attributes.set (subst (λ (xs : List ℕ). Contains xs set) (sym (a.ports p v is).sets) in_it) in
+          let f : set_of w p ≡ Some set = ap (option_and_then (λ (x : PortView Kept). x.attributes.set)) is ∙ e in
+          rw f (1, omega arith, refl)
+
+  -- the queue of one port has changed
+  queue_changed : (s : State) (owed : Owed) (p : ℕ) → MidLawful mid [] → Changes s mid (Some p) None → owed ≡ [] → OwnTouches s mid owed (with_set w (Some p))
+  queue_changed s owed p l c none = inr (
+    none,
+    λ t k.
+        touches s t (Some p) None (with_set w (Some p)) (changes_end s mid t (Some p) None c k)
+        (λ q e. subst (λ (x : ℕ). Covers (with_set w (Some p)) (Waited.Port x)) (one_some p q e) (covers_port p))
+        (λ q e. absurd (none_some q e))
+        (λ q set e in_it.
+        let own : Contains (s.sets_of p) set = subst (λ (x : ℕ). Contains (s.sets_of x) set) (sym (one_some p q e)) in_it in
+        covers_set l p set (subst (λ (xs : List ℕ). Contains xs set) (sym (c.sets p)) own)),
+  )
+
+  -- the limit of one port has
+  limit_changed : (s : State) (owed : Owed) (task name p : ℕ) → Changes s mid None (Some p) → lookup mid task name ≡ Some (Target.port p) → owed ≡ [] → OwnTouches s mid owed (touched_by w (change.PortNamed task name))
+  limit_changed s owed task name p c found none = inr (
+    none,
+    λ t k.
+        touches s t None (Some p) (touched_by w (change.PortNamed task name)) (changes_end s mid t None (Some p) c k)
+        (λ q e. absurd (none_some q e))
+        (λ q e. covers_alone (port_under w task name) q (under task name p found ∙ e))
+        (λ q set e. absurd (none_some q e)),
+  )
+
+  -- ---- a receipt
+
+  bits_of : (h : Header) (v : WireBody) → h.remote_kind < 2 ^ 8 → h.local_kind < 2 ^ 8 → word_at (text h v) 0 < 2 ^ 31 → (bytes : List ℕ) × (v ≡ WireBody.raw bytes)
+  bits_of h (WireBody.raw bytes) x y few = (bytes, refl)
+  bits_of h (WireBody.items xs) x y few = absurd (omega (arith, few))
+
+  local_of : (h : Header) (v : WireBody) → h.local < 2 ^ 32 → word_at (text h v) 12 ≡ h.local
+  local_of h (WireBody.raw bytes) fits = omega arith
+  local_of h (WireBody.items xs) fits = omega arith
+
+  gives_others : (bytes : List ℕ) (h : Header) (v : WireBody) → Spells bytes h v → gives_none bytes ≡ true → ReceivesOthers h v
+  gives_others bytes h v spells is =
+      let both = and_parts (nat_lt 23 (length bytes)) _ is in
+      let parts = and_parts (nat_lt (word_at bytes 0) (2 ^ 31)) (not (word_at bytes 0 % 2 ^ 8 == 16)) both.1 in
+      let small : word_at bytes 0 < 2 ^ 31 = ltb-true (word_at bytes 0) (2 ^ 31) parts.0 in
+      let first : word_at bytes 0 % 2 ^ 8 ≡ h.remote_kind = ap (λ (bs : List ℕ). word_at bs 0 % 2 ^ 8) spells.is_text ∙ first_byte h v spells.header_fits.remote_kind spells.header_fits.local_kind in
+      let raw = bits_of h v spells.header_fits.remote_kind spells.header_fits.local_kind (subst (λ (bs : List ℕ). word_at bs 0 < 2 ^ 31) spells.is_text small) in
+      record { reply = λ e. (let f = parts.1 in let g = first ∙ e in differs (word_at bytes 0 % 2 ^ 8) g f); bytes = raw.0; simple = raw.1 }
+    where
+      differs : (n : ℕ) → n ≡ 16 → not (n == 16) ≡ true → ⊥
+      differs n e f = grind arith
+
+  message_received : (s : State) (owed : Owed) (task port room : ℕ) (bytes : List ℕ) → IsLawful s → MidLawful mid [] → Receives task port room bytes s mid → owed ≡ [] → OwnTouches s mid owed (touched_by w (by_message task bytes))
+  message_received s owed task port room bytes l m r none = go (gives_none bytes) refl
+    where
+      local : word_at bytes 12 ≡ r.header.local
+      local = ap (λ (bs : List ℕ). word_at bs 12) r.spells.is_text ∙ local_of r.header r.written r.spells.header_fits.local
+
+      found : port_under w task (word_at bytes 12) ≡ Some port
+      found = ap (port_under w task) local ∙ under task r.header.local port r.local
+
+      go : (b : Bool) → gives_none bytes ≡ b → OwnTouches s mid owed (touched_by w (if b then change.QueueNamed task (word_at bytes 12) else change.Any))
+      go false is = inl refl
+      go true is = rw found (queue_changed s owed port m (receives_change task port room bytes s mid l r (gives_others bytes r.header r.written r.spells is)) none)
+
+-- ---- a send
+
+others_in : (ws : List PortWord) → MovesNoReceive ws → All IsOtherWord (pairs ws)
+others_in [] none = All-nil IsOtherWord
+others_in (w ∷ ws) none =
+    All-cons IsOtherWord (w.disposition, w.name) (pairs ws) (All-head (λ (x : PortWord). x.disposition ≢ 16) w ws none) (others_in ws (All-tail (λ (x : PortWord). x.disposition ≢ 16) w ws none))
+
+module _ (now : ℕ) (old w : WorldView) (s mid : State) (owed : Owed) (sh : Shows old s) (shown : ShowsMid now old w mid owed) where
+  agree : owed ≡ [] → Agrees w mid
+  agree none = subst (λ (o : Owed). Agrees w (with_posted now mid o)) none shown.agrees
+
+  law : owed ≡ [] → MidLawful mid []
+  law none = subst (MidLawful mid) none shown.lawful
+
+  message_sent : (task port : ℕ) (bytes : List ℕ) → Sends now task bytes s mid → owed ≡ [] → SendsTo old task bytes port → OwnTouches s mid owed (with_set w (Some port))
+  message_sent task port bytes x none q =
+      let p = q.planned in
+      let j = p.is_plan.plans.judged in
+      let y : Sends now task bytes s _ = record {
+        header = p.text.header;
+        written = p.text.written;
+        spells = p.text.message.spells;
+        m = message old s sh task bytes p.parsed p.text j;
+        copied_state = (third old s sh task bytes p.parsed p.text j).t;
+        copied = copied old s sh task bytes p.parsed p.text j;
+        rest = refl;
+      } in
+      let same = sends_alike now task bytes s mid _ sh.lawful x y in
+      let to : x.m.destination ≡ port = same.0 ∙ sym p.is_plan.port ∙ q.goes.0 in
+      let moved = none_receives old s sh task bytes p.parsed p.text j in
+      let body : All IsOtherWord (machine_words p.text.written) = subst (All IsOtherWord) (body_pairs p.text.written) (others_in (body_words p.text.written) (subst MovesNoReceive p.is_plan.words.body q.goes.1)) in
+      let others : SendsOthers x.header x.written =
+      subst (λ (h : Header). SendsOthers h x.written) (sym same.1) (subst (λ (v : WireBody). SendsOthers p.text.header v) (sym same.2) (record { destination = moved.remote; reply = moved.local; body = body })) in
+      queue_changed w mid (agree none) s owed port (law none) (subst (λ (o : ℕ). Changes s mid (Some o) None) to (sends_change now task bytes s mid x others)) none
+
+  sent_own : (task : ℕ) (bytes : List ℕ) (sent : Option ℕ) → Sends now task bytes s mid → owed ≡ [] → TellsSent old task bytes sent → OwnTouches s mid owed (touched_by w (by_send sent))
+  sent_own task bytes None x none told = inl refl
+  sent_own task bytes (Some port) x none told = message_sent task port bytes x none told
+
+  -- ---- a receipt
+
+  receipt_own : (task : ℕ) (waited : Waited) (room : ℕ) (large : Bool) (reply : Reply) → Receipt s task waited room large reply mid owed → OwnTouches s mid owed (touched_by w (by_receipt task large reply))
+  receipt_own task waited room large (Reply.Message bytes) (p, from, r, none) = message_received w mid (agree none) s owed task p room bytes sh.lawful (law none) r none
+  receipt_own task waited room large (Reply.Empty told) (is, empty, same, none) = kept_all s mid owed _ (keeps_same s mid same) none
+  receipt_own task waited room true (Reply.TooLarge n) (p, e, from, front, is, over, what) = kept_all s mid owed _ (keeps_same s mid what.0) what.1
+  receipt_own task waited room false (Reply.TooLarge n) x = inl refl
+  receipt_own task waited room large reply x = absurd x
+
+  -- ---- something is made under a name
+
+  made_own : (task right name : ℕ) (x : State) → Keeps s x → IsLawful x → Makes task right name x mid → owed ≡ [] → OwnTouches s mid owed (touched_by w (change.PortNamed task name))
+  made_own task right name x k l (inl (is, a)) none =
+      let found : lookup mid task name ≡ Some (Target.port x.ports_made) =
+      ap (λ (y : State). lookup y task name) a.rest
+      ∙ ap (λ (m : Names). map.get m name) (at_own x.naming task (map.insert (x.naming task) name (Target.port x.ports_made))) ∙ get_own (x.naming task) name (Target.port x.ports_made) in
+      inr (none, λ t e. touches_before s x t _ k (made_touches task name x mid t _ l a e (covers_alone w mid (agree none) (port_under w task name) x.ports_made (under w mid (agree none) task name x.ports_made found))))
+  made_own task right name x k l (inr (inl (is, e))) none =
+      inr (
+        none,
+        λ t end. touches_before s x t _ k
+            (touches x t None None _ (changes_end x mid t None None (set_changes task name x mid l e) end) (λ p f. absurd (none_some p f)) (λ p f. absurd (none_some p f)) (λ p set f. absurd (none_some p f))),
+      )
+  made_own task right name x k l (inr (inr (is, e))) none = kept_all s mid owed _ (keeps_trans s x mid k (dead_keeps task name 1 x mid e)) none
+
+  -- ---- each call
+
+  pub own : (event : Event) (reply : Reply) (sent : Option ℕ) → Does now s event reply mid owed → ((task : ℕ) (bytes : List ℕ) → event ≡ Event.Send task bytes → TellsSent old task bytes sent) →
+      OwnTouches s mid owed (touched_by w (change_of event reply sent))
+  own Event.TaskCreate (Reply.Task task) sent d told = kept_all s mid owed _ (creates_keep s task mid d.0) d.1
+  own (Event.GetRefs task name right) (Reply.Refs n) sent d told = kept_all s mid owed _ (keeps_same s mid d.0) d.1
+  own (Event.NameType task name) (Reply.NameType n) sent d told = kept_all s mid owed _ (keeps_same s mid d.0) d.1
+  own (Event.Names task) (Reply.Names entries) sent d told = kept_all s mid owed _ (keeps_same s mid d.0) d.1
+  own (Event.ReceiveStatus task name) (Reply.Status status) sent d told = kept_all s mid owed _ (keeps_same s mid d.0) d.1
+  own (Event.SetStatus task name) (Reply.Members members) sent d told = kept_all s mid owed _ (keeps_same s mid d.0) d.1
+  own (Event.Rename task o n) (Reply.Code code) sent d told = kept_all s mid owed _ (renames_keep task o n s mid d.1) d.2
+  own (Event.SetMscount task name n) (Reply.Code code) sent d told =
+      kept_all s mid owed _ (keeps_by s mid _ d.2.3 (λ p. refl) (λ p. refl) (λ p. refl) (λ p. refl) (λ p. refl) (λ set. refl) (λ test is. ap (λ (x : State). count test x.ledger) d.2.3)) d.3
+  own (Event.SetSeqno task name n) (Reply.Code code) sent d told =
+      kept_all s mid owed _ (keeps_by s mid _ d.2.3 (λ p. refl) (λ p. refl) (λ p. refl) (λ p. refl) (λ p. refl) (λ set. refl) (λ test is. ap (λ (x : State). count test x.ledger) d.2.3)) d.3
+  own (Event.SetQlimit task name n) (Reply.Code code) sent d told =
+      limit_changed w mid (agree d.2) s owed task name d.1.0 (limit_changes s mid d.1.0 n d.1.3) (ap (λ (x : State). lookup x task name) d.1.3 ∙ d.1.1) d.2
+  own (Event.Allocate task right) (Reply.Name name) sent d told = made_own task right name (gives task name s) (gives_keeps task name s) (gives-lawful task name s sh.lawful) d.1 d.2
+  own (Event.AllocateName task right name) (Reply.Name to) sent d told =
+      made_own task right to s (keeps_same s s refl) sh.lawful (subst (λ (n : ℕ). Makes task right n s mid) (sym d.0) d.1) d.2
+  own (Event.Send task bytes) (Reply.Code code) sent d told = sent_own task bytes sent d.1 d.2 (told task bytes refl)
+  own (Event.Receive task name room large) reply sent (waited, waits, receipt) told = receipt_own task waited room large reply receipt
+  own (Event.ReceiveAgain task waited room large) reply sent receipt told = receipt_own task waited room large reply receipt
+  own (Event.TaskTerminate task) reply sent d told = inl refl
+  own (Event.Deallocate task name) reply sent d told = inl refl
+  own (Event.Destroy task name) reply sent d told = inl refl
+  own (Event.ModRefs task name right delta) reply sent d told = inl refl
+  own (Event.MoveMember task member after) reply sent d told = inl refl
+  own (Event.InsertMember task member set) reply sent d told = inl refl
+  own (Event.ExtractMember task member set) reply sent d told = inl refl
+  own (Event.InsertRight task name from poly number) reply sent d told = inl refl
+  own (Event.ExtractRight task name number to) reply sent d told = inl refl
+  own (Event.RequestNotification task name variant sync notify number) reply sent d told = inl refl
+  own event reply sent d told = absurd d
+
+-- ---- the step
+
+module _ (old w new : WorldView) (event : Event) (reply : Reply) (turns : ℕ) (acts : Completes old event reply w) (settles : SettlesIn w turns new) where
+  pub all_touched : Touches old event reply new Any
+  all_touched = λ now s sh.
+      let d = acts.acts now s sh in
+      let e = settles now old s d.mid d.owed sh d.shows in
+      (e.0, inr (record { performed = record { mid = d.mid; owed = d.owed; does = d.does; settles = e.1 }; unrefused = d.unrefused; judged = d.judged }), e.2, touches_all s e.0)
+
+  pub few_touched : (sent : Option ℕ) → ((task : ℕ) (bytes : List ℕ) → event ≡ Event.Send task bytes → TellsSent old task bytes sent) → IsIdle w → new ≡ w → Touches old event reply new (touched_by new (change_of event reply sent))
+  few_touched sent told idle same = λ now s sh.
+      let d = acts.acts now s sh in
+      let e = settles now old s d.mid d.owed sh d.shows in
+      let here : Shows w e.0 = subst (λ (x : WorldView). Shows x e.0) same e.2 in
+      let ends : (none : d.owed ≡ []) → Keeps d.mid e.0 = λ none.
+      let l = law now old w s d.mid d.owed sh d.shows none in
+      ends_quietly now s d.mid e.0 l (quiet_end w d.mid e.0 (agree now old w s d.mid d.owed sh d.shows none) here l idle) (subst (λ (o : Owed). Settles now s d.mid o e.0) none e.1) in
+      let only : TouchesOnly s e.0 (touched_by w (change_of event reply sent)) = by (own now old w s d.mid d.owed sh d.shows event reply sent d.does told) ends in (
+        e.0,
+        inr (record { performed = record { mid = d.mid; owed = d.owed; does = d.does; settles = e.1 }; unrefused = d.unrefused; judged = d.judged }),
+        e.2,
+        subst (λ (x : WorldView). TouchesOnly s e.0 (touched_by x (change_of event reply sent))) (sym same) only,
+      )
+    where
+      by : {s mid t : State} {owed : Owed} {touched : Touched} → OwnTouches s mid owed touched → ((none : owed ≡ []) → Keeps mid t) → TouchesOnly s t touched
+      by {s} {mid} {t} {owed} {touched} (inl all) ends = subst (TouchesOnly s t) (sym all) (touches_all s t)
+      by {s} {mid} {t} {owed} {touched} (inr (none, only)) ends = only t (ends none)
+
+  pub touched_after : (sent : Option ℕ) → ((task : ℕ) (bytes : List ℕ) → event ≡ Event.Send task bytes → TellsSent old task bytes sent) → (is_quiet : Bool) → (is_quiet ≡ true → IsIdle w × (new ≡ w)) →
+      Touches old event reply new (touched_by new (if is_quiet then change_of event reply sent else change.Any))
+  touched_after sent told false quiet = all_touched
+  touched_after sent told true quiet = let q = quiet refl in few_touched sent told q.0 q.1
+
+-- a refusal changes nothing
+pub none_touched : (old new : WorldView) (event : Event) (code : ℕ) → Declines old event code new → Touches old event (Reply.Code code) new (few None None)
+none_touched old new event code d = λ now s sh. (
+  s,
+  inl (record { declined = record { code = code; failed = refusal_fails s event code (d.refuses s sh); told = refl; same = refl }; refuses = d.refuses s sh }),
+  d.shows s sh,
+  touches s s None None (few None None) (changes_none s s None None (keeps_same s s refl)) (λ p e. absurd (none_some p e)) (λ p e. absurd (none_some p e)) (λ p set e. absurd (none_some p e)),
+)

@@ -1,0 +1,93 @@
+-- What a step changed of ports and port sets, as the kernel keeps it, and what that is once it is asked for.
+use Rattle.std.specs.Prelude.{ℕ, ◌^◌, ◌%◌, Bool, List, [], ◌∷◌, length, Option, Some, None, if◌then◌else◌, ◌==◌, ◌&&◌, not, nat_lt}
+use Rattle.std.specs.Option.{option_and_then, option_map}
+use Rattle.mach_types.specs.declared.calls.Event.{Event}
+use Rattle.mach_types.specs.declared.calls.Reply.{Reply}
+use Rattle.mach_types.specs.declared.calls.Waited.{Waited}
+use Rattle.mach_types.specs.declared.touched.Touched.{Touched}
+use Rattle.mach_types.specs.declared.touched.Touched.TheVariants.{Few, All}
+use Rattle.mach_types.specs.TextGuards.{word_at}
+use Rattle.mach_model.specs.State.{State}
+use Rattle.mach_model.specs.Machine.{Step}
+use Rattle.mach_laws.specs.Touching.{TouchesOnly}
+use Rattle.name_space.specs.Entry.{port_named}
+use Rattle.port.specs.Ports.{PortView}
+use Rattle.copyin_base.specs.Kept.{Kept}
+use Rattle.copyin_base.specs.Shows.{Shows}
+use Rattle.copyin_base.specs.Worlds.{WorldView, entry_at, port_at}
+use Rattle.kernel_core.specs.declared.change.Change.{Change}
+use Rattle.kernel_core.specs.declared.change.Change.TheVariants.{Nothing, PortNamed, Queue, QueueNamed, Any}
+
+-- ---- what it is
+
+abbrev pub few : (a b : Option Waited) → Touched
+few a b = Few (a ∷ b ∷ None ∷ None ∷ [])
+
+-- the port that stands under the name
+abbrev pub port_under : WorldView → (task name : ℕ) → Option ℕ
+port_under w task name = option_and_then port_named (entry_at w task name)
+
+-- the set that the port is in
+abbrev pub set_of : WorldView → (port : ℕ) → Option ℕ
+set_of w p = option_and_then (λ (v : PortView Kept). v.attributes.set) (port_at w p)
+
+-- a port, and its set, whose queue has changed with the port's
+abbrev pub with_set : WorldView → Option ℕ → Touched
+with_set w (Some p) = few (Some (Waited.Port p)) (option_map Waited.Set (set_of w p))
+with_set w None = few None None
+
+abbrev pub touched_by : WorldView → Change → Touched
+touched_by w Nothing = few None None
+touched_by w (PortNamed task name) = few (option_map Waited.Port (port_under w task name)) None
+touched_by w (Queue port) = with_set w (Some port)
+touched_by w (QueueNamed task name) = with_set w (port_under w task name)
+touched_by w Any = All
+
+-- ---- which it is, where the end of the step had nothing to do
+
+-- the text of a message that gives no receive right: its body is no list of items
+abbrev pub gives_none : List ℕ → Bool
+gives_none bytes = nat_lt 23 (length bytes) && (nat_lt (word_at bytes 0) (2 ^ 31) && not (word_at bytes 0 % 2 ^ 8 == 16))
+
+abbrev pub by_message : (task : ℕ) → List ℕ → Change
+by_message task bytes = if gives_none bytes then QueueNamed task (word_at bytes 12) else Any
+
+abbrev pub by_receipt : (task : ℕ) → (large : Bool) → Reply → Change
+by_receipt task large (Reply.Message bytes) = by_message task bytes
+by_receipt task large (Reply.Empty waited) = Nothing
+by_receipt task large (Reply.TooLarge n) = if large then Nothing else Any
+by_receipt task large reply = Any
+
+abbrev pub by_making : (task : ℕ) → Reply → Change
+by_making task (Reply.Name name) = PortNamed task name
+by_making task reply = Any
+
+abbrev pub by_send : Option ℕ → Change
+by_send (Some port) = Queue port
+by_send None = Any
+
+-- what the call changed; of a send, the port is told that it went to, where no receive right went along
+abbrev pub change_of : Event → Reply → (sent : Option ℕ) → Change
+change_of Event.TaskCreate reply sent = Nothing
+change_of (Event.GetRefs task name right) reply sent = Nothing
+change_of (Event.NameType task name) reply sent = Nothing
+change_of (Event.Names task) reply sent = Nothing
+change_of (Event.Rename task from to) reply sent = Nothing
+change_of (Event.ReceiveStatus task name) reply sent = Nothing
+change_of (Event.SetStatus task name) reply sent = Nothing
+change_of (Event.SetMscount task name n) reply sent = Nothing
+change_of (Event.SetSeqno task name n) reply sent = Nothing
+change_of (Event.SetQlimit task name n) reply sent = PortNamed task name
+change_of (Event.Allocate task right) reply sent = by_making task reply
+change_of (Event.AllocateName task right name) reply sent = by_making task reply
+change_of (Event.Send task bytes) reply sent = by_send sent
+change_of (Event.Receive task name room large) reply sent = by_receipt task large reply
+change_of (Event.ReceiveAgain task waited room large) reply sent = by_receipt task large reply
+change_of event reply sent = Any
+
+-- ---- what a step promises of it
+
+-- From each state that the tables show before, a step of the machine with this event and reply leads to one that they show after, and changes what is
+-- covered alone.
+abbrev pub Touches : (old : WorldView) → Event → Reply → (new : WorldView) → Touched → Type 0
+Touches old event reply new touched = (now : ℕ) (s : State) → Shows old s → (t : State) × Step now s event reply t × Shows new t × TouchesOnly s t touched

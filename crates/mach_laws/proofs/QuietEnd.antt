@@ -1,0 +1,94 @@
+-- A step's end that has nothing to do leaves each port and each set as the step's own part left it.
+use Rattle.std.proofs.Common.{◌≡◌, ℕ, ◌<◌, ◌≤◌, List, [], ◌∷◌, ◌++◌, refl, sym, ap, ◌∙◌, arith, false, Bool, inl, inr, length, All}
+use Rattle.std.specs.Prelude.{if◌then◌else◌, ◌==◌, map as list_map, filter}
+use Rattle.std.proofs.lemmas.List.{append-nil}
+use Rattle.std.proofs.lemmas.List.Elements.{All-head}
+use Rattle.std.proofs.lemmas.Bool.{true_from_ne_false}
+use Rattle.mach_types.specs.Tokens.{Kind, Request, Place, in_task, in_message, in_request, Token, count}
+use Rattle.mach_types.specs.Messages.{Entry}
+use Rattle.mach_model.specs.State.{State}
+use Rattle.mach_model.specs.Carried.{lying}
+use Rattle.mach_model.specs.Midway.{MidLawful}
+use Rattle.mach_model.specs.Notices.{Notice, Posted, all_posted_tokens}
+use Rattle.mach_model.specs.Settles.{PlaceStays, PaysFor, GoesFrom, tokens_of, Settles}
+use Rattle.mach_model.proofs.Names.{lying_le_of}
+use Rattle.mach_model.proofs.Settling.{own_test}
+use Rattle.mach_laws.proofs.Touching.{Keeps}
+
+none_mapped : {A B : Type 0} (f : A → B) (xs : List A) → list_map f xs ≡ [] → xs ≡ []
+none_mapped f [] e = refl
+none_mapped f (x ∷ xs) e = absurd (cc)
+
+none_long : {A : Type 0} (xs : List A) → length xs ≡ 0 → xs ≡ []
+none_long [] e = refl
+none_long (x ∷ xs) e = absurd (omega arith)
+
+-- The same ports live, with the same sets, and the same requests stand. No right lies with a request that doesn't stand.
+pub record IsQuietEnd (mid new : State) : Type 0 where
+  pub live : (p : ℕ) → new.live_port p ≡ mid.live_port p
+  pub sets : (p : ℕ) → new.sets_of p ≡ mid.sets_of p
+  pub stands : (r : Request) → new.stands r ≡ mid.stands r
+  pub kept : (r : Request) → mid.stands r ≡ false → (kind : Kind) (q : ℕ) → lying mid kind q (in_request r) ≡ 0
+
+module _ (now : ℕ) (old mid new : State) (l : MidLawful mid []) (quiet : IsQuietEnd mid new) (s : Settles now old mid [] new) where
+  stays : (kind : Kind) (q : ℕ) (place : Place) → 0 < lying mid kind q place → PlaceStays new place
+  stays kind q (in_task t) some = tt
+  stays kind q (in_message p k) some = quiet.live p ∙ true_from_ne_false (mid.live_port p) (λ e. let z = l.gone p k (inr e) kind q in omega (arith, some, z))
+  stays kind q (in_request r) some = quiet.stands r ∙ true_from_ne_false (mid.stands r) (λ e. let z = quiet.kept r e kind q in omega (arith, some, z))
+
+  head_lies : (x : Token) (xs : List Token) → ((test : Token → Bool) → count test (x ∷ xs) ≤ count test mid.ledger) → 0 < lying mid x.kind x.port x.place
+  head_lies x xs le = grind (arith, own_test)
+
+  none_pays : (xs : List (Token × Notice)) → All (λ x. PaysFor mid new x.0 x.1) xs → ((test : Token → Bool) → count test (tokens_of xs) ≤ count test mid.ledger) → xs ≡ []
+  none_pays [] all le = refl
+  none_pays (x ∷ xs) all le = absurd ((All-head (λ (y : Token × Notice). PaysFor mid new y.0 y.1) x xs all).2 (stays x.0.kind x.0.port x.0.place (head_lies x.0 (tokens_of xs) le)))
+
+  none_goes : (xs : List Token) → All (GoesFrom new) xs → ((test : Token → Bool) → count test xs ≤ count test mid.ledger) → xs ≡ []
+  none_goes [] all le = refl
+  none_goes (x ∷ xs) all le = absurd (left (All-head (GoesFrom new) x xs all))
+    where
+      some : 0 < lying mid x.kind x.port x.place
+      some = head_lies x xs le
+
+      left : GoesFrom new x → ⊥
+      left (inl dead) =
+          let gone : mid.live_port x.port ≡ false = sym (quiet.live x.port) ∙ dead in
+          let z = l.no_rights x.port gone x.kind in
+          let more = lying_le_of mid x.kind x.port x.place in
+          omega (arith, some, z, more)
+      left (inr h) = h.1 (stays x.kind x.port x.place some)
+
+  none_paying : s.rights.paying ≡ []
+  none_paying = none_pays s.rights.paying s.rights.pay (λ test. let e = s.rights.parts (λ x. if test x then 1 else 0) in omega (arith, e))
+
+  none_going : s.rights.going ≡ []
+  none_going = none_goes s.rights.going s.rights.go (λ test. let e = s.rights.parts (λ x. if test x then 1 else 0) in omega (arith, e))
+
+  none_posted : s.notices.posted ≡ []
+  none_posted = grind (arith, none_mapped, none_paying)
+
+  same_log : (p : ℕ) → new.log p ≡ mid.log p
+  same_log p =
+      let h = s.notices.logs p in
+      let e : h.0 ≡ [] = none_long h.0 (h.2 ∙ ap (λ (xs : List Posted). length (filter (λ (x : Posted). x.port == p) xs)) none_posted) in
+      h.1 ∙ ap (λ (xs : List Entry). mid.log p ++ xs) e ∙ append-nil (mid.log p)
+
+  same_rights : (test : Token → Bool) → count test new.ledger ≡ count test mid.ledger
+  same_rights test =
+      let parts = s.rights.parts (λ x. if test x then 1 else 0) in
+      let kept = s.notices.ledger (λ x. if test x then 1 else 0) in
+      let a = ap (λ (xs : List (Token × Notice)). count test (tokens_of xs)) none_paying in
+      let b = ap (count test) none_going in
+      let c = ap (λ (xs : List Posted). count test (all_posted_tokens xs)) none_posted in
+      omega (arith, parts, kept, a, b, c)
+
+  pub ends_quietly : Keeps mid new
+  ends_quietly = record {
+    live = quiet.live;
+    log = same_log;
+    taken = λ p. ap (λ (x : State). x.taken p) s.rest;
+    limit = λ p. ap (λ (x : State). x.limit p) s.rest;
+    sets = quiet.sets;
+    owner = λ set. ap (λ (x : State). x.set_owner set) s.rest;
+    receives = λ test is. same_rights test;
+  }
