@@ -9,6 +9,7 @@ use Rattle.kernel_lock.specs.declared.entry.Entry.{Entry}
 use Rattle.mach_types.specs.declared.profiles.Profile.{Profile}
 use Rattle.mach_types.specs.declared.calls.Event.{Event}
 use Rattle.mach_types.specs.declared.calls.Reply.{Reply}
+use Rattle.mach_types.specs.declared.touched.Touched.{Touched}
 use Rattle.kernel_lock.specs.History.{Legal, StartsWith, keep_if, calls_by, CountsFit, Known, Extends, Recorded, Stepped, Called, entry}
 use Rattle.std.proofs.Common.{◌<◌, get_or, set, get_or-set_same, get_or-set_other}
 use mathlib.Core.Logic.{dite}
@@ -122,9 +123,9 @@ called_of before after v w event (Reply.TooLarge a) made = made.extends
 called_of before after v w event Reply.NoRecord made = made.pass
 
 -- what a pass has seen goes on to the whole history, and then its call
-pub extends : (table : TableId) (log seen now : List Entry) (profile : Profile) (caller : ℕ) (e : Entry) → e.caller ≡ caller → StartsWith log seen → calls_by caller log ≡ calls_by caller seen → now ≡ log ++ e ∷ [] → Legal profile now
-    → Extends (record { table = table; profile = profile; caller = caller; seen = seen }) e (record { table = table; profile = profile; caller = caller; seen = now })
-extends table log seen now profile caller e own begun mine is legal = record {
+pub extends : (table : TableId) (log seen now : List Entry) (profile : Profile) (caller : ℕ) (before after : Touched) (e : Entry) → e.caller ≡ caller → StartsWith log seen → calls_by caller log ≡ calls_by caller seen → now ≡ log ++ e ∷ [] → Legal profile now
+    → Extends (record { table = table; profile = profile; caller = caller; seen = seen; touched = before }) e (record { table = table; profile = profile; caller = caller; seen = now; touched = after })
+extends table log seen now profile caller before after e own begun mine is legal = record {
   table = refl;
   profile = refl;
   caller = refl;

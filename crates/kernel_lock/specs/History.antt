@@ -4,6 +4,7 @@ use Rattle.atomic_table.specs.Seated.{TableId}
 use Rattle.mach_types.specs.declared.profiles.Profile.{Profile}
 use Rattle.mach_types.specs.declared.calls.Event.{Event}
 use Rattle.mach_types.specs.declared.calls.Reply.{Reply}
+use Rattle.mach_types.specs.declared.touched.Touched.{Touched}
 use Rattle.mach_model.specs.State.{State}
 use Rattle.mach_model.specs.Machine.{RunIn}
 use Rattle.kernel_lock.specs.declared.entry.Entry.{Entry}
@@ -52,12 +53,14 @@ pub record Watched : Type 0 where
   pub profile : Profile
   pub log : List Entry
 
--- What a pass knows: its board, of which profile its history is, which caller it is, and a beginning of the history.
+-- What a pass knows: its board, of which profile its history is, which caller it is, a beginning of the history, and which ports and sets its last
+-- recorded call may have changed.
 pub record Known : Type 0 where
   pub table : TableId
   pub profile : Profile
   pub caller : ℕ
   pub seen : List Entry
+  pub touched : Touched
 
 -- ---- a call
 

@@ -1,10 +1,11 @@
 -- The kernel behind the lock, and the history that leads to it.
-use Rattle.std.specs.Prelude.{◌≡◌, ℕ, Bool, true, false, List, [], refl}
+use Rattle.std.specs.Prelude.{◌≡◌, ℕ, Bool, true, false, List, [], None, refl}
 use Rattle.std.specs.Coded.{Coded, code_by, coded×, coded_ℕ, coded_bool, coded_list}
 use Rattle.atomic_table.specs.Seated.{TableId}
 use Rattle.mach_types.specs.declared.profiles.Profile.{Profile}
 use Rattle.mach_model.specs.State.{State}
 use Rattle.copyin_base.specs.Shows.{Shows}
+use Rattle.kernel_core.specs.Changing.{few}
 use Rattle.kernel_core.specs.Kernels.{KernelView}
 use Rattle.kernel_lock.specs.declared.entry.Entry.{Entry}
 use Rattle.kernel_lock.specs.History.{Known, LeadsTo}
@@ -47,6 +48,7 @@ pub record IsNewPass (old : Stored) (pass : Known) : Type 0 where
   pub profile : pass.profile ≡ old.profile
   pub caller : pass.caller ≡ old.passes
   pub nothing : pass.seen ≡ []
+  pub untouched : pass.touched ≡ few None None
 
 -- A kernel behind its lock: its board, by which profile it is, and whether the history's entries are kept.
 pub record SharedView : Type 0 where

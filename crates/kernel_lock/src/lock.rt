@@ -4,6 +4,7 @@ ghost use Rattle.mach_types.specs.declared.calls.Reply.{Reply as AnyReply};
 ghost use Rattle.mach_types.specs.declared.profiles.Profile.TheVariants.{One, Three};
 ghost use Rattle.mach_model.specs.State.{opening_in};
 ghost use Rattle.copyin_base.specs.Shows.{Shows};
+ghost use Rattle.kernel_core.specs.Changing.{few, Touches};
 ghost use Rattle.kernel_lock.specs.History.{Legal, StartsWith, Stepped, Called, calls_by};
 ghost use Rattle.kernel_lock.specs.Berth.{IsLike};
 ghost use Rattle.kernel_lock.specs.Replays.{Replays, IsSameButPasses, IsNewPass, kept_of};
@@ -14,7 +15,7 @@ use crate::board::{Board, Look, NewPass, NewWatch, Place, Tell, Watch};
 use crate::entries::Entries;
 use crate::entry::Entry;
 use kernel_core::Kernel;
-use mach_types::{Event, Profile, Reply};
+use mach_types::{Event, Profile, Reply, Touched};
 use std::alloc::{AllocError, Global};
 use std::marker::Model;
 use std::sync::{Mutex, MutexGuard, Wait};
@@ -24,7 +25,8 @@ use std::thread;
 /// come to it.
 const MOST_CALLS: u64 = 1 << 63;
 
-/// A caller: its number, how many of its calls were recorded, and what it has seen of the history.
+/// A caller: its number, how many of its calls were recorded, which ports and sets the last of them may have
+/// changed, and what it has seen of the history.
 ///
 /// It is used with the [`Shared`] that made it and with that one's board: `requires` ask for it. To contracts
 /// it is its board, the profile of the history, its number and what it has seen.
@@ -32,6 +34,7 @@ const MOST_CALLS: u64 = 1 << 63;
 pub struct Pass {
     caller: u64,
     count: u64,
+    touched: Touched,
     seat: Place,
 }
 
@@ -42,7 +45,7 @@ impl Model for Pass {
 
     ghost Value = { Known };
 
-    ghost view = { λ p. record { table = p.seat.table_id; profile = p.seat.me.0.profile; caller = p.caller; seen = p.seat.me.0.seen } };
+    ghost view = { λ p. record { table = p.seat.table_id; profile = p.seat.me.0.profile; caller = p.caller; seen = p.seat.me.0.seen; touched = p.touched } };
 
     ghost invariant = { λ p. (p.seat.me ≡ (pass_view p.seat.me.0.profile p.caller (calls_by p.caller p.seat.me.0.seen) p.seat.me.0.seen, []))
         × (p.count ≡ length (calls_by p.caller p.seat.me.0.seen)) };
@@ -137,6 +140,8 @@ impl LockedKernel {
     /// [`Kernel::reply_bound`] tells of the event. Where one is refused the answer is `NoRecord`, and nothing has
     /// happened: the kernel, its history and the pass are as before. Where entries aren't kept the history has no
     /// growth, and each call is recorded. No call is where the history has 2^63 of them. Waits for nobody.
+    ///
+    /// A call that was made leaves in the pass which ports and sets it may have changed ([`Pass::touched`]).
     pub fn step_locked(&mut self, board: &Board, pass: &mut Pass, event: Event) -> Reply
         requires { (self.old.table ≡ board.now) × (pass.old.table ≡ board.now) }
         ensures tied { (self.new.table ≡ board.now) × (pass.new.table ≡ board.now) }
@@ -147,6 +152,7 @@ impl LockedKernel {
         ensures unmade { result ≡ AnyReply.NoRecord → self.new ≡ self.old }
         ensures recorded { self.old.keeps ≡ false → length self.old.log < 2 ^ 63 → result ≢ AnyReply.NoRecord }
         ensures full { 2 ^ 63 ≤ length self.old.log → result ≡ AnyReply.NoRecord }
+        ensures touches { result ≢ AnyReply.NoRecord → Touches self.old.kernel.tables event result self.new.kernel.tables pass.new.touched }
     {
         if self.events >= MOST_CALLS {
             return Reply::NoRecord;
@@ -156,6 +162,7 @@ impl LockedKernel {
             return Reply::NoRecord;
         };
         let reply = self.kernel.step(&event);
+        pass.touched = self.kernel.touched();
         let entry = Entry {
             caller: pass.caller,
             event,
@@ -180,6 +187,7 @@ impl LockedKernel {
         Ok(Pass {
             caller,
             count: 0,
+            touched: Touched::Few([None, None, None, None]),
             seat,
         })
     }
@@ -192,6 +200,7 @@ impl LockedKernel {
         ensures tied { pass.new.table ≡ board.now }
         ensures profile { (pass.new.profile ≡ self.old.profile) × (pass.old.profile ≡ self.old.profile) }
         ensures caller { pass.new.caller ≡ pass.old.caller }
+        ensures touched { pass.new.touched ≡ pass.old.touched }
         ensures whole { pass.new.seen ≡ self.old.log }
         ensures begins { StartsWith self.old.log pass.old.seen }
         ensures own { calls_by pass.old.caller self.old.log ≡ calls_by pass.old.caller pass.old.seen }
@@ -290,6 +299,7 @@ impl<'a> Held<'a> {
         ensures unmade { result ≡ AnyReply.NoRecord → self.new.kernel ≡ self.old.kernel }
         ensures recorded { self.old.kernel.keeps ≡ false → length self.old.kernel.log < 2 ^ 63 → result ≢ AnyReply.NoRecord }
         ensures full { 2 ^ 63 ≤ length self.old.kernel.log → result ≡ AnyReply.NoRecord }
+        ensures touches { result ≢ AnyReply.NoRecord → Touches self.old.kernel.kernel.tables event result self.new.kernel.kernel.tables pass.new.touched }
     {
         self.kernel.step_locked(board, pass, event)
     }
@@ -312,6 +322,7 @@ impl<'a> Held<'a> {
         ensures tied { pass.new.table ≡ board.now }
         ensures profile { (pass.new.profile ≡ self.old.kernel.profile) × (pass.old.profile ≡ self.old.kernel.profile) }
         ensures caller { pass.new.caller ≡ pass.old.caller }
+        ensures touched { pass.new.touched ≡ pass.old.touched }
         ensures whole { pass.new.seen ≡ self.old.kernel.log }
         ensures begins { StartsWith self.old.kernel.log pass.old.seen }
         ensures own { calls_by pass.old.caller self.old.kernel.log ≡ calls_by pass.old.caller pass.old.seen }
@@ -426,7 +437,7 @@ impl Shared {
     /// A new caller, which has seen nothing; callers are numbered from 0. May wait. An error means that
     /// memory for its count was refused, and there is no new caller.
     pub fn pass<R: Wait>(&self, rt: &R) -> Result<Pass, AllocError>
-        ensures { IfOk result (λ p. (p.table ≡ self.now.table) × (p.profile ≡ self.now.profile) × (p.seen ≡ [])) }
+        ensures { IfOk result (λ p. (p.table ≡ self.now.table) × (p.profile ≡ self.now.profile) × (p.seen ≡ []) × (p.touched ≡ few None None)) }
     {
         self.lock(rt).pass(&self.board)
     }
@@ -452,6 +463,14 @@ impl Shared {
 }
 
 impl Pass {
+    /// Returns which ports and sets the last call of this pass that was recorded may have changed, as
+    /// [`Kernel::touched`] told of its step. None before the first. Constant time.
+    pub fn touched(&self) -> Touched
+        ensures { result ≡ self.now.touched }
+    {
+        self.touched
+    }
+
     /// Makes a watch see what the pass has seen. Waits for nobody, and takes no memory.
     pub fn tell(&mut self, board: &Board, watch: &mut Watch)
         requires { (self.old.table ≡ board.now) × (watch.old.table ≡ board.now) }

@@ -1,4 +1,7 @@
 use Rattle.std.proofs.Common.{◌≡◌, [], ◌∷◌, ◌++◌, length, ℕ, ◌+◌, ◌<◌, List, refl, sym, ap, ◌∙◌, subst, arith, length-set, length-append, slice_index_or, slice_set}
+use Rattle.mach_types.specs.declared.touched.Touched.{Touched}
+use Rattle.copyin_base.specs.Worlds.{WorldView}
+use Rattle.kernel_core.specs.Changing.{Touches}
 use Rattle.mach_types.specs.declared.profiles.Profile.{Profile}
 use Rattle.mach_types.specs.declared.calls.Reply.{Reply}
 use Rattle.kernel_lock.specs.declared.entry.Entry.{Entry}
@@ -99,15 +102,15 @@ returns-clause-step c =
     let table = c.args.board.now in
     let own = p.seat.me.0.profile in
     let of : c.publish.new.pass.me.0.profile ≡ own = ap (λ m. m.0.profile) told.pass.1 in
-    let v : Known = record { table = table; profile = own; caller = p.caller; seen = p.seat.me.0.seen } in
-    let w : Known = record { table = table; profile = own; caller = p.caller; seen = c.publish.new.pass.me.0.seen } in
+    let v : Known = record { table = table; profile = own; caller = p.caller; seen = p.seat.me.0.seen; touched = p.touched } in
+    let w : Known = record { table = table; profile = own; caller = p.caller; seen = c.publish.new.pass.me.0.seen; touched = c.touched-pass-inside.result } in
     let legal = legal_of k.seat.me.0.profile (log ++ e ∷ []) c.step-reply.new.self (replays_push k.seat.me.0.profile log k.kernel c.step-reply.new.self e c.self.invariant.0 c.step-reply.ensures.answers) in
-    let grown = extends table log p.seat.me.0.seen c.publish.new.pass.me.0.seen own p.caller e refl told.seen mine now (subst (λ (x : Profile × List Entry). Legal x.0 x.1) (λ i. (sym told.profile i, sym now i)) legal) in
+    let grown = extends table log p.seat.me.0.seen c.publish.new.pass.me.0.seen own p.caller p.touched c.touched-pass-inside.result e refl told.seen mine now (subst (λ (x : Profile × List Entry). Legal x.0 x.1) (λ i. (sym told.profile i, sym now i)) legal) in
     let made : Recorded log after v w e = record { appended = pushed; extends = grown; whole = now ∙ sym pushed } in
     let all : Stepped log after v w event reply =
     stepped_of log after v w event reply (is_answered k.seat.me.0.profile log k.kernel c.step-reply.new.self event reply c.self.invariant.0 c.step-reply.ensures.answers) made in
-    let old : v ≡ c.args.pass.now = (λ i. record { table = sym (ap (λ x. x.table) c.pass.view_is ∙ c.requires.1) i; profile = own; caller = p.caller; seen = p.seat.me.0.seen }) ∙ c.pass.view_is in
-    let new : w ≡ record { table = c.publish.new.pass.table_id; profile = c.publish.new.pass.me.0.profile; caller = p.caller; seen = c.publish.new.pass.me.0.seen } = λ i. record { table = sym told.pass.0 i; profile = sym of i; caller = p.caller; seen = c.publish.new.pass.me.0.seen } in
+    let old : v ≡ c.args.pass.now = (λ i. record { table = sym (ap (λ x. x.table) c.pass.view_is ∙ c.requires.1) i; profile = own; caller = p.caller; seen = p.seat.me.0.seen; touched = p.touched }) ∙ c.pass.view_is in
+    let new : w ≡ record { table = c.publish.new.pass.table_id; profile = c.publish.new.pass.me.0.profile; caller = p.caller; seen = c.publish.new.pass.me.0.seen; touched = c.touched-pass-inside.result } = λ i. record { table = sym told.pass.0 i; profile = sym of i; caller = p.caller; seen = c.publish.new.pass.me.0.seen; touched = c.touched-pass-inside.result } in
     subst (λ (x : List Entry × Known × Known × Reply). Stepped x.0 after x.1 x.2 event x.3) (λ i. (ap (λ x. x.log) c.self.view_is i, old i, new i, sym c.add.ensures.reply i)) all
 
 pub returns-clause-unmade : goal.returns-clause-unmade
@@ -126,3 +129,8 @@ returns-clause-passes c =
     let counts = k.counts.items in
     let caller = c.pass.inside.caller in
     ap length c.count_one.ensures ∙ length-set counts caller (slice_index_or counts caller 0 + 1) ∙ ap (λ x. x.passes) c.self.view_is
+
+pub returns-clause-touches : goal.returns-clause-touches
+returns-clause-touches c = λ made.
+    subst (λ (x : WorldView × Reply × Touched). Touches x.0 c.args.event x.1 c.step-reply.new.self.tables x.2)
+    (λ i. (ap (λ x. x.kernel.tables) c.self.view_is i, sym c.add.ensures.reply i, sym c.touched-pass-inside.ensures i)) c.step-reply.ensures.touches
