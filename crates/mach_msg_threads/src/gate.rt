@@ -1,17 +1,31 @@
 //! What decides whether a caller waits.
-use mach_types::{MsgReturn, Reply};
+use mach_types::{MsgReturn, Reply, Touched, Waited};
 
 /// Whether a message call waits, and what is told of each call.
 ///
 /// `pause` waits, if it wants to, until a try may go otherwise than the one before. No contract binds it:
-/// what [`mach_msg`](crate::mach_msg) promises holds whatever it answers.
+/// what [`mach_msg`](crate::mach_msg) promises holds whatever it answers. [`Hall`](crate::Hall) has gates for
+/// blocks in threads.
 pub trait Gate {
     /// Returns whether to try again after a try that found the queue full, or no message. `turn` counts the
     /// tries that were made again, the first is 1; it stays at 4,294,967,295.
     fn pause(&mut self, turn: u32) -> bool;
 
+    /// The same, where `on` is the port or set that the receive found without a message; `None` after a try that
+    /// found the queue full. A step that doesn't touch that port or set leaves the next try as the last one was. A
+    /// message call asks this one.
+    fn pause_for(&mut self, turn: u32, _on: Option<Waited>) -> bool {
+        self.pause(turn)
+    }
+
     /// A call was made. `changed` is false where it wasn't recorded, or timed out.
     fn stepped(&mut self, changed: bool);
+
+    /// A call was made that may have changed something: these ports and sets, of all that a receive waits on. It is
+    /// told this way of each call but those of which `stepped` is told that nothing changed.
+    fn stepped_at(&mut self, _touched: &Touched) {
+        self.stepped(true);
+    }
 }
 
 /// Returns whether a call with this reply may have changed what another waits for.
@@ -20,5 +34,14 @@ pub fn is_change(reply: &Reply) -> bool {
         Reply::NoRecord | Reply::Empty(_) => false,
         Reply::Code(code) => *code != MsgReturn::SendTimedOut.number(),
         _ => true,
+    }
+}
+
+/// Tells the gate of a call with this reply, and what it may have changed.
+pub fn tell<G: Gate>(gate: &mut G, reply: &Reply, touched: &Touched) {
+    if is_change(reply) {
+        gate.stepped_at(touched);
+    } else {
+        gate.stepped(false);
     }
 }

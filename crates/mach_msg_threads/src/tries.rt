@@ -6,7 +6,7 @@ ghost use Rattle.mach_types.specs.declared.calls.Event.{Event};
 ghost use Rattle.kernel_lock.specs.History.{Called};
 ghost use Rattle.mach_msg_threads.specs.Tries.{SendPart, Receives, TriesAgain, IsFull, most_received, sent_code, waited_in};
 
-use crate::gate::{Gate, is_change};
+use crate::gate::{Gate, tell};
 use kernel_lock::{Pass, Shared};
 use mach_types::{Bytes, Event, MsgReturn, Name, Reply, TaskId, Waited};
 use std::alloc::{AllocError, Global};
@@ -101,7 +101,7 @@ pub(crate) fn attempt<G: Gate, R: Wait>(
     ensures bytes { reply_bytes result ≤ most_received event }
 {
     let reply = shared.call(rt, pass, event);
-    gate.stepped(is_change(&reply));
+    tell(gate, &reply, &pass.touched());
     reply
 }
 
@@ -129,7 +129,7 @@ pub(crate) fn send<G: Gate, R: Wait>(
         };
         let reply = attempt(rt, shared, pass, gate, event);
         turn = turn.saturating_add(1);
-        let again = is_full(&reply) && !sending.once && gate.pause(turn);
+        let again = is_full(&reply) && !sending.once && gate.pause_for(turn, None);
         if !again {
             return code_sent(reply);
         }
@@ -154,7 +154,7 @@ pub(crate) fn receive<G: Gate, R: Wait>(
     let first = attempt(rt, shared, pass, gate, receiving.first());
     match waited_for(&first) {
         Some(waited) => {
-            if receiving.once || !gate.pause(1) {
+            if receiving.once || !gate.pause_for(1, Some(waited)) {
                 return first;
             }
             receive_again(rt, shared, pass, gate, receiving, &waited)
@@ -182,7 +182,7 @@ fn receive_again<G: Gate, R: Wait>(
         let event = receiving.again(waited);
         let reply = attempt(rt, shared, pass, gate, event);
         turn = turn.saturating_add(1);
-        let again = waited_for(&reply).is_some() && gate.pause(turn);
+        let again = waited_for(&reply).is_some() && gate.pause_for(turn, Some(*waited));
         if !again {
             return reply;
         }

@@ -12,10 +12,9 @@ ghost use Rattle.mach_run_base.specs.Enrolling.{AreEnrolled, IsReady, pass_of};
 ghost use Rattle.mach_run_base.specs.Output.{AreReplies, AreAnswers, AreBlocks, IsAnswered, answer_line, block_texts};
 
 use crate::fault::Fault;
-use crate::gate::{BlockGate, Hall};
 use crate::script::{Script, ThreadCalls};
 use kernel_lock::{Held, Pass, Shared};
-use mach_msg_threads::{Answer, Block, Call, Gate, is_change, make_call, run_blocks};
+use mach_msg_threads::{Answer, Block, BlockGate, Call, Gate, Hall, make_call, run_blocks, tell};
 use mach_types::{Event, Reply};
 use std::alloc::{AllocError, Global};
 use std::io::Write;
@@ -162,7 +161,7 @@ fn run_event<G: Gate, W: Write>(
         × Appends (W.contents out.old) (W.contents out.new) (reply_line reply)) }
 {
     let reply = held.step_locked(shared.board(), pass, event);
-    gate.stepped(is_change(&reply));
+    tell(gate, &reply, &pass.touched());
     write_reply(&reply, out)
 }
 

@@ -1,7 +1,7 @@
 //! Blocks of scripts, the gates by which they wait, and the histories that scripts leave.
 use crate::tests::{Page, is_traced_legally, run_on, source_of, traces, writes};
-use mach_msg_threads::Gate;
-use mach_run_base::{BlockGate, Hall};
+use mach_msg_threads::{BlockGate, Gate, Hall};
+use mach_types::{PortId, Touched, Waited};
 use std::sync::Wait;
 use std::sync::atomic::{AtomicBool, Ordering};
 use std::test::*;
@@ -248,5 +248,103 @@ fn a_gate_gives_up(rt: HostRuntime) -> Result<(), Fail> {
     assert!(rt; gate.pause(1));
     drop(other);
     assert!(rt; !gate.pause(2));
+    Ok(())
+}
+
+/// That a step may have changed this port, or nothing.
+fn few(port: Option<u64>) -> Touched {
+    Touched::Few([port.map(port_waited), None, None, None])
+}
+
+/// A port that a receive waits on.
+fn port_waited(port: u64) -> Waited {
+    Waited::Port(PortId::new(port))
+}
+
+/// Asks the gate of a receive from port 1, tells what it answered, and then that it has.
+fn ask_for_port<R: Wait>(mut gate: BlockGate<'_, R>, answered: &AtomicBool) -> bool {
+    let again = gate.pause_for(1, Some(port_waited(1)));
+    answered.store(true, Ordering::SeqCst);
+    again
+}
+
+/// Looks for an answer; tells of a change of port 2 and looks again; then tells of one of port 1. Whether there was no
+/// answer before.
+fn change_ports<R: Wait>(mut gate: BlockGate<'_, R>, answered: &AtomicBool) -> bool {
+    let mut early = looks(answered);
+    gate.stepped_at(&few(Some(2)));
+    early |= looks(answered);
+    gate.stepped_at(&few(Some(1)));
+    !early
+}
+
+/// Whether there is an answer, at one of many looks.
+fn looks(answered: &AtomicBool) -> bool {
+    let mut seen = false;
+    for _ in 0..LOOKS {
+        seen |= answered.load(Ordering::SeqCst);
+    }
+    seen
+}
+
+/// A gate that waits on a port sleeps through changes of another, and is woken by one of its own.
+#[test]
+fn gate_waits_on_a_port(rt: HostRuntime) -> Result<(), Fail> {
+    let hall = Hall::new(rt.alloc());
+    let first = hall.enter(&rt, rt.alloc())?;
+    let second = hall.enter(&rt, rt.alloc())?;
+    let answered = AtomicBool::new(false);
+    let answered = &answered;
+    let (again, none_before) = thread::join(
+        &rt,
+        move || ask_for_port(first, answered),
+        move || change_ports(second, answered),
+    );
+    assert!(rt; again);
+    assert!(rt; none_before);
+    Ok(())
+}
+
+/// Asks the gate of a send, whose queue was full.
+fn ask_for_room<R: Wait>(mut gate: BlockGate<'_, R>, answered: &AtomicBool) -> bool {
+    let again = gate.pause_for(1, None);
+    answered.store(true, Ordering::SeqCst);
+    again
+}
+
+/// Looks for an answer; then tells of a call that changed no port.
+fn change_nothing<R: Wait>(mut gate: BlockGate<'_, R>, answered: &AtomicBool) -> bool {
+    let early = looks(answered);
+    gate.stepped_at(&few(None));
+    !early
+}
+
+/// A gate that waits in sending is woken by every change.
+#[test]
+fn gate_waits_for_room(rt: HostRuntime) -> Result<(), Fail> {
+    let hall = Hall::new(rt.alloc());
+    let first = hall.enter(&rt, rt.alloc())?;
+    let second = hall.enter(&rt, rt.alloc())?;
+    let answered = AtomicBool::new(false);
+    let answered = &answered;
+    let (again, none_before) = thread::join(
+        &rt,
+        move || ask_for_room(first, answered),
+        move || change_nothing(second, answered),
+    );
+    assert!(rt; again);
+    assert!(rt; none_before);
+    Ok(())
+}
+
+/// A change that came while the block didn't wait makes its next pause say yes at once, whatever it touched. Where none
+/// came it gives up, as it is alone.
+#[test]
+fn a_gate_sees_what_came_before(rt: HostRuntime) -> Result<(), Fail> {
+    let hall = Hall::new(rt.alloc());
+    let mut gate = hall.enter(&rt, rt.alloc())?;
+    gate.stepped_at(&few(Some(2)));
+    assert!(rt; gate.pause_for(1, Some(port_waited(1))));
+    assert!(rt; !gate.pause_for(2, Some(port_waited(1))));
     Ok(())
 }

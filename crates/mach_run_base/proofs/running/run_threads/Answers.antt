@@ -11,7 +11,7 @@ use Rattle.kernel_lock.specs.declared.lock.Pass.{Pass}
 use Rattle.mach_msg_threads.specs.declared.block.Answer.{Answer}
 use Rattle.mach_msg_threads.specs.declared.block.Block.{Block}
 use Rattle.mach_msg_threads.proofs.Rows.{zip_push}
-use Rattle.mach_run_base.specs.declared.gate.BlockGate.{BlockGate}
+use Rattle.mach_msg_threads.specs.declared.hall.BlockGate.{BlockGate}
 use Rattle.mach_run_base.specs.Callers.{IsRecorded}
 use Rattle.mach_run_base.specs.Enrolling.{IsReady, AreEnrolled, pass_of}
 use Rattle.mach_run_base.specs.Output.{AreBlocks, block_texts}

@@ -1,6 +1,8 @@
-//! The program's gate: a block that waits is woken by each change, and gives up where no other can make one.
+//! A gate for blocks in threads: one that waits is woken by the changes that concern it, and gives up where no other
+//! block can make one.
+use crate::gate::Gate;
 use crossbeam_utils::sync::{Parker, Unparker};
-use mach_msg_threads::Gate;
+use mach_types::{Touched, Waited};
 use std::alloc::{AllocError, Global};
 use std::sync::{Mutex, Wait};
 
@@ -9,10 +11,23 @@ use std::sync::{Mutex, Wait};
 enum Standing {
     /// It makes calls, or is about to.
     Runs,
-    /// It sleeps until there is a change.
-    Waits,
+    /// It sleeps until there is a change of this port or set, or any change.
+    Waits(Option<Waited>),
+    /// It slept, and there was such a change.
+    Woken,
     /// It makes no more calls.
     Ended,
+}
+
+impl Standing {
+    /// Whether it sleeps, and this change ends its wait.
+    fn is_ended_by(&self, touched: &Touched) -> bool {
+        match self {
+            Standing::Waits(Some(on)) => touched.covers(*on),
+            Standing::Waits(None) => true,
+            _ => false,
+        }
+    }
 }
 
 /// A block, as the others know it.
@@ -45,20 +60,25 @@ impl Guests {
         }
     }
 
-    /// Returns whether no block runs.
-    fn is_still(&self) -> bool {
-        !self
-            .all
-            .iter()
-            .any(|guest| guest.standing == Standing::Runs)
+    /// What the block at this place does.
+    fn standing(&self, place: usize) -> Standing {
+        match self.all.get(place) {
+            Some(guest) => guest.standing,
+            None => Standing::Ended,
+        }
     }
 
-    /// A call changed something: each block that waits is to try again.
-    fn change(&mut self) {
+    /// Returns whether no block runs, or is about to.
+    fn is_still(&self) -> bool {
+        self.all.iter().all(|guest| matches!(guest.standing, Standing::Waits(_) | Standing::Ended))
+    }
+
+    /// A call may have changed these ports and sets: each block that waits for that is to try again.
+    fn change(&mut self, touched: &Touched) {
         self.changes = self.changes.wrapping_add(1);
         for guest in self.all.iter_mut() {
-            if guest.standing == Standing::Waits {
-                guest.standing = Standing::Runs;
+            if guest.standing.is_ended_by(touched) {
+                guest.standing = Standing::Woken;
                 guest.bell.unpark();
             }
         }
@@ -71,7 +91,7 @@ impl Guests {
             return;
         }
         for guest in self.all.iter() {
-            if guest.standing == Standing::Waits {
+            if let Standing::Waits(_) = guest.standing {
                 guest.bell.unpark();
                 return;
             }
@@ -121,9 +141,10 @@ impl Hall {
 
 /// By which one block waits for the others.
 ///
-/// `pause` says to try again where a call changed something since it last answered, or since the gate was
-/// made; else it waits for a change. It says to give up where none can come: each block that has not ended
-/// waits too. A block ends when its gate is dropped.
+/// A pause says to try again where a call changed something since one last answered, or since the gate was
+/// made, while the block didn't wait; a call of its own counts too. Else the block waits for a change of the port
+/// or set that it waits on, or for any change where it waits in sending. The pause says to give up where none can
+/// come: each block that has not ended waits too. A block ends when its gate is dropped.
 pub struct BlockGate<'a, R: Wait> {
     rt: &'a R,
     hall: &'a Hall,
@@ -133,27 +154,48 @@ pub struct BlockGate<'a, R: Wait> {
 }
 
 impl<'a, R: Wait> BlockGate<'a, R> {
-    /// Whether to try again; `None` where there is to be a change first.
-    fn answer(&mut self) -> Option<bool> {
+    /// Whether to try again at once; `None` where there is to be a change first, of what the block waits on.
+    fn begin(&mut self, on: Option<Waited>) -> Option<bool> {
         let mut guests = self.hall.guests.lock(self.rt);
-        let changed = guests.changes != self.seen;
-        self.seen = guests.changes;
-        guests.stand(self.place, Standing::Waits);
-        if !changed && !guests.is_still() {
+        if guests.changes != self.seen {
+            self.seen = guests.changes;
+            return Some(true);
+        }
+        guests.stand(self.place, Standing::Waits(on));
+        if !guests.is_still() {
             return None;
         }
         guests.stand(self.place, Standing::Runs);
-        Some(changed)
+        Some(false)
+    }
+
+    /// Whether to try again, where the block was rung for; `None` where it is to sleep on.
+    fn answer(&mut self) -> Option<bool> {
+        let mut guests = self.hall.guests.lock(self.rt);
+        let woken = guests.standing(self.place) == Standing::Woken;
+        if !woken && !guests.is_still() {
+            return None;
+        }
+        self.seen = guests.changes;
+        guests.stand(self.place, Standing::Runs);
+        Some(woken)
     }
 }
 
 impl<'a, R: Wait> Gate for BlockGate<'a, R> {
-    fn pause(&mut self, _turn: u32) -> bool {
+    fn pause(&mut self, turn: u32) -> bool {
+        self.pause_for(turn, None)
+    }
+
+    fn pause_for(&mut self, _turn: u32, on: Option<Waited>) -> bool {
+        if let Some(again) = self.begin(on) {
+            return again;
+        }
         for _ in self.rt.forever() {
+            self.parker.park(self.rt);
             if let Some(again) = self.answer() {
                 return again;
             }
-            self.parker.park(self.rt);
         }
         unreachable!()
     }
@@ -161,8 +203,13 @@ impl<'a, R: Wait> Gate for BlockGate<'a, R> {
     #[inline(always)]
     fn stepped(&mut self, changed: bool) {
         if changed {
-            self.hall.guests.lock(self.rt).change();
+            self.stepped_at(&Touched::All);
         }
+    }
+
+    #[inline(always)]
+    fn stepped_at(&mut self, touched: &Touched) {
+        self.hall.guests.lock(self.rt).change(touched);
     }
 }
 
