@@ -2,16 +2,14 @@
 ghost use Rattle.std.specs.Prelude.{IfOk, IfSome};
 ghost use Rattle.mach_model.specs.State.{State};
 ghost use Rattle.copyin_base.specs.Shows.{Shows};
-ghost use Rattle.mach_causes.specs.Codes.{IsCode};
-ghost use Rattle.mach_causes.specs.Facts.{IsTrueIn};
+ghost use Rattle.mach_causes_base.specs.Codes.{IsCode};
+ghost use Rattle.mach_causes_base.specs.Facts.{IsTrueIn};
 
-use crate::cause::{Cause, Part, Reason, Wanted};
-use crate::codes::suits;
-use crate::facts::is_true;
 use crate::hand::{absent, lacks, no_name, no_task, standing_under, used};
 use crate::receive::{explain_again, explain_receive};
 use crate::refusals::can_refuse;
 use crate::send::explain_send;
+use mach_causes_base::{Cause, Part, Reason, Wanted, is_so};
 use mach_follow::{Follower, Place};
 use mach_types::{Disposition, Event, KernReturn, Name, TaskId};
 use mach_words::task_of;
@@ -35,9 +33,7 @@ pub fn explain(
         return Ok(None);
     }
     match find_cause(alloc, follower, event, code)? {
-        Some(cause) if suits(&cause, code) && is_true(follower.tables(), &cause.reason) => {
-            Ok(Some(cause))
-        }
+        Some(cause) if is_so(follower.tables(), &cause, code) => { Ok(Some(cause)) }
         _ => Ok(None),
     }
 }

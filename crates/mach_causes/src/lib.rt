@@ -6,9 +6,6 @@
 #![tactic(auto)]
 
 mod calls;
-mod cause;
-mod codes;
-mod facts;
 mod hand;
 mod receive;
 mod refusals;
@@ -16,5 +13,4 @@ mod say;
 mod send;
 
 pub use calls::explain;
-pub use cause::{Cause, Part, Reason, Wanted};
 pub use say::write_cause;

@@ -1,7 +1,6 @@
 //! Finds why a receive is refused.
-use crate::cause::{Reason, Wanted};
-use crate::facts::made_once;
 use crate::hand::{lacks, standing_under};
+use mach_causes_base::{Reason, Wanted, made_once};
 use mach_follow::{Follower, Place};
 use mach_types::{MsgReturn, PortId, SetId, TaskId, Waited};
 

@@ -1,6 +1,5 @@
 //! Causes in words.
-use crate::cause::{Cause, Part, Reason, Wanted};
-use crate::facts::counted;
+use mach_causes_base::{Cause, Part, Reason, Wanted, counted};
 use mach_follow::{Gone, Place, Standing};
 use mach_types::{Name, PortId, TaskId, Waited};
 use mach_words::{Labels, right_word, write_message_fault, write_right_name};

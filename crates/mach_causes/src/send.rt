@@ -1,6 +1,6 @@
 //! Finds why a send is refused.
-use crate::cause::{Cause, Part, Reason, Wanted};
-use crate::hand::{absent, standing_under, suffices};
+use crate::hand::{absent, standing_under};
+use mach_causes_base::{Cause, Part, Reason, Wanted, suffices};
 use mach_follow::{Follower, Place, Standing};
 use mach_types::{MsgReturn, Name, PortId, TaskId};
 use mach_words::message_fault;

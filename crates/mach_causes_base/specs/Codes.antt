@@ -5,10 +5,10 @@ use Rattle.mach_types.specs.declared.codes.KernReturn.TheVariants as kern
 use Rattle.mach_types.specs.declared.codes.MsgReturn.TheVariants as msg
 use Rattle.mach_words.specs.declared.faults.ItemFault.{ItemFault}
 use Rattle.mach_words.specs.declared.faults.MessageFault.{MessageFault}
-use Rattle.mach_causes.specs.declared.cause.Cause.{Cause}
-use Rattle.mach_causes.specs.declared.cause.Part.{Part}
-use Rattle.mach_causes.specs.declared.cause.Reason.{Reason}
-use Rattle.mach_causes.specs.declared.cause.Wanted.{Wanted}
+use Rattle.mach_causes_base.specs.declared.cause.Cause.{Cause}
+use Rattle.mach_causes_base.specs.declared.cause.Part.{Part}
+use Rattle.mach_causes_base.specs.declared.cause.Reason.{Reason}
+use Rattle.mach_causes_base.specs.declared.cause.Wanted.{Wanted}
 
 -- The code of the first fault of an item.
 abbrev pub item_code : ItemFault → ℕ

@@ -1,6 +1,6 @@
 //! The codes of causes.
 ghost use Rattle.std.specs.Prelude.{◌≡◌, ℕ, IsTrue};
-ghost use Rattle.mach_causes.specs.Codes.{IsChangeCode, IsCode, IsOfRight, IsReasonCode, fault_code, item_code};
+ghost use Rattle.mach_causes_base.specs.Codes.{IsChangeCode, IsCode, IsOfRight, IsReasonCode, fault_code, item_code};
 
 use crate::cause::{Cause, Part, Reason, Wanted};
 use mach_types::{KernReturn, MsgReturn};

@@ -1,6 +1,6 @@
 use Rattle.std.proofs.Common.{◌≡◌, sym, ◌∙◌, rules}
 use Rattle.std.specs.FinMap as map
-use Rattle.mach_causes.proofs.facts.has_names.Goals as goal
+use Rattle.mach_causes_base.proofs.facts.has_names.Goals as goal
 
 pub returns-in-Some : goal.returns-in-Some
 returns-in-Some c same =

@@ -16,8 +16,8 @@ use Rattle.port_set.specs.declared.SetRecord.{SetRecord}
 use Rattle.copyin_base.specs.Kept.{Kept}
 use Rattle.copyin_base.specs.Worlds.{WorldView, HasTask, space_at, entry_at, port_at}
 use Rattle.mach_follow.specs.declared.follower.Place.{Place}
-use Rattle.mach_causes.specs.declared.cause.Reason.{Reason}
-use Rattle.mach_causes.specs.Needs.{meets, counted, is_dead, is_set, IsWanted, IsOutOfRange}
+use Rattle.mach_causes_base.specs.declared.cause.Reason.{Reason}
+use Rattle.mach_causes_base.specs.Needs.{meets, counted, is_dead, is_set, IsWanted, IsOutOfRange}
 
 -- what stands under the name
 abbrev pub under : WorldView → Place → Option Standing

@@ -20,10 +20,10 @@ use Rattle.copyin_base.proofs.Told.{found, unused, no_task, names_port, holds_re
 use Rattle.copyin.proofs.LoopFound.{lies_queued}
 use Rattle.copyin.proofs.Sent.{all_kept_length}
 use Rattle.mach_follow.specs.declared.follower.Place.{Place}
-use Rattle.mach_causes.specs.declared.cause.Reason.{Reason}
-use Rattle.mach_causes.specs.Facts as facts
-use Rattle.mach_causes.specs.Facts.{IsTrueIn, StandsFor, Receives, IsMissing, IsGone}
-use Rattle.mach_causes.specs.Tables.{Tells, under, LacksTask, HasNames, HasPort, IsIn, IsFull, LacksWaited, IsKeptFrom, IsOthers, IsOutOfReach}
+use Rattle.mach_causes_base.specs.declared.cause.Reason.{Reason}
+use Rattle.mach_causes_base.specs.Facts as facts
+use Rattle.mach_causes_base.specs.Facts.{IsTrueIn, StandsFor, Receives, IsMissing, IsGone}
+use Rattle.mach_causes_base.specs.Tables.{Tells, under, LacksTask, HasNames, HasPort, IsIn, IsFull, LacksWaited, IsKeptFrom, IsOthers, IsOutOfReach}
 use Rattle.name_space.specs.Entry.{receive_named}
 
 -- an entry for a port shows as the port's

@@ -3,11 +3,11 @@ ghost use Rattle.std.specs.Prelude.{◌≡◌, ◌<◌, ◌+◌, false, Some, No
 ghost use Rattle.mach_types.specs.Numbers.{most_rights};
 ghost use Rattle.name_space.specs.Entry.{port_named, receive_named};
 ghost use Rattle.copyin_base.specs.Worlds.{HasTask, WorldView};
-ghost use Rattle.mach_causes.specs.Needs as needs;
-ghost use Rattle.mach_causes.specs.Tables.{HasNames, HasPort, IsDead, IsFull, IsIn, IsKeptFrom, IsNotThere, IsOthers, IsOutOfReach, LacksTask, LacksWaited, Tells, WasMadeOnce, under};
+ghost use Rattle.mach_causes_base.specs.Needs as needs;
+ghost use Rattle.mach_causes_base.specs.Tables.{HasNames, HasPort, IsDead, IsFull, IsIn, IsKeptFrom, IsNotThere, IsOthers, IsOutOfReach, LacksTask, LacksWaited, Tells, WasMadeOnce, under};
 
 use crate::cause::{Reason, Wanted};
-use crate::hand::suffices;
+use crate::needs::suffices;
 use circularity::closes_loop;
 use copyin_base::World;
 use mach_follow::{Place, Standing};
@@ -213,7 +213,8 @@ fn is_there(world: &World, waited: &Waited) -> bool
 }
 
 /// Whether a port or set of this identity was ever made; `None` once all identities were given.
-pub(crate) fn made_once(world: &World, waited: &Waited) -> Option<bool>
+/// Constant time.
+pub fn made_once(world: &World, waited: &Waited) -> Option<bool>
     ensures { IfSome result (λ once. WasMadeOnce world.now waited.now once) }
 {
     match waited {
@@ -257,8 +258,8 @@ fn is_of_another(world: &World, task: TaskId, set: SetId) -> bool
     }
 }
 
-/// Returns how many references the name has to its send rights, or to its dead name.
-pub(crate) fn counted(standing: &Standing) -> u32
+/// Returns how many references the name has to its send rights, or to its dead name. Constant time.
+pub fn counted(standing: &Standing) -> u32
     ensures { result ≡ needs.counted standing.now }
 {
     match standing {

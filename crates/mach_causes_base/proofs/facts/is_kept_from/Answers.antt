@@ -5,7 +5,7 @@ use Rattle.port.specs.declared.Attributes.{Attributes}
 use Rattle.port.specs.declared.Holder.TheVariants.{Task}
 use Rattle.copyin_base.specs.Kept.{Kept}
 use Rattle.copyin_base.specs.Worlds.{port_at}
-use Rattle.mach_causes.proofs.facts.is_kept_from.Goals as goal
+use Rattle.mach_causes_base.proofs.facts.is_kept_from.Goals as goal
 
 pub returns-in-Some : goal.returns-in-Some
 returns-in-Some c told =

@@ -14,8 +14,8 @@ use Rattle.name_space.specs.declared.Entry.{Entry as Standing}
 use Rattle.name_space.specs.Entry.{port_named, has_receive, send_references}
 use Rattle.copyin_base.specs.Shows.{target_of, HasCount}
 use Rattle.mach_follow.specs.declared.follower.Place.{Place}
-use Rattle.mach_causes.specs.declared.cause.Reason.{Reason}
-use Rattle.mach_causes.specs.Needs.{meets, counted, is_dead, is_set, IsWanted, IsOutOfRange}
+use Rattle.mach_causes_base.specs.declared.cause.Reason.{Reason}
+use Rattle.mach_causes_base.specs.Needs.{meets, counted, is_dead, is_set, IsWanted, IsOutOfRange}
 
 -- The task's name stands for this, with these references.
 pub record StandsFor (s : State) (place : Place) (standing : Standing) : Type 0 where

@@ -4,7 +4,7 @@ use Rattle.mach_model.specs.Refusals.{IsBelowZero, IsAbove, IsDisposition}
 use Rattle.name_space.specs.declared.Entry.{Entry as Standing}
 use Rattle.name_space.specs.declared.Entry.TheVariants.{Send, ReceiveAndSend, SendOnce, DeadName, Set}
 use Rattle.name_space.specs.Entry.{has_receive}
-use Rattle.mach_causes.specs.declared.cause.Wanted.{Wanted}
+use Rattle.mach_causes_base.specs.declared.cause.Wanted.{Wanted}
 
 abbrev pub has_send : Standing → Bool
 has_send (Send port references) = true
