@@ -53,6 +53,27 @@ const REPLIES: &[(&str, &str)] = &[
     ("members", "NAME .."),
 ];
 
+/// Longer words for calls, such as those in C, with the words that scripts have for them.
+const LONGER: &[(&str, &str)] = &[
+    ("receive", "recv"),
+    ("allocate", "alloc"),
+    ("allocate_name", "allocname"),
+    ("deallocate", "dealloc"),
+    ("mod_refs", "modrefs"),
+    ("get_refs", "refs"),
+    ("insert_right", "insert"),
+    ("extract_right", "extract"),
+    ("get_receive_status", "status"),
+    ("set_qlimit", "qlimit"),
+    ("set_mscount", "mscount"),
+    ("set_seqno", "seqno"),
+    ("move_member", "move"),
+    ("get_set_status", "members"),
+    ("request_notification", "notify"),
+    ("task_create", "task"),
+    ("task_terminate", "end"),
+];
+
 /// Returns the word's arguments in the table.
 fn find(table: &[(&'static str, &'static str)], word: &[u8]) -> Option<&'static str> {
     for (name, arguments) in table {
@@ -91,11 +112,18 @@ pub(crate) fn reply_arguments(word: &[u8]) -> Option<&'static str> {
     find(REPLIES, word)
 }
 
-/// Returns the call, or line of a script, that differs little from this word.
+/// Returns the call that this longer word means. Otherwise the call, or line of a script, that differs little from the word,
+/// or the call that a longer word near it means.
 pub(crate) fn near_call(word: &[u8]) -> Option<&'static str> {
-    match nearest(CALLS, word) {
+    if let Some(name) = find(LONGER, word) {
+        return Some(name);
+    }
+    if let Some(name) = nearest(CALLS, word) {
+        return Some(name);
+    }
+    match nearest(LINES, word) {
         Some(name) => Some(name),
-        None => nearest(LINES, word),
+        None => find(LONGER, nearest(LONGER, word)?.as_bytes()),
     }
 }
 
