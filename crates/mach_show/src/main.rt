@@ -4,7 +4,9 @@
 #![tactic(auto)]
 
 use clap::error::ErrorKind;
-use mach_show_base::{Fault, Request, Work, perform, read_labels, read_words, report};
+use mach_show_base::{
+    Fault, Job, Request, Work, job_of, perform, read_labels, read_words, reason_of, report,
+};
 use mach_words::Labels;
 use std::alloc::Global;
 use std::fs::File;
@@ -83,28 +85,45 @@ fn name_things<R: Files + Input + AllocGlobal, W: Write + Drop, E: Write>(
     err: &mut E,
 ) -> u8 {
     let Some(name) = request.labels else {
-        return open(rt, request, &Labels::new(rt.alloc()), out, err);
+        return choose(rt, request, &Labels::new(rt.alloc()), out, err);
     };
-    let Ok(mut file) = File::open(rt, name) else {
-        return report(Fault::CannotRead(name), err);
-    };
-    match read_labels(rt.alloc(), name, &mut file) {
-        Ok(labels) => open(rt, request, &labels, out, err),
-        Err(fault) => report(fault, err),
+    match File::open(rt, name) {
+        Ok(mut file) => match read_labels(rt.alloc(), name, &mut file) {
+            Ok(labels) => choose(rt, request, &labels, out, err),
+            Err(fault) => report(fault, err),
+        },
+        Err(error) => report(Fault::CannotRead(name, reason_of(&error)), err),
     }
 }
 
-/// Opens the request's file, or standard input, and does its job.
-fn open<R: Files + Input + AllocGlobal, W: Write + Drop, E: Write>(
+/// Looks up the task and the port of the request, and does its job. A word that names none is a wrong command line.
+fn choose<R: Files + Input + AllocGlobal, W: Write + Drop, E: Write>(
     rt: &R,
     request: &Request<'_>,
     labels: &Labels,
     out: W,
     err: &mut E,
 ) -> u8 {
+    match job_of(request, labels) {
+        Ok(job) => open(rt, job, request.file, labels, out, err),
+        Err(fault) => {
+            let _ = report(fault, err);
+            USAGE
+        }
+    }
+}
+
+/// Opens the file, or standard input without one, and does the job.
+fn open<R: Files + Input + AllocGlobal, W: Write + Drop, E: Write>(
+    rt: &R,
+    job: Job,
+    file: Option<&str>,
+    labels: &Labels,
+    out: W,
+    err: &mut E,
+) -> u8 {
     let alloc = rt.alloc();
-    let job = request.job;
-    let Some(name) = request.file else {
+    let Some(name) = file else {
         let name = "-";
         return start(
             alloc,
@@ -116,7 +135,7 @@ fn open<R: Files + Input + AllocGlobal, W: Write + Drop, E: Write>(
     };
     match File::open(rt, name) {
         Ok(mut file) => start(alloc, &Work { job, name, labels }, &mut file, out, err),
-        Err(_) => report(Fault::CannotRead(name), err),
+        Err(error) => report(Fault::CannotRead(name, reason_of(&error)), err),
     }
 }
 

@@ -10,8 +10,12 @@ const KINDS: &[&str] = &["script", "history"];
 /// What the command line asks for.
 #[derive(Clone, Copy)]
 pub struct Request<'a> {
-    /// The job.
+    /// The job. Its filter lacks the task and the port.
     pub job: Job,
+    /// The word for the task that is asked for: a number, `T` and a number, or a label.
+    pub task: Option<&'a str>,
+    /// The word for the port that is asked for: an identity, `p` and an identity, or a label.
+    pub port: Option<&'a str>,
     /// The file to read; `None` for standard input.
     pub file: Option<&'a str>,
     /// The file of labels, if there is one.
@@ -23,12 +27,26 @@ pub struct Request<'a> {
 /// Returns clap's error if the words name no job, ask for help or the version, or if out of memory. Its kind says which,
 /// and its text is what to print. Time and memory are linear in the words.
 pub fn read_words<'a>(alloc: Global, words: &'a [String]) -> Result<Request<'a>, Error> {
-    let matches = program(alloc)?.try_get_matches_from(words)?;
-    Ok(Request {
-        job: job_named(&matches),
-        file: word_named(&matches, "FILE"),
-        labels: word_named(&matches, "LABELS"),
-    })
+    match find_matches(alloc, words) {
+        Ok(matches) => Ok(request_of(&matches)),
+        Err(error) => Err(error),
+    }
+}
+
+/// Reads the words by the program's command line.
+fn find_matches<'a>(alloc: Global, words: &'a [String]) -> Result<ArgMatches<'a>, Error> {
+    program(alloc)?.try_get_matches_from(words)
+}
+
+/// Returns what the words ask for.
+fn request_of<'a>(matches: &ArgMatches<'a>) -> Request<'a> {
+    Request {
+        job: job_named(matches),
+        task: word_named(matches, "TASK"),
+        port: word_named(matches, "PORT"),
+        file: word_named(matches, "FILE"),
+        labels: word_named(matches, "LABELS"),
+    }
 }
 
 /// Returns the job of the subcommand.
@@ -47,8 +65,8 @@ fn job_named(matches: &ArgMatches<'_>) -> Job {
 /// Returns the filter that the subcommand's options set.
 fn filter_named(of_subcommand: &ArgMatches<'_>) -> Filter {
     Filter {
-        task: of_subcommand.get_one::<u32>("TASK"),
-        port: of_subcommand.get_one::<u64>("PORT"),
+        task: None,
+        port: None,
         refused: of_subcommand.get_flag("REFUSED"),
         from: of_subcommand.get_one::<u64>("FROM").unwrap_or(0),
         to: of_subcommand.get_one::<u64>("TO").unwrap_or(u64::MAX),
@@ -59,6 +77,14 @@ fn filter_named(of_subcommand: &ArgMatches<'_>) -> Filter {
 fn word_named<'a>(matches: &ArgMatches<'a>, argument: &str) -> Option<&'a str> {
     let (_, of_subcommand) = matches.subcommand()?;
     of_subcommand.get_str(argument)
+}
+
+/// Makes an option with a word.
+fn word_option<'a>(alloc: Global, name: &'a str, long: &'a str, help: &'a str) -> Arg<'a> {
+    Arg::new(alloc, name)
+        .long(long)
+        .action(ArgAction::Set)
+        .help(help)
 }
 
 /// Makes an option with a number.
@@ -81,38 +107,47 @@ fn text_command<'a>(alloc: Global) -> Result<Command<'a>, AllocError> {
 
 /// Adds the options that choose entries by what they are about.
 fn add_filters<'a>(alloc: Global, command: Command<'a>) -> Result<Command<'a>, AllocError> {
-    let task = Arg::new(alloc, "TASK")
-        .long("task")
-        .value_parser(value_parser!(u32))
-        .help("Only entries of this task, or that hand it a right");
-    let refused = Arg::new(alloc, "REFUSED")
+    command
+        .arg(word_option(
+            alloc,
+            "TASK",
+            "task",
+            "Only entries of this task, or that hand it a right: its number or label",
+        ))?
+        .arg(refused_option(alloc))?
+        .arg(word_option(
+            alloc,
+            "PORT",
+            "port",
+            "Only entries that name this port, or carry a right for it: its identity or label",
+        ))
+}
+
+/// Makes the option that chooses refused calls.
+fn refused_option<'a>(alloc: Global) -> Arg<'a> {
+    Arg::new(alloc, "REFUSED")
         .long("refused")
         .action(ArgAction::SetTrue)
-        .help("Only entries whose call was refused");
-    let port = number_option(
-        alloc,
-        "PORT",
-        "port",
-        "Only entries that name this port (its identity), or carry a right for it",
-    );
-    command.arg(task)?.arg(refused)?.arg(port)
+        .help("Only entries whose call was refused")
 }
 
 /// Adds the options that choose entries by number.
 fn add_range<'a>(alloc: Global, command: Command<'a>) -> Result<Command<'a>, AllocError> {
-    let from = number_option(alloc, "FROM", "from", "Only entries from this number on");
-    let to = number_option(alloc, "TO", "to", "Only entries up to this number");
-    command.arg(from)?.arg(to)
+    command
+        .arg(number_option(alloc, "FROM", "from", "Only entries from this number on"))?
+        .arg(number_option(alloc, "TO", "to", "Only entries up to this number"))
 }
 
 /// Adds the option of labels, and the file.
 fn add_files<'a>(alloc: Global, command: Command<'a>) -> Result<Command<'a>, AllocError> {
-    let labels = Arg::new(alloc, "LABELS")
-        .long("labels")
-        .action(ArgAction::Set)
-        .help("A file of labels: lines 'task N WORD', or with port, set, id or caller for task");
-    let file = Arg::new(alloc, "FILE").help("The history; without it, standard input");
-    command.arg(labels)?.arg(file)
+    command
+        .arg(word_option(
+            alloc,
+            "LABELS",
+            "labels",
+            "A file of labels: lines 'task N WORD', or with port, set, id or caller for task",
+        ))?
+        .arg(Arg::new(alloc, "FILE").help("The history; without it, standard input"))
 }
 
 /// Makes the subcommand `lint`.
@@ -131,11 +166,16 @@ fn lint_command<'a>(alloc: Global) -> Result<Command<'a>, AllocError> {
 /// Makes the program's command line.
 fn program<'a>(alloc: Global) -> Result<Command<'a>, AllocError> {
     let text = text_command(alloc)?;
-    let lint = lint_command(alloc)?;
-    Command::new(alloc, "mach_show")
+    let command = Command::new(alloc, "mach_show")
         .version("1.0")
         .about("Shows histories of Mach 3 port IPC in words")
         .subcommand_required(true)
-        .subcommand(text)?
-        .subcommand(lint)
+        .subcommand(text)?;
+    add_lint(alloc, command)
+}
+
+/// Adds the subcommand `lint`.
+fn add_lint<'a>(alloc: Global, command: Command<'a>) -> Result<Command<'a>, AllocError> {
+    let lint = lint_command(alloc)?;
+    command.subcommand(lint)
 }

@@ -10,12 +10,15 @@ use thiserror::Error;
 /// Why a job ends early. Its text is the line for standard error.
 #[derive(Clone, Copy, Debug, Error)]
 pub enum Fault<'a> {
-    /// The file of this name can't be opened or read.
-    #[error("cannot read {0}")]
-    CannotRead(&'a str),
+    /// The file of this name can't be opened or read, for this reason.
+    #[error("cannot read {0}: {1}")]
+    CannotRead(&'a str, &'static str),
     /// The line of this number, from 1, is no entry.
     #[error("bad line {0}")]
     BadLine(u64),
+    /// The text ends in the middle of the line of this number, from 1.
+    #[error("bad line {0}\nthe text ends in the middle of line {0}: the rest of the line and its line feed are missing")]
+    CutLine(u64),
     /// The first line isn't the heading of a history.
     #[error("bad line 1\n'mach_run trace FILE' prints the history of a script, unless it says on standard error why not; 'mach_show lint FILE' says why a line is bad")]
     NoHistory,
@@ -25,6 +28,12 @@ pub enum Fault<'a> {
     /// The line of this number, from 1, is no label.
     #[error("labels line {0}: {1}")]
     BadLabels(u64, LabelFault),
+    /// No task is called so.
+    #[error("no task '{0}': write a task's number, T and the number, or a label of the file of --labels")]
+    NoTask(&'a str),
+    /// No port is called so.
+    #[error("no port '{0}': write a port's identity, p and the identity, or a label of the file of --labels")]
+    NoPort(&'a str),
     /// The output can't be written.
     #[error("cannot write")]
     CannotWrite,
@@ -56,6 +65,18 @@ impl<'a> From<io::Error> for Fault<'a> {
             ErrorKind::BrokenPipe => Fault::Closed,
             _ => Fault::CannotWrite,
         }
+    }
+}
+
+/// Returns why a file can't be opened or read. Constant time.
+pub fn reason_of(error: &io::Error) -> &'static str {
+    match error.kind() {
+        ErrorKind::NotFound => "there is no such file",
+        ErrorKind::PermissionDenied => "permission denied",
+        ErrorKind::IsADirectory => "it is a directory",
+        ErrorKind::NotADirectory => "a part of its path is no directory",
+        ErrorKind::OutOfMemory => "out of memory",
+        _ => "the system refuses it",
     }
 }
 

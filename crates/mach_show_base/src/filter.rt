@@ -1,13 +1,13 @@
 //! Which entries are shown.
 use kernel_lock::Entry;
-use mach_types::{Event, Reply};
+use mach_types::{Event, Reply, TaskId};
 use mach_words::task_of;
 
 /// Which entries of a history are shown.
 #[derive(Clone, Copy)]
 pub struct Filter {
-    /// Only calls of this task, and those that hand it a right.
-    pub task: Option<u32>,
+    /// Only calls of the task of this number, and those that hand it a right.
+    pub task: Option<u64>,
     /// Only entries that name the port of this identity, or carry a right for it.
     pub port: Option<u64>,
     /// Only refused calls.
@@ -55,14 +55,20 @@ fn is_refused(reply: &Reply) -> bool {
 }
 
 /// Whether the entry is a call of this task, or hands it a right.
-fn is_about(entry: &Entry, task: u32) -> bool {
+fn is_about(entry: &Entry, task: u64) -> bool {
     match (&entry.event, &entry.reply) {
-        (Event::TaskCreate, Reply::Task(made)) => made.number() == task,
-        (Event::InsertRight(to, _, from, _, _), _) => to.number() == task || from.number() == task,
-        (Event::ExtractRight(from, _, _, to), _) => to.number() == task || from.number() == task,
+        (Event::TaskCreate, Reply::Task(made)) => is_task(*made, task),
+        (Event::InsertRight(one, _, other, _, _) | Event::ExtractRight(one, _, _, other), _) => {
+            is_task(*one, task) || is_task(*other, task)
+        }
         (event, _) => match task_of(event) {
-            Some(caller) => caller.number() == task,
+            Some(caller) => is_task(caller, task),
             None => false,
         },
     }
+}
+
+/// Whether the task has this number.
+fn is_task(task: TaskId, number: u64) -> bool {
+    u64::from(task.number()) == number
 }

@@ -4,7 +4,7 @@ ghost use Rattle.std.specs.Prelude.{◌≡◌, ◌≤◌};
 use crate::fault::{Fault, report};
 use crate::filter::Filter;
 use crate::linting::lint_file;
-use crate::text::{Shown, show_file};
+use crate::text::{Ended, Shown, show_file};
 use mach_words::Labels;
 use std::alloc::Global;
 use std::io::{Read, Write};
@@ -38,11 +38,23 @@ pub struct Work<'a> {
     pub labels: &'a Labels,
 }
 
+/// How a job ended.
+#[derive(Clone, Copy)]
+enum Done {
+    /// It was done, and no line is bad.
+    Well,
+    /// A line is bad.
+    BadLines,
+    /// None of so many entries was shown.
+    Unseen(u64),
+}
+
 /// Does the job on its file, and returns the program's status: 0 if it is done and no line is bad, otherwise 1.
 ///
-/// The text goes to `out`. A fault goes to `err`, as a line: `cannot read NAME`, `bad line N` for the first line that is no
-/// entry, `not confirmed at N` for the first entry to which the kernel replies otherwise, `cannot write`, `out of memory`.
-/// A closed output is a fault without a line. What was written before stays.
+/// The text goes to `out`. A fault goes to `err`, as a line: `cannot read NAME` and why, `bad line N` for the first line that
+/// is no entry, `not confirmed at N` for the first entry to which the kernel replies otherwise, `cannot write`,
+/// `out of memory`. A closed output is a fault without a line. What was written before stays. If no entry is shown, a line
+/// of `err` says so.
 ///
 /// `text` takes the time and memory of a kernel that makes the history's calls, and memory for names and queued messages.
 /// `lint` is linear in the text, and takes memory for its longest line.
@@ -56,19 +68,20 @@ pub fn perform<R: Read, W: Write, E: Write>(
     ensures status { result ≤ 1 }
 {
     match start(alloc, work, file, out) {
-        Ok(false) => 0,
-        Ok(true) => 1,
+        Ok(Done::Well) => 0,
+        Ok(Done::BadLines) => 1,
+        Ok(Done::Unseen(entries)) => report_unseen(entries, err),
         Err(fault) => stop(fault, out, err),
     }
 }
 
-/// Does the job, and returns whether a line is bad. Faults are those of [`perform`].
+/// Does the job, and returns how it ended. Faults are those of [`perform`].
 fn start<'a, R: Read, W: Write>(
     alloc: Global,
     work: &Work<'a>,
     file: &mut R,
     out: &mut W,
-) -> Result<bool, Fault<'a>> {
+) -> Result<Done, Fault<'a>> {
     let Work { job, name, labels } = *work;
     match job {
         Job::Text(filter) => {
@@ -77,12 +90,33 @@ fn start<'a, R: Read, W: Write>(
                 filter,
                 labels,
             };
-            show_file(name, &shown, file, out)?;
+            let ended = show_file(name, &shown, file, out)?;
             out.flush()?;
-            Ok(false)
+            Ok(match ended {
+                Ended::Shown => Done::Well,
+                Ended::Unseen(entries) => Done::Unseen(entries),
+            })
         }
-        Job::Lint(kind) => lint_file(alloc, name, kind, file, out),
+        Job::Lint(kind) => {
+            let has_bad = lint_file(alloc, name, kind, file, out)?;
+            Ok(if has_bad { Done::BadLines } else { Done::Well })
+        }
     }
+}
+
+/// Writes that none of so many entries is shown, and returns the status. An error of `err` is ignored.
+fn report_unseen<E: Write>(entries: u64, err: &mut E) -> u8
+    ensures { result ≡ 0 }
+{
+    let _ = match entries {
+        0 => err.write_all(b"no entry is shown: the history has none\n"),
+        1 => err.write_all(b"no entry is shown: entry 1 is not what the options ask for\n"),
+        _ => writeln!(
+            err,
+            "no entry is shown: none of entries 1 to {entries} is what the options ask for"
+        ),
+    };
+    0
 }
 
 /// Flushes the output, writes the fault, and returns the status.

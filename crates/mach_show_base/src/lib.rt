@@ -9,11 +9,13 @@ mod fault;
 mod filter;
 mod job;
 mod linting;
+mod naming;
 mod reading;
 mod text;
 
 pub use command_line::{Request, read_words};
-pub use fault::{Fault, report};
+pub use fault::{Fault, reason_of, report};
 pub use filter::Filter;
 pub use job::{Job, Kind, Work, perform};
+pub use naming::job_of;
 pub use reading::read_labels;

@@ -1,7 +1,7 @@
 //! The job `lint`: lists the bad lines of scripts and histories.
 use crate::fault::Fault;
 use crate::job::Kind;
-use crate::reading::{READ_AT_ONCE, next_line};
+use crate::reading::{READ_AT_ONCE, TOO_MANY, next_line};
 use mach_lint::{
     Blocks, Fault as LineFault, Made, history_fault, script_fault, script_note, write_fault,
     write_note,
@@ -34,11 +34,22 @@ pub(crate) fn lint_file<'a, R: Read, W: Write>(
     out: &mut W,
 ) -> Result<bool, Fault<'a>> {
     let mut line = Vec::new(alloc);
-    let mut reader = match BufReader::with_capacity(alloc, READ_AT_ONCE, file) {
-        Ok(reader) => reader,
-        Err(_) => return Err(Fault::OutOfMemory),
-    };
-    let length = next_line(name, &mut reader, &mut line, out)?;
+    match BufReader::with_capacity(alloc, READ_AT_ONCE, file) {
+        Ok(mut reader) => lint_text(alloc, name, kind, &mut reader, &mut line, out),
+        Err(_) => Err(Fault::OutOfMemory),
+    }
+}
+
+/// Lists the bad lines that the reader has, and returns whether there is one.
+fn lint_text<'a, R: Read, W: Write>(
+    alloc: Global,
+    name: &'a str,
+    kind: Option<Kind>,
+    reader: &mut BufReader<&mut R>,
+    line: &mut Vec<u8>,
+    out: &mut W,
+) -> Result<bool, Fault<'a>> {
+    let length = next_line(name, reader, line, out)?;
     let kind = kind.unwrap_or(kind_of(line.as_slice()));
     write_kind(kind, out)?;
     let mut seen = Seen {
@@ -51,7 +62,7 @@ pub(crate) fn lint_file<'a, R: Read, W: Write>(
     if length == 0 {
         lint_nothing(&mut seen, out)?;
     } else {
-        lint_lines(name, &mut seen, &mut reader, &mut line, out)?;
+        lint_lines(name, &mut seen, reader, line, out)?;
     }
     write_count(seen.bad, out)?;
     out.flush()?;
@@ -111,7 +122,7 @@ fn lint_lines<'a, R: Read, W: Write>(
             return Ok(());
         }
     }
-    Err(Fault::CannotRead(name))
+    Err(Fault::CannotRead(name, TOO_MANY))
 }
 
 /// Writes the fault or note of the line of this number, if there is one.
@@ -151,9 +162,32 @@ fn lint_history_line<W: Write>(
     out: &mut W,
 ) -> Result<(), Fault<'static>> {
     match line_fault(seen.alloc, number, line)? {
+        Some(fault) if is_cut(line, &fault) => write_cut(seen, number, &fault, out),
         Some(fault) => write_bad(seen, number, &fault, out),
         None => Ok(()),
     }
+}
+
+/// Whether the text ends in the middle of the line, so that its fault may be what is missing.
+fn is_cut(line: &[u8], fault: &LineFault<'_>) -> bool {
+    !line.ends_with(b"\n") && !matches!(fault, LineFault::NoLineFeed | LineFault::Heading)
+}
+
+/// Writes that the text ends in the middle of the line, and the fault of what is there. Counts the line.
+fn write_cut<W: Write>(
+    seen: &mut Seen,
+    number: u64,
+    fault: &LineFault<'_>,
+    out: &mut W,
+) -> Result<(), Fault<'static>> {
+    seen.bad = seen.bad.saturating_add(1);
+    write!(
+        out,
+        "line {number}: the text ends in the middle of the line: "
+    )?;
+    write_fault(fault, out)?;
+    out.write_all(b"\n")?;
+    Ok(())
 }
 
 /// Writes the note on a line that is a call, if there is one.

@@ -1,5 +1,5 @@
 //! Reads files line by line.
-use crate::fault::Fault;
+use crate::fault::{Fault, reason_of};
 use mach_words::{LabelFault, Labels};
 use memchr::memchr;
 use std::alloc::Global;
@@ -8,6 +8,9 @@ use std::io::{BufRead, BufReader, ErrorKind, Read, Write};
 
 /// How many bytes of a file are read at once.
 pub(crate) const READ_AT_ONCE: usize = 131_072;
+
+/// Why a text without end can't be read.
+pub(crate) const TOO_MANY: &str = "it has too many lines";
 
 /// Reads the next line into `line`, with its line feed, and returns its length: 0 at the end.
 ///
@@ -32,7 +35,7 @@ pub(crate) fn next_line<'a, R: Read, W: Write>(
 fn fault_of<'a>(name: &'a str, error: &io::Error) -> Fault<'a> {
     match error.kind() {
         ErrorKind::OutOfMemory => Fault::OutOfMemory,
-        _ => Fault::CannotRead(name),
+        _ => Fault::CannotRead(name, reason_of(error)),
     }
 }
 
@@ -46,14 +49,36 @@ pub fn read_labels<'a, R: Read>(
     file: &mut R,
 ) -> Result<Labels, Fault<'a>> {
     let mut labels = Labels::new(alloc);
+    match fill(alloc, name, file, &mut labels) {
+        Ok(()) => Ok(labels),
+        Err(fault) => Err(fault),
+    }
+}
+
+/// Enters the labels of the file.
+fn fill<'a, R: Read>(
+    alloc: Global,
+    name: &'a str,
+    file: &mut R,
+    labels: &mut Labels,
+) -> Result<(), Fault<'a>> {
     let mut line = Vec::new(alloc);
-    let mut reader = match BufReader::with_capacity(alloc, READ_AT_ONCE, file) {
-        Ok(reader) => reader,
-        Err(_) => return Err(Fault::OutOfMemory),
-    };
+    match BufReader::with_capacity(alloc, READ_AT_ONCE, file) {
+        Ok(mut reader) => fill_from(name, &mut reader, &mut line, labels),
+        Err(_) => Err(Fault::OutOfMemory),
+    }
+}
+
+/// Enters the labels of the lines that the reader has.
+fn fill_from<'a, R: Read>(
+    name: &'a str,
+    reader: &mut BufReader<&mut R>,
+    line: &mut Vec<u8>,
+    labels: &mut Labels,
+) -> Result<(), Fault<'a>> {
     for number in 1..u64::MAX {
-        if next_line(name, &mut reader, &mut line, &mut io::sink())? == 0 {
-            return Ok(labels);
+        if next_line(name, reader, line, &mut io::sink())? == 0 {
+            return Ok(());
         }
         match labels.read_line(text_of(line.as_slice())) {
             Ok(()) => {}
@@ -61,7 +86,7 @@ pub fn read_labels<'a, R: Read>(
             Err(fault) => return Err(Fault::BadLabels(number, fault)),
         }
     }
-    Err(Fault::CannotRead(name))
+    Err(Fault::CannotRead(name, TOO_MANY))
 }
 
 /// Returns the line without its line feed.

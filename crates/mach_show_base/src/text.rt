@@ -4,7 +4,7 @@ ghost use Rattle.mach_types.specs.declared.profiles.Profile.TheVariants.{Three};
 
 use crate::fault::Fault;
 use crate::filter::Filter;
-use crate::reading::{READ_AT_ONCE, next_line};
+use crate::reading::{READ_AT_ONCE, TOO_MANY, next_line};
 use kernel_lock::Entry;
 use mach_causes::{explain, write_cause};
 use mach_entries::{
@@ -44,6 +44,8 @@ struct Page {
     line: Vec<u8>,
     // The lines below it.
     details: Vec<u8>,
+    // Whether an entry was shown.
+    is_used: bool,
 }
 
 impl Page {
@@ -53,6 +55,7 @@ impl Page {
             told: Vec::new(alloc),
             line: Vec::new(alloc),
             details: Vec::new(alloc),
+            is_used: false,
         }
     }
 
@@ -64,54 +67,128 @@ impl Page {
     }
 }
 
+/// How a history ended.
+#[derive(Clone, Copy)]
+pub(crate) enum Ended {
+    /// An entry was shown.
+    Shown,
+    /// None of so many entries was shown.
+    Unseen(u64),
+}
+
 /// Shows the history in the file. Each entry is written before the next is waited for.
 pub(crate) fn show_file<'a, R: Read, W: Write>(
     name: &'a str,
     shown: &Shown<'_>,
     file: &mut R,
     out: &mut W,
-) -> Result<(), Fault<'a>> {
+) -> Result<Ended, Fault<'a>> {
     let mut line = Vec::new(shown.alloc);
-    let mut reader = match BufReader::with_capacity(shown.alloc, READ_AT_ONCE, file) {
-        Ok(reader) => reader,
-        Err(_) => return Err(Fault::OutOfMemory),
-    };
-    next_line(name, &mut reader, &mut line, out)?;
+    match BufReader::with_capacity(shown.alloc, READ_AT_ONCE, file) {
+        Ok(mut reader) => show_history(name, shown, &mut reader, &mut line, out),
+        Err(_) => Err(Fault::OutOfMemory),
+    }
+}
+
+/// Shows the history that the reader has.
+fn show_history<'a, R: Read, W: Write>(
+    name: &'a str,
+    shown: &Shown<'_>,
+    reader: &mut BufReader<&mut R>,
+    line: &mut Vec<u8>,
+    out: &mut W,
+) -> Result<Ended, Fault<'a>> {
+    next_line(name, reader, line, out)?;
     let Some((profile, _)) = behind_heading(line.as_slice()) else {
         return Err(Fault::NoHistory);
     };
-    show_entries(name, shown, profile, &mut reader, out)
+    show_entries(name, shown, profile, reader, line, out)
 }
 
-/// Shows the entries of a history of this profile.
+/// Shows the entries of a history of this profile. It owns the follower, and does nothing else: each way out of a function
+/// drops what it owns, and the follower has all tables of a kernel.
 fn show_entries<'a, R: Read, W: Write>(
     name: &'a str,
     shown: &Shown<'_>,
     profile: Profile,
     reader: &mut BufReader<&mut R>,
+    line: &mut Vec<u8>,
     out: &mut W,
-) -> Result<(), Fault<'a>>
+) -> Result<Ended, Fault<'a>>
     requires one_set { profile ≢ Three }
 {
     let mut follower = Follower::new(shown.alloc, profile);
+    show_with(name, shown, reader, &mut follower, line, out)
+}
+
+/// Shows the entries on the follower.
+fn show_with<'a, R: Read, W: Write>(
+    name: &'a str,
+    shown: &Shown<'_>,
+    reader: &mut BufReader<&mut R>,
+    follower: &mut Follower,
+    line: &mut Vec<u8>,
+    out: &mut W,
+) -> Result<Ended, Fault<'a>> {
     let mut page = Page::new(shown.alloc);
-    let mut line = Vec::new(shown.alloc);
+    show_all(name, shown, reader, follower, &mut page, line, out)
+}
+
+/// Shows the entries that the reader has, one after another.
+fn show_all<'a, R: Read, W: Write>(
+    name: &'a str,
+    shown: &Shown<'_>,
+    reader: &mut BufReader<&mut R>,
+    follower: &mut Follower,
+    page: &mut Page,
+    line: &mut Vec<u8>,
+    out: &mut W,
+) -> Result<Ended, Fault<'a>> {
     for number in 1..u64::MAX - 1 {
-        if next_line(name, reader, &mut line, out)? == 0 {
-            return Ok(());
+        if next_line(name, reader, line, out)? == 0 {
+            return Ok(end_of_history(page, number));
         }
-        let entry = match first_line(shown.alloc, line.as_slice()) {
-            Ok((entry, _)) => entry,
-            Err(TextFault::Bad) => return Err(Fault::BadLine(number + 1)),
-            Err(TextFault::OutOfMemory) => return Err(Fault::OutOfMemory),
-        };
-        let numbered = Numbered {
-            number,
-            entry: &entry,
-        };
-        show_entry(shown, &numbered, &mut follower, &mut page, out)?;
+        show_line(shown, number, line.as_slice(), follower, page, out)?;
     }
-    Err(Fault::CannotRead(name))
+    Err(Fault::CannotRead(name, TOO_MANY))
+}
+
+/// Returns how the history ended, where the next entry would have this number.
+fn end_of_history(page: &Page, number: u64) -> Ended {
+    if page.is_used {
+        return Ended::Shown;
+    }
+    Ended::Unseen(number.saturating_sub(1))
+}
+
+/// Shows the entry of this number, whose line this is.
+fn show_line<W: Write>(
+    shown: &Shown<'_>,
+    number: u64,
+    line: &[u8],
+    follower: &mut Follower,
+    page: &mut Page,
+    out: &mut W,
+) -> Result<(), Fault<'static>> {
+    match first_line(shown.alloc, line) {
+        Ok((entry, _)) => {
+            let numbered = Numbered {
+                number,
+                entry: &entry,
+            };
+            show_entry(shown, &numbered, follower, page, out)
+        }
+        Err(TextFault::Bad) => Err(bad_line(number.saturating_add(1), line)),
+        Err(TextFault::OutOfMemory) => Err(Fault::OutOfMemory),
+    }
+}
+
+/// Returns the fault of the line of this number, which is no entry.
+fn bad_line(number: u64, line: &[u8]) -> Fault<'static> {
+    if line.ends_with(b"\n") {
+        return Fault::BadLine(number);
+    }
+    Fault::CutLine(number)
 }
 
 /// An entry and its number, from 1.
@@ -174,6 +251,7 @@ fn end_entry<W: Write>(
     out: &mut W,
 ) -> Result<(), Fault<'static>> {
     page.write_after(shown, numbered, follower)?;
+    page.is_used = true;
     out.write_all(page.line.as_slice())?;
     out.write_all(page.details.as_slice())?;
     Ok(())

@@ -18,12 +18,40 @@ struct Label {
     bytes: [u8; LONGEST],
 }
 
+/// The label of the thing of this number.
+#[derive(Clone, Copy)]
+struct Labelled {
+    number: u64,
+    label: Label,
+}
+
 /// Why a line of labels was refused.
 #[derive(Clone, Copy, Debug, Error)]
 pub enum LabelFault {
-    /// The line isn't a kind, a number and a label, with one space between them.
-    #[error("it is not 'task', 'port', 'set', 'id' or 'caller', a number and a word of at most 24 letters, digits, '-' and '_'")]
-    Bad,
+    /// The line is empty.
+    #[error("the line is empty")]
+    Empty,
+    /// The first word isn't what labels are for.
+    #[error("the first word is not 'task', 'port', 'set', 'id' or 'caller'")]
+    NoKind,
+    /// The second word isn't a number, or isn't there.
+    #[error("the second word is no number from 0 to 18446744073709551615")]
+    NoNumber,
+    /// There is no third word.
+    #[error("there is no word behind the number")]
+    NoWord,
+    /// There is a fourth word.
+    #[error("there is more behind the third word; a label has no space")]
+    TooMany,
+    /// The label is too long.
+    #[error("the label has more than 24 letters")]
+    TooLong,
+    /// The label doesn't begin with a letter.
+    #[error("the label does not begin with a letter")]
+    NoLetter,
+    /// The label has a byte that no label has.
+    #[error("the label has something else than letters, digits, '-' and '_'")]
+    NoLabelByte,
     /// The line names something that has a label already.
     #[error("this has a label already")]
     Twice,
@@ -46,6 +74,9 @@ pub struct Labels {
     sets: NumberMap<Label>,
     ids: NumberMap<Label>,
     callers: NumberMap<Label>,
+    // The labels of tasks and ports once more, in the order of their lines.
+    of_tasks: Vec<Labelled>,
+    of_ports: Vec<Labelled>,
 }
 
 impl Labels {
@@ -57,6 +88,8 @@ impl Labels {
             sets: NumberMap::new(alloc),
             ids: NumberMap::new(alloc),
             callers: NumberMap::new(alloc),
+            of_tasks: Vec::new(alloc),
+            of_ports: Vec::new(alloc),
         }
     }
 
@@ -64,27 +97,41 @@ impl Labels {
     /// or `caller` in the place of `task`. N is a number of up to 64 bits. WORD has 1 to 24 letters, digits, `-` and `_`,
     /// and begins with a letter.
     ///
-    /// Returns `Bad` for any other line, `Twice` if N has a label of this kind, and `OutOfMemory`. An error enters
-    /// nothing. Linear in the line.
+    /// Returns `Twice` if N has a label of this kind, `OutOfMemory`, and for any other line its first fault. After
+    /// `OutOfMemory` the table is of no further use; other errors enter nothing. Linear in the line.
     pub fn read_line(&mut self, line: &[u8]) -> Result<(), LabelFault> {
+        if line.is_empty() {
+            return Err(LabelFault::Empty);
+        }
         let mut words = Words::of(line);
         let Ok(kind) = words.word() else {
-            return Err(LabelFault::Bad);
+            return Err(LabelFault::NoKind);
         };
-        let Ok(number) = words.identity() else {
-            return Err(LabelFault::Bad);
-        };
-        let Ok(word) = words.word() else {
-            return Err(LabelFault::Bad);
-        };
-        if words.end().is_err() {
-            return Err(LabelFault::Bad);
-        }
-        let label = label_of(word).ok_or(LabelFault::Bad)?;
         let Some(table) = self.table(kind) else {
-            return Err(LabelFault::Bad);
+            return Err(LabelFault::NoKind);
         };
-        enter(table, number, label)
+        let labelled = labelled_of(words)?;
+        enter(table, &labelled)?;
+        self.keep(kind, labelled)
+    }
+
+    /// Keeps the label of a task or a port, so that its number is found by it.
+    fn keep(&mut self, kind: &[u8], labelled: Labelled) -> Result<(), LabelFault> {
+        match kind {
+            b"task" => append(&mut self.of_tasks, labelled),
+            b"port" => append(&mut self.of_ports, labelled),
+            _ => Ok(()),
+        }
+    }
+
+    /// Returns the number of the first task that has this label; `None` if none has. Linear in the labels of tasks.
+    pub fn task_named(&self, label: &[u8]) -> Option<u64> {
+        number_of(self.of_tasks.as_slice(), label)
+    }
+
+    /// Returns the identity of the first port that has this label; `None` if none has. Linear in the labels of ports.
+    pub fn port_named(&self, label: &[u8]) -> Option<u64> {
+        number_of(self.of_ports.as_slice(), label)
     }
 
     /// Returns the table of the kind that the word names.
@@ -148,13 +195,46 @@ impl Labels {
 }
 
 /// Enters a label under a number. Returns `Twice` if that has one, or `OutOfMemory`; the table is then unchanged.
-fn enter(table: &mut NumberMap<Label>, number: u64, label: Label) -> Result<(), LabelFault> {
-    if table.get(number).is_some() {
+fn enter(table: &mut NumberMap<Label>, labelled: &Labelled) -> Result<(), LabelFault> {
+    if table.get(labelled.number).is_some() {
         return Err(LabelFault::Twice);
     }
     table.reserve(1)?;
-    table.insert(number, label);
+    table.insert(labelled.number, labelled.label);
     Ok(())
+}
+
+/// Appends a label to the list.
+fn append(list: &mut Vec<Labelled>, labelled: Labelled) -> Result<(), LabelFault> {
+    match list.push(labelled) {
+        Ok(()) => Ok(()),
+        Err(_) => Err(LabelFault::OutOfMemory),
+    }
+}
+
+/// Reads the words behind the kind: a number and a label.
+fn labelled_of(mut words: Words<'_>) -> Result<Labelled, LabelFault> {
+    let Ok(number) = words.identity() else {
+        return Err(LabelFault::NoNumber);
+    };
+    let Ok(word) = words.word() else {
+        return Err(LabelFault::NoWord);
+    };
+    if words.end().is_err() {
+        return Err(LabelFault::TooMany);
+    }
+    let label = label_of(word)?;
+    Ok(Labelled { number, label })
+}
+
+/// Returns the number of the first thing that has this label.
+fn number_of(all: &[Labelled], label: &[u8]) -> Option<u64> {
+    for labelled in all {
+        if word_of(&labelled.label) == label {
+            return Some(labelled.number);
+        }
+    }
+    None
 }
 
 /// Whether a label may have the byte.
@@ -162,31 +242,44 @@ fn is_label_byte(byte: u8) -> bool {
     byte.is_ascii_alphanumeric() || byte == b'-' || byte == b'_'
 }
 
-/// Returns the word as a label: 1 to 24 letters, digits, `-` and `_`, the first a letter; `None` for other words.
-fn label_of(word: &[u8]) -> Option<Label> {
-    let first = word.first()?;
-    if !first.is_ascii_alphabetic() || word.len() > LONGEST {
-        return None;
+/// Returns the word as a label: 1 to 24 letters, digits, `-` and `_`, the first a letter. Other words are errors.
+fn label_of(word: &[u8]) -> Result<Label, LabelFault> {
+    match word.first() {
+        Some(first) if first.is_ascii_alphabetic() => {}
+        _ => return Err(LabelFault::NoLetter),
     }
     if !word.iter().all(|byte| is_label_byte(*byte)) {
-        return None;
+        return Err(LabelFault::NoLabelByte);
     }
+    if word.len() > LONGEST {
+        return Err(LabelFault::TooLong);
+    }
+    Ok(copied(word))
+}
+
+/// Returns the word as a label. It has at most 24 bytes.
+fn copied(word: &[u8]) -> Label {
     let mut bytes = [0; LONGEST];
     for (place, byte) in word.iter().enumerate() {
         if let Some(slot) = bytes.get_mut(place) {
             *slot = *byte;
         }
     }
-    Some(Label {
+    Label {
         length: word.len(),
         bytes,
-    })
+    }
+}
+
+/// Returns the label's word.
+fn word_of(label: &Label) -> &[u8] {
+    label
+        .bytes
+        .get(..label.length)
+        .unwrap_or(label.bytes.as_slice())
 }
 
 /// Writes a label.
 fn write_label<W: Write>(label: &Label, out: &mut W) -> io::Result<()> {
-    match label.bytes.get(..label.length) {
-        Some(word) => crate::data::write_plain(word, out),
-        None => Ok(()),
-    }
+    crate::data::write_plain(word_of(label), out)
 }
