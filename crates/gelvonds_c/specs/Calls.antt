@@ -1,5 +1,5 @@
 -- A call by a handle: the kernel's own step, where there is a kernel; and the code that C gets for it.
-use Rattle.std.specs.Prelude.{◌≡◌, ◌≢◌, ℕ, ℤ, ◌⊎◌, Option, None, Some, length, if◌then◌else◌, nat_lt}
+use Rattle.std.specs.Prelude.{◌≡◌, ◌≢◌, ℕ, ℤ, ◌⊎◌, List, ◌++◌, Option, None, Some, length, drop, map, min, if◌then◌else◌, nat_lt}
 use Rattle.std.specs.Int.{w32, cast_signed}
 use Rattle.mach_types.specs.declared.calls.Event.{Event}
 use Rattle.mach_types.specs.declared.calls.Reply.{Reply}
@@ -8,6 +8,9 @@ use Rattle.mach_types.specs.Codes.{msg_number}
 use Rattle.kernel_core.specs.Answers.{Answers}
 use Rattle.mach_types.specs.declared.calls.Waited.{Waited}
 use Rattle.mach_types.specs.declared.calls.Waited.TheVariants.{Port, Set}
+use Rattle.mach_types.specs.declared.calls.Status.{Status}
+use Rattle.gelvonds_c.specs.declared.messages.WaitedFor.{WaitedFor}
+use Rattle.gelvonds_c.specs.declared.receive_right.PortStatus.{PortStatus}
 use Rattle.gelvonds_c.specs.Held.{Kept}
 
 abbrev pub Calls : (old : Kept) → Event → Option Reply → (new : Kept) → Type 0
@@ -55,6 +58,32 @@ abbrev pub bytes_in : Option Reply → ℕ
 bytes_in (Some (Reply.Message bytes)) = length bytes
 bytes_in reply = 0
 
+-- A list of so many numbers at the front of the caller's array, where there is room for all of them.
+abbrev pub put_list : (room count : ℕ) → (list before : List ℕ) → List ℕ
+put_list room count list before = if nat_lt room count then before else list ++ drop count before
+
+-- what is written of a list that is answered: names, the types at the same places, or members
+abbrev pub names_into : Option Reply → (room : ℕ) → List ℕ → List ℕ
+names_into (Some (Reply.Names entries)) room before = put_list room (length entries) (map (λ e. e.0) entries) before
+names_into reply room before = before
+
+abbrev pub types_into : Option Reply → (room : ℕ) → List ℕ → List ℕ
+types_into (Some (Reply.Names entries)) room before = put_list room (length entries) (map (λ e. e.1) entries) before
+types_into reply room before = before
+
+abbrev pub members_into : Option Reply → (room : ℕ) → List ℕ → List ℕ
+members_into (Some (Reply.Members members)) room before = put_list room (length members) members before
+members_into reply room before = before
+
+-- how many names or members are answered, or the other number
+abbrev pub names_or : Option Reply → ℕ → ℕ
+names_or (Some (Reply.Names entries)) other = length entries
+names_or reply other = other
+
+abbrev pub members_or : Option Reply → ℕ → ℕ
+members_or (Some (Reply.Members members)) other = length members
+members_or reply other = other
+
 -- the number that is answered, or the other one where none is
 abbrev pub number_or : Option Reply → ℕ → ℕ
 number_or (Some (Reply.Task task)) other = task
@@ -63,6 +92,53 @@ number_or (Some (Reply.Previous name)) other = name
 number_or (Some (Reply.Refs refs)) other = refs
 number_or (Some (Reply.NameType type)) other = type
 number_or reply other = other
+
+-- the name of the right that is answered and the number of its kind, or the other ones where none is
+abbrev pub right_name_or : Option Reply → ℕ → ℕ
+right_name_or (Some (Reply.Right name kind)) other = name
+right_name_or reply other = other
+
+abbrev pub right_kind_or : Option Reply → ℕ → ℕ
+right_kind_or (Some (Reply.Right name kind)) other = kind
+right_kind_or reply other = other
+
+-- a status as C has it, and that which is answered, or the other one
+abbrev pub c_status : Status → PortStatus
+c_status s = record {
+  set = s.set;
+  sequence = s.sequence;
+  make_send = s.make_send;
+  limit = s.limit;
+  queued = s.queued;
+  send_once = s.send_once;
+  has_send = s.has_send;
+  port_destroyed = s.port_destroyed;
+  no_senders = s.no_senders;
+}
+
+abbrev pub status_or : Option Reply → PortStatus → PortStatus
+status_or (Some (Reply.Status status)) other = c_status status
+status_or reply other = other
+
+-- what was waited for as C has it, and that which is answered, or the other one
+abbrev pub c_waited : Waited → WaitedFor
+c_waited (Port port) = record { identity = port; kind = 1 }
+c_waited (Set set) = record { identity = set; kind = 2 }
+
+abbrev pub waited_or : Option Reply → WaitedFor → WaitedFor
+waited_or (Some (Reply.Empty waited)) other = c_waited waited
+waited_or reply other = other
+
+-- the length of a message that is answered, or that is too long, or the other one
+abbrev pub length_or : Option Reply → ℕ → ℕ
+length_or (Some (Reply.Message bytes)) other = length bytes
+length_or (Some (Reply.TooLarge needed)) other = needed
+length_or reply other = other
+
+-- the buffer with the message's bytes at its front, where it has room for them
+abbrev pub received_into : Option Reply → List ℕ → List ℕ
+received_into (Some (Reply.Message bytes)) buffer = if nat_lt (length buffer) (length bytes) then buffer else bytes ++ drop (length bytes) buffer
+received_into reply buffer = buffer
 
 -- ---- what a C function does
 
@@ -79,11 +155,46 @@ pub record Tells (old : Kept) (event : Event) (code : ℤ) (new : Kept) (before 
   pub code_is : code ≡ signed (code_for reply)
   pub tells : after ≡ number_or reply before
 
--- It was, and the code is that of its answer, or the other one where there is more of that than the caller's array has room for.
-pub record Fills (old : Kept) (event : Event) (count : Option Reply → ℕ) (room other : ℕ) (code : ℤ) (new : Kept) : Type 0 where
+-- What a listing writes: all names and types, or all members, where the arrays have room, and how many they are.
+pub record ListsNames (old : Kept) (event : Event) (code : ℤ) (new : Kept) (names_before names_after types_before types_after : List ℕ) (count_before count_after : ℕ) : Type 0 where
   pub reply : Option Reply
   pub calls : Calls old event reply new
-  pub code_is : code ≡ signed (if nat_lt room (count reply) then other else code_for reply)
+  pub code_is : code ≡ signed (if nat_lt (min (length names_before) (length types_before)) (names_in reply) then too_short else code_for reply)
+  pub names_are : names_after ≡ names_into reply (min (length names_before) (length types_before)) names_before
+  pub types_are : types_after ≡ types_into reply (min (length names_before) (length types_before)) types_before
+  pub count_is : count_after ≡ names_or reply count_before
+
+pub record ListsMembers (old : Kept) (event : Event) (code : ℤ) (new : Kept) (before after : List ℕ) (count_before count_after : ℕ) : Type 0 where
+  pub reply : Option Reply
+  pub calls : Calls old event reply new
+  pub code_is : code ≡ signed (if nat_lt (length before) (members_in reply) then too_short else code_for reply)
+  pub members_are : after ≡ members_into reply (length before) before
+  pub count_is : count_after ≡ members_or reply count_before
+
+-- It was, and where its answer is a right, the right's name and kind are written.
+pub record TellsRight (old : Kept) (event : Event) (code : ℤ) (new : Kept) (name_before name_after kind_before kind_after : ℕ) : Type 0 where
+  pub reply : Option Reply
+  pub calls : Calls old event reply new
+  pub code_is : code ≡ signed (code_for reply)
+  pub name_is : name_after ≡ right_name_or reply name_before
+  pub kind_is : kind_after ≡ right_kind_or reply kind_before
+
+-- It was, and where its answer is a status, all nine numbers are written.
+pub record TellsStatus (old : Kept) (event : Event) (code : ℤ) (new : Kept) (before after : PortStatus) : Type 0 where
+  pub reply : Option Reply
+  pub calls : Calls old event reply new
+  pub code_is : code ≡ signed (code_for reply)
+  pub status_is : after ≡ status_or reply before
+
+-- It was, and of what its answer is, the message's bytes are written, or its length, or what was waited for.
+pub record Receives (old : Kept) (event : Event) (code : ℤ) (new : Kept) (bytes_before bytes_after : List ℕ) (length_before length_after : ℕ)
+    (waited_before waited_after : WaitedFor) : Type 0 where
+  pub reply : Option Reply
+  pub calls : Calls old event reply new
+  pub code_is : code ≡ signed (if nat_lt (length bytes_before) (bytes_in reply) then no_answer else code_for reply)
+  pub bytes_are : bytes_after ≡ received_into reply bytes_before
+  pub length_is : length_after ≡ length_or reply length_before
+  pub waited_is : waited_after ≡ waited_or reply waited_before
 
 -- What C says was waited for, by its kind and identity.
 abbrev pub IsWaited : (kind identity : ℕ) → Waited → Type 0

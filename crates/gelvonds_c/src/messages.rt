@@ -1,10 +1,10 @@
 //! Calls that send and receive.
-ghost use Rattle.std.specs.Prelude.{◌≡◌, ◌⊎◌, MatchOption, length, min, if◌then◌else◌, nat_lt};
+ghost use Rattle.std.specs.Prelude.{◌≡◌, ◌⊎◌, ◌++◌, MatchOption, drop, length, min, if◌then◌else◌, nat_lt};
 ghost use Rattle.mach_types.specs.declared.calls.Event.TheVariants.{Send, Receive, ReceiveAgain};
 ghost use Rattle.mach_types.specs.declared.calls.Waited.{Waited};
 ghost use Rattle.mach_types.specs.declared.codes.MsgReturn.TheVariants.{SendNoBuffer};
 ghost use Rattle.mach_types.specs.Codes.{msg_number};
-ghost use Rattle.gelvonds_c.specs.Calls.{Asks, Fills, IsWaited, IsNoKind, bytes_in, code_for, no_answer, no_waited, signed};
+ghost use Rattle.gelvonds_c.specs.Calls.{Asks, Receives, IsWaited, IsNoKind, bytes_in, c_waited, code_for, length_or, no_answer, no_waited, received_into, signed, waited_or};
 
 use crate::call::{call, code, code_of};
 use crate::codes::{NO_ANSWER, NO_WAITED, SUCCESS};
@@ -52,7 +52,7 @@ pub extern "C" fn gelvonds_receive(
     count: &mut usize,
     waited: &mut WaitedFor,
 ) -> i32
-    ensures { Fills handle.old.kernel (Receive task name (min (length buffer.old) 4294967295) large) bytes_in (length buffer.old) no_answer result handle.new.kernel }
+    ensures { Receives handle.old.kernel (Receive task name (min (length buffer.old) 4294967295) large) result handle.new.kernel buffer.old buffer.new count.old count.new waited.old waited.new }
 {
     let room = room_of(buffer.len());
     let event = Event::Receive(TaskId::new(task), Name::new(name), room, large);
@@ -70,7 +70,7 @@ pub extern "C" fn gelvonds_receive_again(
     count: &mut usize,
     waited: &mut WaitedFor,
 ) -> i32
-    ensures { ((w : Waited) × IsWaited waited.old.kind waited.old.identity w × Fills handle.old.kernel (ReceiveAgain task w (min (length buffer.old) 4294967295) large) bytes_in (length buffer.old) no_answer result handle.new.kernel) ⊎ IsNoKind waited.old.kind × (result ≡ signed no_waited) × (handle.new.kernel ≡ handle.old.kernel) }
+    ensures { ((w : Waited) × IsWaited waited.old.kind waited.old.identity w × Receives handle.old.kernel (ReceiveAgain task w (min (length buffer.old) 4294967295) large) result handle.new.kernel buffer.old buffer.new count.old count.new waited.old waited.new) ⊎ IsNoKind waited.old.kind × (result ≡ signed no_waited) × (handle.new.kernel ≡ handle.old.kernel) × (buffer.new ≡ buffer.old) × (count.new ≡ count.old) × (waited.new ≡ waited.old) }
 {
     let Some(before) = waited_before(waited) else {
         return NO_WAITED;
@@ -99,7 +99,9 @@ fn waited_before(waited: &WaitedFor) -> Option<Waited>
 }
 
 /// What was waited for, for C.
-fn waited_for(waited: &Waited) -> WaitedFor {
+fn waited_for(waited: &Waited) -> WaitedFor
+    ensures { result ≡ c_waited waited.now }
+{
     match waited {
         Waited::Port(port) => WaitedFor {
             identity: port.number(),
@@ -120,7 +122,10 @@ fn received(
     count: &mut usize,
     waited: &mut WaitedFor,
 ) -> i32
-    ensures { result ≡ signed (if nat_lt (length buffer.old) (bytes_in reply.now) then no_answer else code_for reply.now) }
+    ensures code { result ≡ signed (if nat_lt (length buffer.old) (bytes_in reply.now) then no_answer else code_for reply.now) }
+    ensures bytes { buffer.new ≡ received_into reply.now buffer.old }
+    ensures length { count.new ≡ length_or reply.now count.old }
+    ensures waited { waited.new ≡ waited_or reply.now waited.old }
 {
     match reply {
         Some(Reply::Message(bytes)) => put_bytes(bytes.as_slice(), buffer, count),
@@ -138,7 +143,9 @@ fn received(
 
 /// Writes a message, which the kernel gives only where there is room.
 fn put_bytes(bytes: &[u8], buffer: &mut [u8], count: &mut usize) -> i32
-    ensures { result ≡ signed (if nat_lt (length buffer.old) (length bytes.now) then no_answer else 0) }
+    ensures code { result ≡ signed (if nat_lt (length buffer.old) (length bytes.now) then no_answer else 0) }
+    ensures bytes { buffer.new ≡ (if nat_lt (length buffer.old) (length bytes.now) then buffer.old else bytes.now ++ drop (length bytes.now) buffer.old) }
+    ensures length { count.new ≡ length bytes.now }
 {
     *count = bytes.len();
     if bytes.len() > buffer.len() {

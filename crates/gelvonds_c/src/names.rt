@@ -1,7 +1,7 @@
 //! Calls of tasks, names and references.
-ghost use Rattle.std.specs.Prelude.{◌≡◌, length, min, if◌then◌else◌, nat_lt};
+ghost use Rattle.std.specs.Prelude.{◌≡◌, length, map, min, if◌then◌else◌, nat_lt};
 ghost use Rattle.mach_types.specs.declared.calls.Event.TheVariants.{TaskCreate, TaskTerminate, Allocate, AllocateName, Deallocate, Destroy, ModRefs, GetRefs, NameType, Names, Rename};
-ghost use Rattle.gelvonds_c.specs.Calls.{Asks, Tells, Fills, names_in, signed, too_short};
+ghost use Rattle.gelvonds_c.specs.Calls.{Asks, Tells, ListsNames, put_list, signed, too_short};
 
 use crate::call::{call, code, code_of, number};
 use crate::codes::{SUCCESS, TOO_SHORT};
@@ -157,7 +157,7 @@ pub extern "C" fn gelvonds_port_names(
     types: &mut [u32],
     count: &mut usize,
 ) -> i32
-    ensures { Fills handle.old.kernel (Names task) names_in (min (length names.old) (length types.old)) too_short result handle.new.kernel }
+    ensures { ListsNames handle.old.kernel (Names task) result handle.new.kernel names.old names.new types.old types.new count.old count.new }
 {
     let reply = call(alloc, handle, &Event::Names(TaskId::new(task)));
     match &reply {
@@ -168,17 +168,18 @@ pub extern "C" fn gelvonds_port_names(
 
 /// Writes the names and their types where there is room for all, and tells how many they are.
 fn put_names(found: &[(Name, u32)], names: &mut [u32], types: &mut [u32], count: &mut usize) -> i32
-    ensures { result ≡ signed (if nat_lt (min (length names.old) (length types.old)) (length found.now) then too_short else 0) }
+    ensures code { result ≡ signed (if nat_lt (min (length names.old) (length types.old)) (length found.now) then too_short else 0) }
+    ensures names { names.new ≡ put_list (min (length names.old) (length types.old)) (length found.now) (map (λ e. e.0) found.now) names.old }
+    ensures types { types.new ≡ put_list (min (length names.old) (length types.old)) (length found.now) (map (λ e. e.1) found.now) types.old }
+    ensures count { count.new ≡ length found.now }
 {
     *count = found.len();
     if found.len() > names.len() || found.len() > types.len() {
         return TOO_SHORT;
     }
-    for (slot, entry) in names.iter_mut().zip(found) {
-        *slot = entry.0.number();
-    }
-    for (slot, entry) in types.iter_mut().zip(found) {
-        *slot = entry.1;
+    for (place, entry) in found.iter().enumerate() {
+        names[place] = entry.0.number();
+        types[place] = entry.1;
     }
     SUCCESS
 }

@@ -1,6 +1,7 @@
 //! Calls of a receive right.
+ghost use Rattle.std.specs.Prelude.{◌≡◌};
 ghost use Rattle.mach_types.specs.declared.calls.Event.TheVariants.{ReceiveStatus, SetQlimit, SetMscount, SetSeqno};
-ghost use Rattle.gelvonds_c.specs.Calls.{Asks};
+ghost use Rattle.gelvonds_c.specs.Calls.{Asks, TellsStatus, c_status};
 
 use crate::call::{call, code, code_of};
 use crate::handle::Handle;
@@ -40,7 +41,7 @@ pub extern "C" fn gelvonds_port_get_receive_status(
     name: u32,
     status: &mut PortStatus,
 ) -> i32
-    ensures { Asks handle.old.kernel (ReceiveStatus task name) result handle.new.kernel }
+    ensures { TellsStatus handle.old.kernel (ReceiveStatus task name) result handle.new.kernel status.old status.new }
 {
     let event = Event::ReceiveStatus(TaskId::new(task), Name::new(name));
     let reply = call(alloc, handle, &event);
@@ -51,7 +52,9 @@ pub extern "C" fn gelvonds_port_get_receive_status(
 }
 
 /// The status, for C.
-fn port_status(found: &Status) -> PortStatus {
+fn port_status(found: &Status) -> PortStatus
+    ensures { result ≡ c_status found.now }
+{
     PortStatus {
         set: found.set.number(),
         sequence: found.sequence,

@@ -1,7 +1,7 @@
 //! Calls of port sets.
 ghost use Rattle.std.specs.Prelude.{◌≡◌, length, if◌then◌else◌, nat_lt};
 ghost use Rattle.mach_types.specs.declared.calls.Event.TheVariants.{MoveMember, SetStatus};
-ghost use Rattle.gelvonds_c.specs.Calls.{Asks, Fills, members_in, signed, too_short};
+ghost use Rattle.gelvonds_c.specs.Calls.{Asks, ListsMembers, put_list, signed, too_short};
 
 use crate::call::{call, code, code_of};
 use crate::codes::{SUCCESS, TOO_SHORT};
@@ -34,7 +34,7 @@ pub extern "C" fn gelvonds_port_get_set_status(
     members: &mut [u32],
     count: &mut usize,
 ) -> i32
-    ensures { Fills handle.old.kernel (SetStatus task name) members_in (length members.old) too_short result handle.new.kernel }
+    ensures { ListsMembers handle.old.kernel (SetStatus task name) result handle.new.kernel members.old members.new count.old count.new }
 {
     let event = Event::SetStatus(TaskId::new(task), Name::new(name));
     let reply = call(alloc, handle, &event);
@@ -46,14 +46,16 @@ pub extern "C" fn gelvonds_port_get_set_status(
 
 /// Writes the names where there is room for all, and tells how many they are.
 fn put_members(found: &[Name], members: &mut [u32], count: &mut usize) -> i32
-    ensures { result ≡ signed (if nat_lt (length members.old) (length found.now) then too_short else 0) }
+    ensures code { result ≡ signed (if nat_lt (length members.old) (length found.now) then too_short else 0) }
+    ensures members { members.new ≡ put_list (length members.old) (length found.now) found.now members.old }
+    ensures count { count.new ≡ length found.now }
 {
     *count = found.len();
     if found.len() > members.len() {
         return TOO_SHORT;
     }
-    for (slot, name) in members.iter_mut().zip(found) {
-        *slot = name.number();
+    for (place, name) in found.iter().enumerate() {
+        members[place] = name.number();
     }
     SUCCESS
 }

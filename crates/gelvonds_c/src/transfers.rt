@@ -1,6 +1,6 @@
 //! Calls that hand a right from task to task.
 ghost use Rattle.mach_types.specs.declared.calls.Event.TheVariants.{InsertRight, ExtractRight};
-ghost use Rattle.gelvonds_c.specs.Calls.{Asks};
+ghost use Rattle.gelvonds_c.specs.Calls.{Asks, TellsRight};
 
 use crate::call::{call, code, code_of};
 use crate::handle::Handle;
@@ -42,7 +42,7 @@ pub extern "C" fn gelvonds_port_extract_right(
     poly: &mut u32,
     kind: &mut u32,
 ) -> i32
-    ensures { Asks handle.old.kernel (ExtractRight task name disposition to) result handle.new.kernel }
+    ensures { TellsRight handle.old.kernel (ExtractRight task name disposition to) result handle.new.kernel poly.old poly.new kind.old kind.new }
 {
     let event = Event::ExtractRight(
         TaskId::new(task),
