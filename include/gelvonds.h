@@ -2,7 +2,7 @@
  *
  * Each function from gelvonds_task_create on makes one call of a task, by the kernel's own step, and answers its
  * code: Mach's number, or one of the library's own (GELVONDS_..). The functions before it make and end a kernel,
- * and tell its profile, the version, and the name of a code. The Mach calls are those of Keith Loepere, Mach 3
+ * and tell its profile, which port a name is, the version, and the name of a code. The Mach calls are those of Keith Loepere, Mach 3
  * Kernel Interfaces (1992), in the chapter that each comment names; docs/CALLS.md says what each does and which
  * refusal comes first. docs/EMBEDDING.md says how to build and link.
  *
@@ -60,7 +60,8 @@ typedef struct gelvonds_status {
     uint32_t mps_nsrequest; /* 1 where a no-senders request stands, else 0 */
 } gelvonds_status;
 
-/* What a receive that found no message waited for: a port or a set, by identity, whatever its name is. */
+/* What a receive that found no message waited for: a port or a set, by identity, whatever its name is. Ports have
+ * identities of their own, and so have sets. No other port or set of the kernel ever has the same. */
 typedef struct gelvonds_waited {
     uint64_t identity;
     uint32_t kind; /* GELVONDS_PORT or GELVONDS_SET */
@@ -68,6 +69,14 @@ typedef struct gelvonds_waited {
 
 #define GELVONDS_PORT 1u
 #define GELVONDS_SET 2u
+#define GELVONDS_DEAD 3u /* of gelvonds_port_identity alone */
+
+/* The ports and sets that a call may have changed for one that waits: a queue, a limit, members, or where a receive right
+ * lies. A place is free where its kind is 0. */
+typedef struct gelvonds_touched_places {
+    gelvonds_waited on[4];
+    uint32_t all; /* 1 where it may be any port and any set, else 0 */
+} gelvonds_touched_places;
 
 /* Codes of the library's own. */
 #define GELVONDS_NO_KERNEL 0x47000001 /* the handle holds no kernel */
@@ -187,6 +196,21 @@ void gelvonds_free(gelvonds *kernel);
 /* The kernel's profile, 1 or 2. Makes no call, and changes nothing.
  * GELVONDS_NO_KERNEL: the handle holds no kernel. */
 gelvonds_code gelvonds_profile(gelvonds *kernel, uint32_t *profile);
+
+/* Which port or set is under the task's name, by identity, in the form in which a receive tells what it waited for.
+ * Any right for a port tells that port, so two names, of one task or of two, are of one port where kind and identity
+ * are the same. The kind of a dead name is GELVONDS_DEAD, and the identity 0. A send that found the queue full waits for
+ * room at the port that its destination's name is. Makes no call, and changes nothing.
+ * The refusals, in this order: GELVONDS_NO_KERNEL: the handle holds no kernel; KERN_INVALID_TASK: the task doesn't
+ * live; KERN_INVALID_NAME: nothing is under the name. */
+gelvonds_code gelvonds_port_identity(gelvonds *kernel, gelvonds_task task, gelvonds_name name, gelvonds_waited *found);
+
+/* Which ports and sets the last call may have changed; all others are for one that waits as they were before it. None
+ * before the first call and after a refusal. Few are named after a message that carried no receive right was sent, or
+ * was received with a body of raw bytes, and after calls on names, references, limits and counts. After every other
+ * call, and where ports died or notices were sent, it may be any. Makes no call, and changes nothing.
+ * GELVONDS_NO_KERNEL: the handle holds no kernel, and nothing is written. */
+gelvonds_code gelvonds_touched(gelvonds *kernel, gelvonds_touched_places *touched);
 
 /* ---- texts ----
  * Each writes its text and a 0 behind it, and returns the text's length in bytes, without the 0. Where the room is

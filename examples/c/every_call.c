@@ -123,6 +123,21 @@ static void texts(void) {
         tell_text("gelvonds_version", length, text);
 }
 
+static void tell_identity(gelvonds *kernel, gelvonds_task task, gelvonds_name name) {
+    gelvonds_waited found = { BEFORE, BEFORE };
+    CALL(gelvonds_port_identity, kernel, task, name, &found);
+    printf(", %" PRIu64 " of kind %" PRIu32 "\n", found.identity, found.kind);
+}
+
+static void tell_touched(gelvonds *kernel) {
+    gelvonds_touched_places touched;
+    memset(&touched, 0xee, sizeof touched);
+    CALL(gelvonds_touched, kernel, &touched);
+    for (int i = 0; i < 4; i++)
+        printf(", %" PRIx64 " of kind %" PRIx32, touched.on[i].identity, touched.on[i].kind);
+    printf(", all %" PRIx32 "\n", touched.all);
+}
+
 /* A handle gets a kernel, keeps it, and gives it up. */
 static void kernels(void) {
     gelvonds kernel = GELVONDS_NONE;
@@ -133,10 +148,13 @@ static void kernels(void) {
     ends_with("profile", profile);
     CALL(gelvonds_task_create, &kernel, &task);
     ends_with("task", task);
+    tell_identity(&kernel, 0, 1);
+    tell_touched(&kernel);
     CALL(gelvonds_make_with_profile, &kernel, 3);
     ends();
     CALL(gelvonds_make_with_profile, &kernel, 2);
     ends();
+    tell_touched(&kernel);
     CALL(gelvonds_task_create, &kernel, &task);
     ends_with("task", task);
     /* (the kernel is still the same: it has a task, and its profile) */
@@ -273,6 +291,7 @@ static void tell_members(gelvonds *kernel, gelvonds_name name, size_t room) {
 static void attributes(gelvonds *kernel) {
     CALL(gelvonds_port_set_qlimit, kernel, 0, PORT, 7);
     ends();
+    tell_touched(kernel);
     CALL(gelvonds_port_set_qlimit, kernel, 0, PORT, 17);
     ends();
     CALL(gelvonds_port_set_mscount, kernel, 0, PORT, 11);
@@ -337,6 +356,20 @@ static void notices(gelvonds *kernel) {
     request(kernel, no_senders, MACH_NOTIFY_NO_SENDERS, 2);
 }
 
+/* One port, by its receive right, a send right and a send-once right; a set, a dead name, and nothing. */
+static void identities(gelvonds *kernel) {
+    gelvonds_name dead = allocate(kernel, MACH_PORT_RIGHT_DEAD_NAME);
+
+    tell_identity(kernel, 0, PORT);
+    tell_identity(kernel, 1, SERVICE);
+    tell_identity(kernel, 1, 1);
+    tell_identity(kernel, 0, 1);
+    tell_identity(kernel, 0, SET);
+    tell_identity(kernel, 0, dead);
+    tell_identity(kernel, 0, 5);
+    tell_identity(kernel, 2, PORT);
+}
+
 /* ---- messages ---- */
 
 /* Sends 32 bytes from task 1: a header, one item of four bytes. */
@@ -349,6 +382,7 @@ static void send(gelvonds *kernel, uint32_t id, gelvonds_name to, size_t length)
     memcpy(message + HEADER, body, 8);
     CALL(gelvonds_send, kernel, 1, message, length);
     ends();
+    tell_touched(kernel);
 }
 
 static void tell_received(const uint8_t *buffer, size_t length, const gelvonds_waited *waited) {
@@ -415,6 +449,7 @@ int main(void) {
     sets(&kernel);
     transfers(&kernel);
     notices(&kernel);
+    identities(&kernel);
     messages(&kernel);
     gelvonds_free(&kernel);
     return 0;

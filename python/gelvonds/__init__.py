@@ -123,6 +123,7 @@ _CODES: Dict[int, str] = {
 # (the kind of a Waited, the room for a text, and no codes)
 GELVONDS_PORT = 1
 GELVONDS_SET = 2
+GELVONDS_DEAD = 3
 GELVONDS_TEXT_ROOM = 40
 
 
@@ -147,7 +148,10 @@ def type_names(bits: int) -> List[str]:
 
 
 class Waited(NamedTuple):
-    """What a receive that found no message waited for, by identity: `Kernel.receive_again` takes it."""
+    """A port or a set, by identity: what a receive that found no message waited for, or what `Kernel.port_identity` tells.
+
+    `Kernel.receive_again` takes it. The kind is `GELVONDS_PORT`, `GELVONDS_SET`, or, of a dead name, `GELVONDS_DEAD`.
+    """
 
     identity: int
     kind: int
@@ -400,6 +404,10 @@ class _Waited(ctypes.Structure):
     _fields_ = [("identity", ctypes.c_uint64), ("kind", ctypes.c_uint32)]
 
 
+class _Touched(ctypes.Structure):
+    _fields_ = [("on", _Waited * 4), ("all", ctypes.c_uint32)]
+
+
 class Status(NamedTuple):
     """What `Kernel.port_get_receive_status` returns: the fields of `mach_port_status_t`, in C with `mps_` before them."""
 
@@ -427,6 +435,8 @@ _FUNCTIONS: Dict[str, Tuple[Any, ...]] = {
     "make_with_profile": (_WORD,),
     "free": (),
     "profile": (_WORDS,),
+    "port_identity": (_WORD, _WORD, ctypes.POINTER(_Waited)),
+    "touched": (ctypes.POINTER(_Touched),),
     "task_create": (_WORDS,),
     "task_terminate": (_WORD,),
     "port_allocate": (_WORD, _WORD, _WORDS),
@@ -564,6 +574,27 @@ class Kernel:
         profile = _WORD()
         self._call("profile", ctypes.byref(profile))
         return profile.value
+
+    def port_identity(self, task: int, name: int) -> Waited:
+        """Which port or set is under the name, by identity: any right for a port tells that port.
+
+        Two names are of one port where the results are equal. Of a dead name the kind is `GELVONDS_DEAD`. Makes no call,
+        and changes nothing. Refused with `KERN_INVALID_TASK` and `KERN_INVALID_NAME`.
+        """
+        found = _Waited()
+        self._call("port_identity", _u32(task, "the task"), _u32(name, "the name"), ctypes.byref(found))
+        return Waited(found.identity, found.kind)
+
+    def touched(self) -> Optional[List[Waited]]:
+        """Which ports and sets the last call may have changed for one that waits, or None where it may be any.
+
+        None are named before the first call and after a refusal. Makes no call, and changes nothing.
+        """
+        touched = _Touched()
+        self._call("touched", ctypes.byref(touched))
+        if touched.all:
+            return None
+        return [Waited(place.identity, place.kind) for place in touched.on if place.kind]
 
     # -- tasks
 

@@ -1,4 +1,6 @@
 pub mod Held
 pub mod Calls
 pub mod Making
+pub mod Identities
+pub mod Touching
 pub mod Texts

@@ -12,6 +12,7 @@ ghost use Rattle.gelvonds_c.specs.Making.{IsProfileOf, Makes, TellsProfile, prof
 mod call;
 mod codes;
 mod handle;
+mod identities;
 mod messages;
 mod names;
 mod notices;
@@ -19,6 +20,7 @@ mod parts;
 mod receive_right;
 mod sets;
 mod texts;
+mod touched;
 mod transfers;
 
 use crate::codes::{IN_USE, NO_KERNEL, SUCCESS};

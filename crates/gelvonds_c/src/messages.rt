@@ -99,7 +99,7 @@ fn waited_before(waited: &WaitedFor) -> Option<Waited>
 }
 
 /// What was waited for, for C.
-fn waited_for(waited: &Waited) -> WaitedFor
+pub(crate) fn waited_for(waited: &Waited) -> WaitedFor
     ensures { result ≡ c_waited waited.now }
 {
     match waited {
