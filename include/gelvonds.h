@@ -205,10 +205,14 @@ gelvonds_code gelvonds_profile(gelvonds *kernel, uint32_t *profile);
  * live; KERN_INVALID_NAME: nothing is under the name. */
 gelvonds_code gelvonds_port_identity(gelvonds *kernel, gelvonds_task task, gelvonds_name name, gelvonds_waited *found);
 
-/* Which ports and sets the last call may have changed; all others are for one that waits as they were before it. None
- * before the first call and after a refusal. Few are named after a message that carried no receive right was sent, or
- * was received with a body of raw bytes, and after calls on names, references, limits and counts. After every other
- * call, and where ports died or notices were sent, it may be any. Makes no call, and changes nothing.
+/* Which ports and sets the kernel's last call may have changed; all others are for one that waits as they were before
+ * it. None before the first call, after the kernel's refusals, after calls that only ask, a receive that found nothing
+ * or a message that is too long and stays, gelvonds_task_create, gelvonds_port_rename, gelvonds_port_set_mscount and
+ * gelvonds_port_set_seqno. After gelvonds_port_set_qlimit, gelvonds_port_allocate and gelvonds_port_allocate_name the
+ * port under the name, if one is. A message names its port and the port's set: one that was sent without a receive
+ * right, and one that was received with a body of raw bytes. After each other call, and where ports died or notices
+ * were sent, it may be any. A code of the library's own comes without a call of the kernel, and leaves what the call
+ * before touched. Makes no call, and changes nothing.
  * GELVONDS_NO_KERNEL: the handle holds no kernel, and nothing is written. */
 gelvonds_code gelvonds_touched(gelvonds *kernel, gelvonds_touched_places *touched);
 

@@ -588,7 +588,7 @@ class Kernel:
     def touched(self) -> Optional[List[Waited]]:
         """Which ports and sets the last call may have changed for one that waits, or None where it may be any.
 
-        None are named before the first call and after a refusal. Makes no call, and changes nothing.
+        None are named before the first call and after the kernel's refusals. Makes no call, and changes nothing.
         """
         touched = _Touched()
         self._call("touched", ctypes.byref(touched))

@@ -154,10 +154,13 @@ impl Kernel {
     /// Returns which ports and sets the last step may have changed: a queue, a limit, members, or where a receive
     /// right lies. All others are for a task that waits as they were before (`kernel_core`'s `specs/Changing`).
     ///
-    /// None before the first step and after a refusal. Few are named after a message that carried no receive right
-    /// was sent, or was received with a body of raw bytes; and after calls on names, references, limits and counts.
-    /// After every other call, and where ports died or notices were sent at the end of the step, it is `All`. Takes
-    /// no memory. Constant time, and logarithmic for a name above 65,535.
+    /// None before the first step, after a refusal, after calls that only ask, a receive that found nothing or a
+    /// message that is too long and stays, [`Kernel::create_task`], [`Kernel::rename`], [`Kernel::set_mscount`] and
+    /// [`Kernel::set_seqno`]. After [`Kernel::set_qlimit`], [`Kernel::allocate`] and [`Kernel::allocate_name`] the
+    /// port under the name, if one is. A message names its port and the port's set: one that was sent without a
+    /// receive right, and one that was received with a body of raw bytes. After each other call, and where ports
+    /// died or notices were sent at the end of the step, it is `All`. Takes no memory. Constant time, and
+    /// logarithmic for a name above 65,535.
     pub fn touched(&self) -> Touched
         ensures { result ≡ self.now.touched }
     {

@@ -261,16 +261,31 @@ fn port_waited(port: u64) -> Waited {
     Waited::Port(PortId::new(port))
 }
 
-/// Asks the gate of a receive from port 1, tells what it answered, and then that it has.
-fn ask_for_port<R: Wait>(mut gate: BlockGate<'_, R>, answered: &AtomicBool) -> bool {
+/// Tells that it asks, asks the gate of a receive from port 1, and then tells that it has an answer.
+fn ask_for_port<R: Wait>(
+    mut gate: BlockGate<'_, R>,
+    asks: &AtomicBool,
+    answered: &AtomicBool,
+) -> bool {
+    asks.store(true, Ordering::SeqCst);
     let again = gate.pause_for(1, Some(port_waited(1)));
     answered.store(true, Ordering::SeqCst);
     again
 }
 
-/// Looks for an answer; tells of a change of port 2 and looks again; then tells of one of port 1. Whether there was no
-/// answer before.
-fn change_ports<R: Wait>(mut gate: BlockGate<'_, R>, answered: &AtomicBool) -> bool {
+/// Once the other asks, looks for an answer; tells of a change of port 2 and looks again; then tells of one of port 1.
+/// Whether there was no answer before.
+fn change_ports<R: Wait>(
+    mut gate: BlockGate<'_, R>,
+    asks: &AtomicBool,
+    answered: &AtomicBool,
+) -> bool {
+    for _ in 0..LOOKS {
+        if asks.load(Ordering::SeqCst) {
+            break;
+        }
+        thread::yield_now();
+    }
     let mut early = looks(answered);
     gate.stepped_at(&few(Some(2)));
     early |= looks(answered);
@@ -293,12 +308,12 @@ fn gate_waits_on_a_port(rt: HostRuntime) -> Result<(), Fail> {
     let hall = Hall::new(rt.alloc());
     let first = hall.enter(&rt, rt.alloc())?;
     let second = hall.enter(&rt, rt.alloc())?;
-    let answered = AtomicBool::new(false);
-    let answered = &answered;
+    let (asks, answered) = (AtomicBool::new(false), AtomicBool::new(false));
+    let (asks, answered) = (&asks, &answered);
     let (again, none_before) = thread::join(
         &rt,
-        move || ask_for_port(first, answered),
-        move || change_ports(second, answered),
+        move || ask_for_port(first, asks, answered),
+        move || change_ports(second, asks, answered),
     );
     assert!(rt; again);
     assert!(rt; none_before);
