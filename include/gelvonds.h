@@ -208,8 +208,12 @@ gelvonds_code gelvonds_port_identity(gelvonds *kernel, gelvonds_task task, gelvo
 /* Which ports and sets the kernel's last call may have changed; all others are for one that waits as they were before
  * it. None before the first call, after the kernel's refusals, after calls that only ask, a receive that found nothing
  * or a message that is too long and stays, gelvonds_task_create, gelvonds_port_rename, gelvonds_port_set_mscount and
- * gelvonds_port_set_seqno. After gelvonds_port_set_qlimit, gelvonds_port_allocate and gelvonds_port_allocate_name the
- * port under the name, if one is. A message names its port and the port's set: one that was sent without a receive
+ * gelvonds_port_set_seqno. None too where only send rights, dead names and their references went
+ * (gelvonds_port_deallocate, gelvonds_port_destroy, gelvonds_port_mod_refs), and where a right that is no receive right
+ * went to another task (gelvonds_port_insert_right, gelvonds_port_extract_right).
+ * After gelvonds_port_set_qlimit, gelvonds_port_allocate and gelvonds_port_allocate_name the port under the name, if
+ * one is. After gelvonds_port_move_member, and where a receive right went to another task, the port with the set that
+ * it was in and the one that it is in. A message names its port and the port's set: one that was sent without a receive
  * right, and one that was received with a body of raw bytes. After each other call, and where ports died or notices
  * were sent, it may be any. A code of the library's own comes without a call of the kernel, and leaves what the call
  * before touched. Makes no call, and changes nothing.

@@ -156,10 +156,15 @@ impl Kernel {
     ///
     /// None before the first step, after a refusal, after calls that only ask, a receive that found nothing or a
     /// message that is too long and stays, [`Kernel::create_task`], [`Kernel::rename`], [`Kernel::set_mscount`] and
-    /// [`Kernel::set_seqno`]. After [`Kernel::set_qlimit`], [`Kernel::allocate`] and [`Kernel::allocate_name`] the
-    /// port under the name, if one is. A message names its port and the port's set: one that was sent without a
-    /// receive right, and one that was received with a body of raw bytes. After each other call, and where ports
-    /// died or notices were sent at the end of the step, it is `All`. Takes no memory. Constant time, and
+    /// [`Kernel::set_seqno`]. None too where only send rights, dead names and their references went
+    /// ([`Kernel::deallocate`], [`Kernel::destroy`], [`Kernel::mod_refs`]), and where a right that is no receive right
+    /// went to another task ([`Kernel::insert_right`], [`Kernel::extract_right`]).
+    ///
+    /// After [`Kernel::set_qlimit`], [`Kernel::allocate`] and [`Kernel::allocate_name`] the port under the name, if
+    /// one is. After [`Kernel::move_member`], and where a receive right went to another task, the port with the set
+    /// that it was in and the one that it is in. A message names its port and the port's set: one that was sent
+    /// without a receive right, and one that was received with a body of raw bytes. After each other call, and where
+    /// ports died or notices were sent at the end of the step, it is `All`. Takes no memory. Constant time, and
     /// logarithmic for a name above 65,535.
     pub fn touched(&self) -> Touched
         ensures { result ≡ self.now.touched }

@@ -1,26 +1,31 @@
 -- What a kernel keeps of a step covers all that the machine's step changes of ports and sets.
 use Rattle.std.proofs.Common.{◌≡◌, ℕ, ◌<◌, ◌^◌, ◌%◌, List, [], ◌∷◌, Option, Some, None, refl, sym, ap, subst, ◌∙◌, arith, true, false, Bool, inl, inr, ◌⊎◌, length, is_some}
-use Rattle.std.specs.Prelude.{◌≢◌, ◌==◌, not, if◌then◌else◌, Contains, nat_lt, All}
+use Rattle.std.specs.Prelude.{◌≢◌, ◌==◌, ◌||◌, ℤ, not, if◌then◌else◌, Contains, nat_lt, All, Result, Ok, Err, OnOk}
 use Rattle.std.specs.FinMap as map
 use Rattle.std.specs.Option.{option_map, option_and_then, option_to_list}
 use Rattle.std.proofs.lemmas.List.Elements.{All-head, All-tail, All-cons, All-nil}
 use Rattle.std.proofs.lemmas.Bool.{and_parts, ltb-true}
+use Rattle.std.proofs.lemmas.Bool.Decides.{eqb_tells}
 use Rattle.mach_types.specs.declared.calls.Event.{Event}
 use Rattle.mach_types.specs.declared.calls.Reply.{Reply}
 use Rattle.mach_types.specs.declared.calls.Waited.{Waited}
 use Rattle.mach_types.specs.declared.touched.Touched.{Touched}
 use Rattle.mach_types.specs.declared.touched.Touched.TheVariants.{All as Any}
 use Rattle.mach_types.specs.Touching.{Covers}
-use Rattle.mach_types.specs.Tokens.{Kind, Request, in_request, count}
+use Rattle.mach_types.specs.declared.rights.Disposition.TheVariants.{MoveSend}
+use Rattle.mach_types.specs.Tokens.{Kind, receive, Place, in_task, Request, in_request, count}
+use Rattle.mach_types.specs.Messages.{Mark, to_port}
 use Rattle.mach_types.specs.Grammar.{Header, WireBody, text, Spells}
 use Rattle.mach_types.specs.TextGuards.{word_at}
-use Rattle.mach_model.specs.State.{State, Names, Target, lookup, gives}
+use Rattle.mach_model.specs.State.{State, Names, Target, lookup, held, gives, without_name}
 use Rattle.mach_model.specs.Carried.{lying}
 use Rattle.mach_model.specs.Lawful.{IsLawful}
 use Rattle.mach_model.specs.Midway.{MidLawful}
 use Rattle.mach_model.specs.Acts.{Does}
 use Rattle.mach_model.specs.Names.{Makes}
 use Rattle.mach_model.specs.Notices.{Owed}
+use Rattle.mach_model.specs.CopyIn.{CopyRight}
+use Rattle.mach_model.specs.References.{Deallocates, Destroys, Modifies, LosesAll, is_either}
 use Rattle.mach_model.specs.Receive.{Receipt, Receives}
 use Rattle.mach_model.specs.Send.{Sends}
 use Rattle.mach_model.specs.Settles.{Settles}
@@ -29,6 +34,8 @@ use Rattle.mach_model.proofs.MessagesLawful.{first_byte}
 use Rattle.mach_model.proofs.Names.{at_own, get_own}
 use Rattle.mach_model.proofs.NamesLawful.{gives-lawful}
 use Rattle.mach_laws.specs.Touching.{TouchesOnly}
+use Rattle.mach_laws.proofs.Losing.{one_keeps, all_keeps, IsCounted, counts_keep, insert_ends, extract_ends, inserts_keep, extracts_keep}
+use Rattle.mach_laws.proofs.Moving.{KeepsOthers, others_end, moved_touches, joins_others, receive_moves}
 use Rattle.mach_laws.proofs.QuietEnd.{IsQuietEnd, ends_quietly}
 use Rattle.mach_laws.proofs.Touching.{Keeps, Changes, keeps_same, keeps_by, changes_none, changes_end, touches, touches_before, gives_keeps, made_touches, set_changes, dead_keeps, IsOtherWord, SendsOthers, keeps_trans, sends_change, sends_alike, ReceivesOthers, receives_change, creates_keep, renames_keep, limit_changes}
 use Rattle.name_space.specs.declared.Entry.{Entry as Named}
@@ -49,7 +56,8 @@ use Rattle.copyin.proofs.Copying.{pairs, body_pairs}
 use Rattle.copyin.proofs.Planning.{message, third, copied, none_receives}
 use Rattle.destroy.specs.Stages.{SettlesIn}
 use Rattle.kernel_core.specs.declared.change.Change.TheVariants as change
-use Rattle.kernel_core.specs.Changing.{few, port_under, set_of, with_set, touched_by, gives_none, by_message, by_receipt, by_send, change_of, Touches}
+use Rattle.kernel_core.specs.declared.change.Change.{Change}
+use Rattle.kernel_core.specs.Changing.{few, port_under, set_of, with_set, named_left, touched_by, gives_none, by_message, by_receipt, by_send, by_references, by_losing_one, by_losing_all, left_by, moved_from, by_moving, by_handing, change_of, TellsChange, Touches}
 use Rattle.kernel_core.specs.Send.{MovesNoReceive, SendsTo, TellsSent}
 
 -- ---- where nothing is left to do, the state midway and the one after are shown by the same tables
@@ -117,6 +125,24 @@ named_port (Some (named.SendOnce q)) p e = cc
 named_port (Some (named.DeadName n)) p e = cc
 named_port (Some (named.Set set)) p e = cc
 
+-- the set that a port is in is the one of its tables
+module _ (w : WorldView) (s : State) (a : Agrees w s) (p : ℕ) (no_sets : s.live_port p ≡ false → s.sets_of p ≡ []) where
+  in_one : (o : Option ℕ) (set : ℕ) → Contains (option_to_list o) set → o ≡ Some set
+  in_one None set (i, below, is) = absurd (omega (arith, below))
+  in_one (Some x) set one = grind arith
+
+  none_in : (set : ℕ) → Contains [] set → ⊥
+  none_in set (i, below, is) = omega (arith, below)
+
+  set_is : (set : ℕ) → Contains (s.sets_of p) set → set_of w p ≡ Some set
+  set_is set in_it = go (port_at w p) refl
+    where
+      go : (o : Option (PortView Kept)) → port_at w p ≡ o → set_of w p ≡ Some set
+      go None is = absurd (none_in set (subst (λ (xs : List ℕ). Contains xs set) (no_sets (sym (a.live_port p) ∙ ap is_some is)) in_it))
+      go (Some v) is =
+          let e : v.attributes.set ≡ Some set = in_one v.attributes.set set (subst (λ (xs : List ℕ). Contains xs set) (sym (a.ports p v is).sets) in_it) in
+          ap (option_and_then (λ (x : PortView Kept). x.attributes.set)) is ∙ e
+
 module _ (w : WorldView) (mid : State) (a : Agrees w mid) where
   under : (task name p : ℕ) → lookup mid task name ≡ Some (Target.port p) → port_under w task name ≡ Some p
   under task name p is = named_port (entry_at w task name) p (sym is ∙ a.naming task name)
@@ -128,21 +154,7 @@ module _ (w : WorldView) (mid : State) (a : Agrees w mid) where
   covers_alone o p e = rw e (0, omega arith, refl)
 
   covers_set : (l : MidLawful mid []) (p set : ℕ) → Contains (mid.sets_of p) set → Covers (with_set w (Some p)) (Waited.Set set)
-  covers_set l p set in_it = go (port_at w p) refl
-    where
-      in_one : (o : Option ℕ) → Contains (option_to_list o) set → o ≡ Some set
-      in_one None (i, below, is) = absurd (omega (arith, below))
-      in_one (Some x) one = grind arith
-
-      none_in : Contains [] set → ⊥
-      none_in (i, below, is) = omega (arith, below)
-
-      go : (o : Option (PortView Kept)) → port_at w p ≡ o → Covers (with_set w (Some p)) (Waited.Set set)
-      go None is = absurd (none_in (subst (λ (xs : List ℕ). Contains xs set) (l.no_sets p (sym (a.live_port p) ∙ ap is_some is)) in_it))
-      go (Some v) is =
-          let e : v.attributes.set ≡ Some set = in_one v.attributes.set (subst (λ (xs : List ℕ). Contains xs set) (sym (a.ports p v is).sets) in_it) in
-          let f : set_of w p ≡ Some set = ap (option_and_then (λ (x : PortView Kept). x.attributes.set)) is ∙ e in
-          rw f (1, omega arith, refl)
+  covers_set l p set in_it = let f = set_is w mid a p (l.no_sets p) set in_it in rw f (1, omega arith, refl)
 
   -- the queue of one port has changed
   queue_changed : (s : State) (owed : Owed) (p : ℕ) → MidLawful mid [] → Changes s mid (Some p) None → owed ≡ [] → OwnTouches s mid owed (with_set w (Some p))
@@ -239,8 +251,114 @@ module _ (now : ℕ) (old w : WorldView) (s mid : State) (owed : Owed) (sh : Sho
       queue_changed w mid (agree none) s owed port (law none) (subst (λ (o : ℕ). Changes s mid (Some o) None) to (sends_change now task bytes s mid x others)) none
 
   sent_own : (task : ℕ) (bytes : List ℕ) (sent : Option ℕ) → Sends now task bytes s mid → owed ≡ [] → TellsSent old task bytes sent → OwnTouches s mid owed (touched_by w (by_send sent))
-  sent_own task bytes None x none told = inl refl
-  sent_own task bytes (Some port) x none told = message_sent task port bytes x none told
+  sent_own task bytes None x none tells = inl refl
+  sent_own task bytes (Some port) x none tells = message_sent task port bytes x none tells
+
+  -- ---- references
+
+  once_any : (o : Option Named) (p : ℕ) → Some (Target.once p) ≡ option_map target_of o → (by_losing_one o ≡ change.Any) × (by_losing_all o ≡ change.Any)
+  once_any None p e = cc
+  once_any (Some (named.Receive q)) p e = cc
+  once_any (Some (named.Send q n)) p e = cc
+  once_any (Some (named.ReceiveAndSend q n)) p e = cc
+  once_any (Some (named.SendOnce q)) p e = (refl, refl)
+  once_any (Some (named.DeadName n)) p e = cc
+  once_any (Some (named.Set set)) p e = cc
+
+  set_any : (o : Option Named) (set : ℕ) → Some (Target.set set) ≡ option_map target_of o → by_losing_all o ≡ change.Any
+  set_any None set e = cc
+  set_any (Some (named.Receive q)) set e = cc
+  set_any (Some (named.Send q n)) set e = cc
+  set_any (Some (named.ReceiveAndSend q n)) set e = cc
+  set_any (Some (named.SendOnce q)) set e = cc
+  set_any (Some (named.DeadName n)) set e = cc
+  set_any (Some (named.Set t)) set e = refl
+
+  any_all : (told : Change) → told ≡ change.Any → touched_by w told ≡ Any
+  any_all told is = ap (touched_by w) is
+
+  one_own : (task name : ℕ) (told : Change) → Deallocates task name s mid owed → told ≡ by_losing_one (entry_at old task name) → OwnTouches s mid owed (touched_by w told)
+  one_own task name told (inl (p, l, none)) tells = kept_all s mid owed _ (one_keeps task name MoveSend (Target.port p) s mid refl l) none
+  one_own task name told (inr (inl (p, l, is))) tells = inl (any_all told (tells ∙ (once_any (entry_at old task name) p (sym l.found ∙ sh.agrees.naming task name)).0))
+  one_own task name told (inr (inr (n, l, none))) tells = kept_all s mid owed _ (one_keeps task name MoveSend (Target.dead n) s mid refl l) none
+
+  -- all under a port's name goes: send rights, or the receive right too
+  port_own : (task name p : ℕ) (told : Change) → lookup s task name ≡ Some (Target.port p) → LosesAll (is_either task p) s.ledger mid.ledger → mid ≡ record (without_name task name s) { ledger = mid.ledger } → owed ≡ [] →
+      told ≡ by_losing_all (entry_at old task name) → OwnTouches s mid owed (touched_by w told)
+  port_own task name p told found loses rest none tells = go (entry_at old task name) refl (sym found ∙ sh.agrees.naming task name)
+    where
+      go : (o : Option Named) → entry_at old task name ≡ o → Some (Target.port p) ≡ option_map target_of o → OwnTouches s mid owed (touched_by w told)
+      go None is e = absurd (cc)
+      go (Some (named.Receive q)) is e = inl (any_all told (tells ∙ ap by_losing_all is))
+      go (Some (named.Send q n)) is e =
+          let has = sh.agrees.references task name (named.Send q n) q is refl in
+          let none_held : held s task receive q ≡ 0 = has.0 in
+          let same : p ≡ q = (let f = e in cc) in
+          kept_all s mid owed _ (all_keeps task p name s mid loses rest (subst (λ (x : ℕ). held s task receive x ≡ 0) (sym same) none_held)) none
+      go (Some (named.ReceiveAndSend q n)) is e = inl (any_all told (tells ∙ ap by_losing_all is))
+      go (Some (named.SendOnce q)) is e = absurd (cc)
+      go (Some (named.DeadName n)) is e = absurd (cc)
+      go (Some (named.Set set)) is e = absurd (cc)
+
+  all_own : (task name : ℕ) (told : Change) → Destroys task name s mid owed → told ≡ by_losing_all (entry_at old task name) → OwnTouches s mid owed (touched_by w told)
+  all_own task name told (Target.port p, found, d) tells = port_own task name p told found d.0 d.1 d.2 tells
+  all_own task name told (Target.once p, found, d) tells = inl (any_all told (tells ∙ (once_any (entry_at old task name) p (sym found ∙ sh.agrees.naming task name)).1))
+  all_own task name told (Target.dead n, found, d) tells =
+      kept_all s mid owed _ (keeps_by s mid _ d.0 (λ p. refl) (λ p. refl) (λ p. refl) (λ p. refl) (λ p. refl) (λ set. refl) (λ test is. ap (λ (x : State). count test x.ledger) d.0)) d.1
+  all_own task name told (Target.set set, found, d) tells = inl (any_all told (tells ∙ set_any (entry_at old task name) set (sym found ∙ sh.agrees.naming task name)))
+
+  counted : (right : ℕ) → (right == 0 || right == 4) ≡ true → IsCounted right
+  counted right is = elim (eqb_tells right 0) [
+    | inl e ↦ inl e.1
+    | inr e ↦ elim (eqb_tells right 4) [
+      | inl f ↦ inr f.1
+      | inr f ↦ absurd (let g = is in grind arith)
+    ]
+  ]
+
+  counts_own : (task name right : ℕ) (delta : ℤ) → Modifies task name right delta s mid owed → OwnTouches s mid owed (touched_by w (by_references right))
+  counts_own task name right delta m = go (right == 0 || right == 4) refl
+    where
+      go : (b : Bool) → (right == 0 || right == 4) ≡ b → OwnTouches s mid owed (touched_by w (if b then change.Nothing else change.Any))
+      go true is = let k = counts_keep task name right delta s mid owed (counted right is) m in kept_all s mid owed _ k.0 k.1
+      go false is = inl refl
+
+  -- ---- a port goes to other sets, or its receive right to another task
+
+  moved_own : (p : ℕ) → KeepsOthers p s mid → owed ≡ [] → OwnTouches s mid owed (touched_by w (left_by p (set_of old p)))
+  moved_own p others none = go (set_of old p) refl
+    where
+      was : (set : ℕ) → Contains (s.sets_of p) set → set_of old p ≡ Some set
+      was set in_it = set_is old s sh.agrees p (sh.lawful.no_sets p) set in_it
+
+      covered : (touched : Touched) → Covers touched (Waited.Port p) → ((set : ℕ) → set_of old p ≡ Some set → Covers touched (Waited.Set set)) → ((set : ℕ) → set_of w p ≡ Some set → Covers touched (Waited.Set set)) → OwnTouches s mid owed touched
+      covered touched port before after = inr (
+        none,
+        λ t k.
+            moved_touches p s t (others_end p s mid t others k) touched port (λ set in_it. before set (was set in_it))
+            (λ set in_it. after set (set_is w mid (agree none) p ((law none).no_sets p) set (subst (λ (xs : List ℕ). Contains xs set) (k.sets p) in_it))),
+      )
+
+      go : (o : Option ℕ) → set_of old p ≡ o → OwnTouches s mid owed (touched_by w (left_by p o))
+      go None is = covered (with_set w (Some p)) (0, omega arith, refl) (λ set e. absurd (none_some set (sym is ∙ e))) (λ set e. rw e (1, omega arith, refl))
+      go (Some left) is =
+          covered (named_left w p left) (0, omega arith, refl) (λ set e. let f = one_some left set (sym is ∙ e) in rw f (2, omega arith, refl)) (λ set e. rw e (1, omega arith, refl))
+
+  moving_own : (task name p : ℕ) (told : Change) → lookup s task name ≡ Some (Target.port p) → KeepsOthers p s mid → owed ≡ [] → told ≡ by_moving old task name → OwnTouches s mid owed (touched_by w told)
+  moving_own task name p told found others none tells =
+      let is : told ≡ left_by p (set_of old p) = tells ∙ ap (moved_from old) (under old s sh.agrees task name p found) in
+      subst (λ (c : Change). OwnTouches s mid owed (touched_by w c)) (sym is) (moved_own p others none)
+
+  -- a right is handed from the task's name
+  handing_own : (task name number : ℕ) (told : Change) (copied : State) (mark : Mark) (place : Place) → CopyRight task place number name s mark copied → Keeps copied mid → (number ≢ 16 → Keeps s mid) → owed ≡ [] →
+      told ≡ by_handing old task name number → OwnTouches s mid owed (touched_by w told)
+  handing_own task name number told copied mark place copy ends keeps none tells = elim (eqb_tells number 16) [
+    | inl e ↦
+        let m = receive_moves task place name s mark copied (subst (λ (n : ℕ). CopyRight task place n name s mark copied) e.1 copy) in
+        let f : told ≡ by_moving old task name = tells ∙ (let g = e.0 in rw g refl) in
+        moving_own task name m.port told m.found (others_end m.port s copied mid m.others ends) none f
+    | inr e ↦ kept_all s mid owed _ (keeps e.1) none
+  ]
 
   -- ---- a receipt
 
@@ -269,38 +387,39 @@ module _ (now : ℕ) (old w : WorldView) (s mid : State) (owed : Owed) (sh : Sho
 
   -- ---- each call
 
-  pub own : (event : Event) (reply : Reply) (sent : Option ℕ) → Does now s event reply mid owed → ((task : ℕ) (bytes : List ℕ) → event ≡ Event.Send task bytes → TellsSent old task bytes sent) →
-      OwnTouches s mid owed (touched_by w (change_of event reply sent))
-  own Event.TaskCreate (Reply.Task task) sent d told = kept_all s mid owed _ (creates_keep s task mid d.0) d.1
-  own (Event.GetRefs task name right) (Reply.Refs n) sent d told = kept_all s mid owed _ (keeps_same s mid d.0) d.1
-  own (Event.NameType task name) (Reply.NameType n) sent d told = kept_all s mid owed _ (keeps_same s mid d.0) d.1
-  own (Event.Names task) (Reply.Names entries) sent d told = kept_all s mid owed _ (keeps_same s mid d.0) d.1
-  own (Event.ReceiveStatus task name) (Reply.Status status) sent d told = kept_all s mid owed _ (keeps_same s mid d.0) d.1
-  own (Event.SetStatus task name) (Reply.Members members) sent d told = kept_all s mid owed _ (keeps_same s mid d.0) d.1
-  own (Event.Rename task o n) (Reply.Code code) sent d told = kept_all s mid owed _ (renames_keep task o n s mid d.1) d.2
-  own (Event.SetMscount task name n) (Reply.Code code) sent d told =
+  pub own : (event : Event) (reply : Reply) (told : Change) → Does now s event reply mid owed → TellsChange old event told → OwnTouches s mid owed (touched_by w (change_of event reply told))
+  own Event.TaskCreate (Reply.Task task) told d tells = kept_all s mid owed _ (creates_keep s task mid d.0) d.1
+  own (Event.GetRefs task name right) (Reply.Refs n) told d tells = kept_all s mid owed _ (keeps_same s mid d.0) d.1
+  own (Event.NameType task name) (Reply.NameType n) told d tells = kept_all s mid owed _ (keeps_same s mid d.0) d.1
+  own (Event.Names task) (Reply.Names entries) told d tells = kept_all s mid owed _ (keeps_same s mid d.0) d.1
+  own (Event.ReceiveStatus task name) (Reply.Status status) told d tells = kept_all s mid owed _ (keeps_same s mid d.0) d.1
+  own (Event.SetStatus task name) (Reply.Members members) told d tells = kept_all s mid owed _ (keeps_same s mid d.0) d.1
+  own (Event.Rename task o n) (Reply.Code code) told d tells = kept_all s mid owed _ (renames_keep task o n s mid d.1) d.2
+  own (Event.SetMscount task name n) (Reply.Code code) told d tells =
       kept_all s mid owed _ (keeps_by s mid _ d.2.3 (λ p. refl) (λ p. refl) (λ p. refl) (λ p. refl) (λ p. refl) (λ set. refl) (λ test is. ap (λ (x : State). count test x.ledger) d.2.3)) d.3
-  own (Event.SetSeqno task name n) (Reply.Code code) sent d told =
+  own (Event.SetSeqno task name n) (Reply.Code code) told d tells =
       kept_all s mid owed _ (keeps_by s mid _ d.2.3 (λ p. refl) (λ p. refl) (λ p. refl) (λ p. refl) (λ p. refl) (λ set. refl) (λ test is. ap (λ (x : State). count test x.ledger) d.2.3)) d.3
-  own (Event.SetQlimit task name n) (Reply.Code code) sent d told =
+  own (Event.SetQlimit task name n) (Reply.Code code) told d tells =
       limit_changed w mid (agree d.2) s owed task name d.1.0 (limit_changes s mid d.1.0 n d.1.3) (ap (λ (x : State). lookup x task name) d.1.3 ∙ d.1.1) d.2
-  own (Event.Allocate task right) (Reply.Name name) sent d told = made_own task right name (gives task name s) (gives_keeps task name s) (gives-lawful task name s sh.lawful) d.1 d.2
-  own (Event.AllocateName task right name) (Reply.Name to) sent d told =
+  own (Event.Allocate task right) (Reply.Name name) told d tells = made_own task right name (gives task name s) (gives_keeps task name s) (gives-lawful task name s sh.lawful) d.1 d.2
+  own (Event.AllocateName task right name) (Reply.Name to) told d tells =
       made_own task right to s (keeps_same s s refl) sh.lawful (subst (λ (n : ℕ). Makes task right n s mid) (sym d.0) d.1) d.2
-  own (Event.Send task bytes) (Reply.Code code) sent d told = sent_own task bytes sent d.1 d.2 (told task bytes refl)
-  own (Event.Receive task name room large) reply sent (waited, waits, receipt) told = receipt_own task waited room large reply receipt
-  own (Event.ReceiveAgain task waited room large) reply sent receipt told = receipt_own task waited room large reply receipt
-  own (Event.TaskTerminate task) reply sent d told = inl refl
-  own (Event.Deallocate task name) reply sent d told = inl refl
-  own (Event.Destroy task name) reply sent d told = inl refl
-  own (Event.ModRefs task name right delta) reply sent d told = inl refl
-  own (Event.MoveMember task member after) reply sent d told = inl refl
-  own (Event.InsertMember task member set) reply sent d told = inl refl
-  own (Event.ExtractMember task member set) reply sent d told = inl refl
-  own (Event.InsertRight task name from poly number) reply sent d told = inl refl
-  own (Event.ExtractRight task name number to) reply sent d told = inl refl
-  own (Event.RequestNotification task name variant sync notify number) reply sent d told = inl refl
-  own event reply sent d told = absurd d
+  own (Event.Send task bytes) (Reply.Code code) told d (sent, tells, is) = subst (λ (c : Change). OwnTouches s mid owed (touched_by w c)) (sym is) (sent_own task bytes sent d.1 d.2 tells)
+  own (Event.Receive task name room large) reply told (waited, waits, receipt) tells = receipt_own task waited room large reply receipt
+  own (Event.ReceiveAgain task waited room large) reply told receipt tells = receipt_own task waited room large reply receipt
+  own (Event.TaskTerminate task) reply told d tells = inl refl
+  own (Event.Deallocate task name) (Reply.Code code) told d tells = one_own task name told d.1 tells
+  own (Event.Destroy task name) (Reply.Code code) told d tells = all_own task name told d.1 tells
+  own (Event.ModRefs task name right delta) (Reply.Code code) told d tells = counts_own task name right delta d.1
+  own (Event.MoveMember task member after) (Reply.Code code) told d tells = moving_own task member d.1.0 told d.1.1 (joins_others task member after s mid d.1) d.2 tells
+  own (Event.InsertMember task member set) reply told d tells = inl refl
+  own (Event.ExtractMember task member set) reply told d tells = inl refl
+  own (Event.InsertRight task name from poly number) (Reply.Code code) told (is, i, none) tells =
+      handing_own from poly number told i.copied (to_port i.p) (in_task task) i.copy (insert_ends task name from poly number s mid i) (λ not. inserts_keep task name from poly number s mid not i) none tells
+  own (Event.ExtractRight task name number to) (Reply.Right new_name kind) told (e, none) tells =
+      handing_own task name number told e.copied (to_port e.p) (in_task to) e.copy (extract_ends task name number to new_name kind s mid e) (λ not. extracts_keep task name number to new_name kind s mid not e) none tells
+  own (Event.RequestNotification task name variant sync notify number) reply told d tells = inl refl
+  own event reply told d tells = absurd d
 
 -- ---- the step
 
@@ -311,29 +430,29 @@ module _ (old w new : WorldView) (event : Event) (reply : Reply) (turns : ℕ) (
       let e = settles now old s d.mid d.owed sh d.shows in
       (e.0, inr (record { performed = record { mid = d.mid; owed = d.owed; does = d.does; settles = e.1 }; unrefused = d.unrefused; judged = d.judged }), e.2, touches_all s e.0)
 
-  pub few_touched : (sent : Option ℕ) → ((task : ℕ) (bytes : List ℕ) → event ≡ Event.Send task bytes → TellsSent old task bytes sent) → IsIdle w → new ≡ w → Touches old event reply new (touched_by new (change_of event reply sent))
-  few_touched sent told idle same = λ now s sh.
+  pub few_touched : (told : Change) → TellsChange old event told → IsIdle w → new ≡ w → Touches old event reply new (touched_by new (change_of event reply told))
+  few_touched told tells idle same = λ now s sh.
       let d = acts.acts now s sh in
       let e = settles now old s d.mid d.owed sh d.shows in
       let here : Shows w e.0 = subst (λ (x : WorldView). Shows x e.0) same e.2 in
       let ends : (none : d.owed ≡ []) → Keeps d.mid e.0 = λ none.
       let l = law now old w s d.mid d.owed sh d.shows none in
       ends_quietly now s d.mid e.0 l (quiet_end w d.mid e.0 (agree now old w s d.mid d.owed sh d.shows none) here l idle) (subst (λ (o : Owed). Settles now s d.mid o e.0) none e.1) in
-      let only : TouchesOnly s e.0 (touched_by w (change_of event reply sent)) = by (own now old w s d.mid d.owed sh d.shows event reply sent d.does told) ends in (
+      let only : TouchesOnly s e.0 (touched_by w (change_of event reply told)) = by (own now old w s d.mid d.owed sh d.shows event reply told d.does tells) ends in (
         e.0,
         inr (record { performed = record { mid = d.mid; owed = d.owed; does = d.does; settles = e.1 }; unrefused = d.unrefused; judged = d.judged }),
         e.2,
-        subst (λ (x : WorldView). TouchesOnly s e.0 (touched_by x (change_of event reply sent))) (sym same) only,
+        subst (λ (x : WorldView). TouchesOnly s e.0 (touched_by x (change_of event reply told))) (sym same) only,
       )
     where
       by : {s mid t : State} {owed : Owed} {touched : Touched} → OwnTouches s mid owed touched → ((none : owed ≡ []) → Keeps mid t) → TouchesOnly s t touched
       by {s} {mid} {t} {owed} {touched} (inl all) ends = subst (TouchesOnly s t) (sym all) (touches_all s t)
       by {s} {mid} {t} {owed} {touched} (inr (none, only)) ends = only t (ends none)
 
-  pub touched_after : (sent : Option ℕ) → ((task : ℕ) (bytes : List ℕ) → event ≡ Event.Send task bytes → TellsSent old task bytes sent) → (is_quiet : Bool) → (is_quiet ≡ true → IsIdle w × (new ≡ w)) →
-      Touches old event reply new (touched_by new (if is_quiet then change_of event reply sent else change.Any))
-  touched_after sent told false quiet = all_touched
-  touched_after sent told true quiet = let q = quiet refl in few_touched sent told q.0 q.1
+  pub touched_after : (told : Change) → TellsChange old event told → (is_quiet : Bool) → (is_quiet ≡ true → IsIdle w × (new ≡ w)) →
+      Touches old event reply new (touched_by new (if is_quiet then change_of event reply told else change.Any))
+  touched_after told tells false quiet = all_touched
+  touched_after told tells true quiet = let q = quiet refl in few_touched told tells q.0 q.1
 
 -- a refusal changes nothing
 pub none_touched : (old new : WorldView) (event : Event) (code : ℕ) → Declines old event code new → Touches old event (Reply.Code code) new (few None None)
@@ -343,3 +462,8 @@ none_touched old new event code d = λ now s sh. (
   d.shows s sh,
   touches s s None None (few None None) (changes_none s s None None (keeps_same s s refl)) (λ p e. absurd (none_some p e)) (λ p e. absurd (none_some p e)) (λ p set e. absurd (none_some p e)),
 )
+
+-- what holds however a call is answered
+pub on_ok : {T E : Type 0} (r : Result T E) {P : Type 0} → P → OnOk r P
+on_ok (Ok x) p = p
+on_ok (Err e) p = tt

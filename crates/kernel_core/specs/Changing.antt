@@ -1,5 +1,5 @@
 -- What a step changed of ports and port sets, as the kernel keeps it, and what that is once it is asked for.
-use Rattle.std.specs.Prelude.{ℕ, ◌^◌, ◌%◌, Bool, List, [], ◌∷◌, length, Option, Some, None, if◌then◌else◌, ◌==◌, ◌&&◌, not, nat_lt}
+use Rattle.std.specs.Prelude.{◌≡◌, ℕ, ◌^◌, ◌%◌, ◌||◌, Bool, List, [], ◌∷◌, length, Option, Some, None, if◌then◌else◌, ◌==◌, ◌&&◌, not, nat_lt}
 use Rattle.std.specs.Option.{option_and_then, option_map}
 use Rattle.mach_types.specs.declared.calls.Event.{Event}
 use Rattle.mach_types.specs.declared.calls.Reply.{Reply}
@@ -10,13 +10,16 @@ use Rattle.mach_types.specs.TextGuards.{word_at}
 use Rattle.mach_model.specs.State.{State}
 use Rattle.mach_model.specs.Machine.{Step}
 use Rattle.mach_laws.specs.Touching.{TouchesOnly}
+use Rattle.name_space.specs.declared.Entry.{Entry}
+use Rattle.name_space.specs.declared.Entry.TheVariants as entry
 use Rattle.name_space.specs.Entry.{port_named}
 use Rattle.port.specs.Ports.{PortView}
 use Rattle.copyin_base.specs.Kept.{Kept}
 use Rattle.copyin_base.specs.Shows.{Shows}
 use Rattle.copyin_base.specs.Worlds.{WorldView, entry_at, port_at}
 use Rattle.kernel_core.specs.declared.change.Change.{Change}
-use Rattle.kernel_core.specs.declared.change.Change.TheVariants.{Nothing, PortNamed, Queue, QueueNamed, Any}
+use Rattle.kernel_core.specs.declared.change.Change.TheVariants.{Nothing, PortNamed, Queue, QueueNamed, Left, Any}
+use Rattle.kernel_core.specs.Send.{TellsSent}
 
 -- ---- what it is
 
@@ -36,11 +39,16 @@ abbrev pub with_set : WorldView → Option ℕ → Touched
 with_set w (Some p) = few (Some (Waited.Port p)) (option_map Waited.Set (set_of w p))
 with_set w None = few None None
 
+-- a port with its set, and the set that it left
+abbrev pub named_left : WorldView → (port left : ℕ) → Touched
+named_left w p left = Few (Some (Waited.Port p) ∷ option_map Waited.Set (set_of w p) ∷ Some (Waited.Set left) ∷ None ∷ [])
+
 abbrev pub touched_by : WorldView → Change → Touched
 touched_by w Nothing = few None None
 touched_by w (PortNamed task name) = few (option_map Waited.Port (port_under w task name)) None
 touched_by w (Queue port) = with_set w (Some port)
 touched_by w (QueueNamed task name) = with_set w (port_under w task name)
+touched_by w (Left port set) = named_left w port set
 touched_by w Any = All
 
 -- ---- which it is, where the end of the step had nothing to do
@@ -66,24 +74,77 @@ abbrev pub by_send : Option ℕ → Change
 by_send (Some port) = Queue port
 by_send None = Any
 
--- what the call changed; of a send, the port is told that it went to, where no receive right went along
-abbrev pub change_of : Event → Reply → (sent : Option ℕ) → Change
-change_of Event.TaskCreate reply sent = Nothing
-change_of (Event.GetRefs task name right) reply sent = Nothing
-change_of (Event.NameType task name) reply sent = Nothing
-change_of (Event.Names task) reply sent = Nothing
-change_of (Event.Rename task from to) reply sent = Nothing
-change_of (Event.ReceiveStatus task name) reply sent = Nothing
-change_of (Event.SetStatus task name) reply sent = Nothing
-change_of (Event.SetMscount task name n) reply sent = Nothing
-change_of (Event.SetSeqno task name n) reply sent = Nothing
-change_of (Event.SetQlimit task name n) reply sent = PortNamed task name
-change_of (Event.Allocate task right) reply sent = by_making task reply
-change_of (Event.AllocateName task right name) reply sent = by_making task reply
-change_of (Event.Send task bytes) reply sent = by_send sent
-change_of (Event.Receive task name room large) reply sent = by_receipt task large reply
-change_of (Event.ReceiveAgain task waited room large) reply sent = by_receipt task large reply
-change_of event reply sent = Any
+-- references of a right of this number: those of a send right or a dead name are nothing that is waited for
+abbrev pub by_references : (right : ℕ) → Change
+by_references right = if right == 0 || right == 4 then Nothing else Any
+
+-- one reference under a name goes, or the send-once right, whose port gets a notice
+abbrev pub by_losing_one : Option Entry → Change
+by_losing_one (Some (entry.Send port references)) = Nothing
+by_losing_one (Some (entry.ReceiveAndSend port references)) = Nothing
+by_losing_one (Some (entry.DeadName references)) = Nothing
+by_losing_one e = Any
+
+-- all under a name goes
+abbrev pub by_losing_all : Option Entry → Change
+by_losing_all (Some (entry.Send port references)) = Nothing
+by_losing_all (Some (entry.DeadName references)) = Nothing
+by_losing_all e = Any
+
+-- a port goes to another set or place, from this set, if it is in one
+abbrev pub left_by : (port : ℕ) → Option ℕ → Change
+left_by port (Some set) = Left port set
+left_by port None = Queue port
+
+abbrev pub moved_from : WorldView → Option ℕ → Change
+moved_from w (Some port) = left_by port (set_of w port)
+moved_from w None = Any
+
+abbrev pub by_moving : WorldView → (task name : ℕ) → Change
+by_moving w task name = moved_from w (port_under w task name)
+
+-- the right under a name goes to another task, by a disposition of this number
+abbrev pub by_handing : WorldView → (task name number : ℕ) → Change
+by_handing w task name number = if number == 16 then by_moving w task name else Nothing
+
+-- A port is told that the message went to, where no receive right went along, or nothing is.
+abbrev pub TellsSend : WorldView → (task : ℕ) → (bytes : List ℕ) → (told : Change) → Type 0
+TellsSend w task bytes told = (sent : Option ℕ) × TellsSent w task bytes sent × (told ≡ by_send sent)
+
+-- What is told of a call while it is done, by the tables before it.
+abbrev pub TellsChange : WorldView → Event → (told : Change) → Type 0
+TellsChange w (Event.Deallocate task name) told = told ≡ by_losing_one (entry_at w task name)
+TellsChange w (Event.Destroy task name) told = told ≡ by_losing_all (entry_at w task name)
+TellsChange w (Event.MoveMember task member after) told = told ≡ by_moving w task member
+TellsChange w (Event.InsertRight task name from poly number) told = told ≡ by_handing w from poly number
+TellsChange w (Event.ExtractRight task name number to) told = told ≡ by_handing w task name number
+TellsChange w (Event.Send task bytes) told = TellsSend w task bytes told
+TellsChange w event told = Unit {0}
+
+-- what the call changed, with what was told of it
+abbrev pub change_of : Event → Reply → (told : Change) → Change
+change_of Event.TaskCreate reply told = Nothing
+change_of (Event.GetRefs task name right) reply told = Nothing
+change_of (Event.NameType task name) reply told = Nothing
+change_of (Event.Names task) reply told = Nothing
+change_of (Event.Rename task from to) reply told = Nothing
+change_of (Event.ReceiveStatus task name) reply told = Nothing
+change_of (Event.SetStatus task name) reply told = Nothing
+change_of (Event.SetMscount task name n) reply told = Nothing
+change_of (Event.SetSeqno task name n) reply told = Nothing
+change_of (Event.SetQlimit task name n) reply told = PortNamed task name
+change_of (Event.Allocate task right) reply told = by_making task reply
+change_of (Event.AllocateName task right name) reply told = by_making task reply
+change_of (Event.Deallocate task name) reply told = told
+change_of (Event.Destroy task name) reply told = told
+change_of (Event.ModRefs task name right delta) reply told = by_references right
+change_of (Event.MoveMember task member after) reply told = told
+change_of (Event.InsertRight task name from poly number) reply told = told
+change_of (Event.ExtractRight task name number to) reply told = told
+change_of (Event.Send task bytes) reply told = told
+change_of (Event.Receive task name room large) reply told = by_receipt task large reply
+change_of (Event.ReceiveAgain task waited room large) reply told = by_receipt task large reply
+change_of event reply told = Any
 
 -- ---- what a step promises of it
 

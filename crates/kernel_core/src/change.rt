@@ -1,10 +1,12 @@
 //! What a step changed of ports and port sets, for those that wait.
 ghost use Rattle.std.specs.Prelude.{◌≡◌, None, if◌then◌else◌};
 ghost use Rattle.kernel_core.specs.declared.change.Change.TheVariants.{Any};
-ghost use Rattle.kernel_core.specs.Changing.{few, port_under, set_of as set_at, with_set as touched_with_set, touched_by, gives_none, by_message as change_by_message, by_receipt as change_by_receipt, by_making as change_by_making, by_send as change_by_send, change_of};
+ghost use Rattle.kernel_core.specs.Changing.{few, named_left, port_under, set_of as set_at, with_set as touched_with_set, touched_by, gives_none, by_message as change_by_message, by_receipt as change_by_receipt, by_making as change_by_making, by_send as change_by_send, by_references as change_by_references, by_losing_one as change_by_losing_one, by_losing_all as change_by_losing_all, left_by as change_left_by, by_moving as change_by_moving, by_handing as change_by_handing, change_of};
+ghost use Rattle.copyin_base.specs.Worlds.{entry_at};
 
 use copyin_base::World;
 use mach_types::{Event, Name, PortId, Reply, SetId, TaskId, Touched, Waited};
+use name_space::Entry;
 use type_descriptor::read_word;
 
 /// What a step changed, in short: what stands under a name, and in which set a port is, is looked up once it
@@ -15,28 +17,25 @@ pub(crate) enum Change {
     Nothing,
     /// The port under this name of the task, where one stands there; no queue.
     PortNamed(TaskId, Name),
-    /// The queue of this port, and so that of its set.
+    /// Of this port, and so of its set: the queue, the place of the receive right, or that it entered the set.
     Queue(PortId),
     /// The queue of the port under this name of the task, and so that of its set.
     QueueNamed(TaskId, Name),
+    /// Of this port that it left this set, for another place or another set.
+    Left(PortId, SetId),
     /// Any port and any set.
     Any,
 }
 
 impl Change {
-    /// What a step of the call changed that was done, and whether its end had nothing to do. Of a send `sent`
-    /// is the port that it went to, where no receive right went along. Constant time.
+    /// What a step of the call changed that was done, and whether its end had nothing to do. `told` is what was
+    /// told of it while it was done. Constant time.
     #[inline(always)]
-    pub(crate) fn after(
-        is_quiet: bool,
-        event: &Event,
-        reply: &Reply,
-        sent: Option<PortId>,
-    ) -> Change
-        ensures { result ≡ if is_quiet then change_of event.now reply.now sent else Any }
+    pub(crate) fn after(is_quiet: bool, event: &Event, reply: &Reply, told: Change) -> Change
+        ensures { result ≡ if is_quiet then change_of event.now reply.now told else Any }
     {
         if is_quiet {
-            Change::of(event, reply, sent)
+            Change::of(event, reply, told)
         } else {
             Change::Any
         }
@@ -44,8 +43,8 @@ impl Change {
 
     /// What the call changed, where it is done and the end of its step had nothing to do.
     #[inline(always)]
-    fn of(event: &Event, reply: &Reply, sent: Option<PortId>) -> Change
-        ensures { result ≡ change_of event.now reply.now sent }
+    fn of(event: &Event, reply: &Reply, told: Change) -> Change
+        ensures { result ≡ change_of event.now reply.now told }
     {
         match event {
             Event::TaskCreate
@@ -59,7 +58,13 @@ impl Change {
             | Event::SetSeqno(..) => Change::Nothing,
             Event::SetQlimit(task, name, _) => Change::PortNamed(*task, *name),
             Event::Allocate(task, _) | Event::AllocateName(task, _, _) => by_making(*task, reply),
-            Event::Send(..) => by_send(sent),
+            Event::ModRefs(_, _, right, _) => by_references(*right),
+            Event::Send(..)
+            | Event::Deallocate(..)
+            | Event::Destroy(..)
+            | Event::MoveMember(..)
+            | Event::InsertRight(..)
+            | Event::ExtractRight(..) => told,
             Event::Receive(task, _, _, large) | Event::ReceiveAgain(task, _, _, large) => {
                 by_receipt(*task, *large, reply)
             }
@@ -79,6 +84,7 @@ impl Change {
             }
             Change::Queue(port) => name_with_set(world, Some(port)),
             Change::QueueNamed(task, name) => name_with_set(world, named_port(world, task, name)),
+            Change::Left(port, set) => name_left(world, port, set),
             Change::Any => Touched::All,
         }
     }
@@ -121,6 +127,80 @@ fn name_with_set(world: &World, port: Option<PortId>) -> Touched
     }
 }
 
+/// The port, the set that it is in, if any, and the one that it left.
+fn name_left(world: &World, port: PortId, left: SetId) -> Touched
+    ensures { result ≡ named_left world.now port left }
+{
+    Touched::Few([
+        Some(Waited::Port(port)),
+        set_of(world, port).map(Waited::Set),
+        Some(Waited::Set(left)),
+        None,
+    ])
+}
+
+/// References changed of a right of this number: a send right, a dead name, or another right that went.
+fn by_references(right: u32) -> Change
+    ensures { result ≡ change_by_references right }
+{
+    if right == 0 || right == 4 {
+        Change::Nothing
+    } else {
+        Change::Any
+    }
+}
+
+/// One reference under the name is about to go, or the send-once right, whose port gets a notice.
+pub(crate) fn by_losing_one(world: &World, task: TaskId, name: Name) -> Change
+    ensures { result ≡ change_by_losing_one (entry_at world.now task name) }
+{
+    match world.lookup(task, name) {
+        Some(Entry::Send(..) | Entry::ReceiveAndSend(..) | Entry::DeadName(_)) => Change::Nothing,
+        _ => Change::Any,
+    }
+}
+
+/// All that is under the name is about to go.
+pub(crate) fn by_losing_all(world: &World, task: TaskId, name: Name) -> Change
+    ensures { result ≡ change_by_losing_all (entry_at world.now task name) }
+{
+    match world.lookup(task, name) {
+        Some(Entry::Send(..) | Entry::DeadName(_)) => Change::Nothing,
+        _ => Change::Any,
+    }
+}
+
+/// The port under the name is about to change its set, or its receive right goes to another place.
+pub(crate) fn by_moving(world: &World, task: TaskId, name: Name) -> Change
+    ensures { result ≡ change_by_moving world.now task name }
+{
+    match named_port(world, task, name) {
+        Some(port) => left_by(port, set_of(world, port)),
+        None => Change::Any,
+    }
+}
+
+/// The port is about to leave this set, if it is in one.
+fn left_by(port: PortId, set: Option<SetId>) -> Change
+    ensures { result ≡ change_left_by port set }
+{
+    match set {
+        Some(set) => Change::Left(port, set),
+        None => Change::Queue(port),
+    }
+}
+
+/// The right under the name is about to go to another task, by a disposition of this number.
+pub(crate) fn by_handing(world: &World, task: TaskId, name: Name, number: u32) -> Change
+    ensures { result ≡ change_by_handing world.now task name number }
+{
+    if number == 16 {
+        by_moving(world, task, name)
+    } else {
+        Change::Nothing
+    }
+}
+
 /// A port was made under the name that the reply tells, or something else that nobody waits for.
 fn by_making(task: TaskId, reply: &Reply) -> Change
     ensures { result ≡ change_by_making task reply.now }
@@ -131,8 +211,8 @@ fn by_making(task: TaskId, reply: &Reply) -> Change
     }
 }
 
-/// A message was queued at the port.
-fn by_send(sent: Option<PortId>) -> Change
+/// A message was queued at the port, if that is told.
+pub(crate) fn by_send(sent: Option<PortId>) -> Change
     ensures { result ≡ change_by_send sent }
 {
     match sent {

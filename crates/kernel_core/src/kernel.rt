@@ -19,16 +19,15 @@ ghost use Rattle.copyin_base.specs.Worlds.{HasTask, IsIdle};
 ghost use Rattle.destroy.specs.Stages.{IsMidway, KeepsRooms, SettlesIn};
 ghost use Rattle.kernel_core.specs.Answers.{Answers};
 ghost use Rattle.kernel_core.specs.Bounds.{most_told, IsWithin};
-ghost use Rattle.kernel_core.specs.Changing.{few, Touches};
+ghost use Rattle.kernel_core.specs.Changing.{few, TellsChange, Touches};
 ghost use Rattle.kernel_core.specs.Choices.{SameButTurns};
 ghost use Rattle.kernel_core.specs.InTurn.{StepsInTurn};
 ghost use Rattle.kernel_core.specs.Kernels.{TakesTurns};
 ghost use Rattle.kernel_core.specs.Limits.{HasRoomFor, IsNearLimit};
-ghost use Rattle.kernel_core.specs.Send.{TellsSent};
 ghost use Rattle.kernel_core.specs.MemoryCodes.{TellsMemoryCode};
 ghost use Rattle.kernel_core.specs.Wanted.{Wanted, Spares, Performs};
 
-use crate::change::Change;
+use crate::change::{Change, by_handing, by_losing_all, by_losing_one, by_moving};
 use crate::memory::{has_room_for, tell_memory_code};
 use crate::receive::{Buffer, receive, receive_again};
 use crate::send::send;
@@ -40,7 +39,7 @@ use kernel_core_base::{
     move_member, name_type, receive_status, rename, set_mscount, set_qlimit, set_seqno, set_status,
     terminate_task,
 };
-use mach_types::{Event, KernReturn, Name, PortId, Profile, Reply, TaskId, Touched};
+use mach_types::{Event, KernReturn, Name, Profile, Reply, TaskId, Touched};
 use notifications::{Asked, request_notification};
 use std::alloc::{AllocError, Global};
 use std::marker::Model;
@@ -161,13 +160,13 @@ impl Kernel {
         ensures touches { Touches self.old.tables event.now result self.new.tables self.new.touched }
     {
         check_slots(&self.world);
-        let mut sent_to = None;
-        match act(&mut self.world, self.alloc, event, &mut sent_to) {
+        let mut told = Change::Any;
+        match act(&mut self.world, self.alloc, event, &mut told) {
             Ok(reply) => {
                 check_slots(&self.world);
                 let Ending { turns, is_quiet } = end_step(&mut self.world);
                 self.turns = turns;
-                self.change = Change::after(is_quiet, event, &reply, sent_to);
+                self.change = Change::after(is_quiet, event, &reply, told);
                 check_slots(&self.world);
                 reply
             }
@@ -244,10 +243,13 @@ impl Kernel {
     /// Returns which ports and sets the last step may have changed: a queue, a limit, members, or where a
     /// receive right lies. All others are for a task that waits as they were before the step (`specs/Changing`).
     ///
-    /// None before the first step and after a refusal. Few are named after a message that carried no receive
-    /// right was sent, or was received with a body of raw bytes; and after calls on names, references, limits
-    /// and counts. After every other call, and where ports died or notices were sent at the end of the step, it
-    /// is `All`. Takes no memory. Constant time, and logarithmic for a name above 65,535.
+    /// None before the first step and after a refusal. None, or few, after calls that make or rename something,
+    /// that ask, or that set a limit or a count. So it is after a port went to another set or a right to another
+    /// task, and where send rights or dead names lost references. It is so too after a message that carried
+    /// no receive right was sent, or was received with a body of raw bytes, or none was there.
+    ///
+    /// `All` after every other call, and where ports died or notices were sent at the end of the step. Takes no
+    /// memory. Constant time, and logarithmic for a name above 65,535.
     pub fn touched(&self) -> Touched
         ensures { result ≡ self.now.touched }
     {
@@ -289,21 +291,16 @@ fn check_slots(world: &World)
 
 /// Does the call's own part of a step, up to what [`settle`] ends, or refuses it.
 ///
-/// `KERN_INVALID_TASK` where a task that it names doesn't live; then as the call. In `sent_to` a send leaves the
-/// port that its message went to, where no receive right went along.
+/// `KERN_INVALID_TASK` where a task that it names doesn't live; then as the call. In `told` it leaves what
+/// only the tables before it tell of what it changes, for [`Change::after`].
 #[inline(always)]
-fn act(
-    world: &mut World,
-    alloc: Global,
-    event: &Event,
-    sent_to: &mut Option<PortId>,
-) -> Result<Reply, Code>
+fn act(world: &mut World, alloc: Global, event: &Event, told: &mut Change) -> Result<Reply, Code>
     requires { Stands world.old }
     ensures performs { Performs world.old event.now result world.new }
-    ensures to { (task : ℕ) (bytes : List ℕ) → event.now ≡ AnyEvent.Send task bytes → OnOk result (TellsSent world.old task bytes sent_to.new) }
+    ensures tells { OnOk result (TellsChange world.old event.now told.new) }
 {
     check_tasks(world, event)?;
-    serve(world, alloc, event, sent_to)
+    serve(world, alloc, event, told)
 }
 
 /// Whether the tasks that the call names live: `KERN_INVALID_TASK` where one doesn't. Constant time.
@@ -377,24 +374,25 @@ fn refuse_several() -> Result<Reply, Code>
 
 /// Makes the call on the tables, where the tasks that it names live.
 #[inline(always)]
-fn serve(
-    world: &mut World,
-    alloc: Global,
-    event: &Event,
-    sent_to: &mut Option<PortId>,
-) -> Result<Reply, Code>
+fn serve(world: &mut World, alloc: Global, event: &Event, told: &mut Change) -> Result<Reply, Code>
     requires there { HasTasks world.old event.now }
     requires stands { Stands world.old }
     ensures performs { Performs world.old event.now result world.new }
-    ensures to { (task : ℕ) (bytes : List ℕ) → event.now ≡ AnyEvent.Send task bytes → OnOk result (TellsSent world.old task bytes sent_to.new) }
+    ensures tells { OnOk result (TellsChange world.old event.now told.new) }
 {
     match event {
         Event::TaskCreate => create_task(world, alloc),
         Event::TaskTerminate(task) => terminate_task(world, *task),
         Event::Allocate(task, right) => allocate(world, *task, *right),
         Event::AllocateName(task, right, name) => allocate_name(world, *task, *right, *name),
-        Event::Deallocate(task, name) => deallocate(world, *task, *name),
-        Event::Destroy(task, name) => destroy(world, *task, *name),
+        Event::Deallocate(task, name) => {
+            *told = by_losing_one(world, *task, *name);
+            deallocate(world, *task, *name)
+        }
+        Event::Destroy(task, name) => {
+            *told = by_losing_all(world, *task, *name);
+            destroy(world, *task, *name)
+        }
         Event::ModRefs(task, name, right, delta) => mod_refs(world, *task, *name, *right, *delta),
         Event::GetRefs(task, name, right) => get_refs(world, *task, *name, *right),
         Event::NameType(task, name) => name_type(world, *task, *name),
@@ -402,17 +400,22 @@ fn serve(
         Event::Rename(task, from, to) => rename(world, *task, *from, *to),
         Event::ReceiveStatus(task, name) => receive_status(world, *task, *name),
         Event::SetStatus(task, name) => set_status(world, alloc, *task, *name),
-        Event::MoveMember(task, member, after) => move_member(world, *task, *member, *after),
+        Event::MoveMember(task, member, after) => {
+            *told = by_moving(world, *task, *member);
+            move_member(world, *task, *member, *after)
+        }
         Event::InsertMember(..) | Event::ExtractMember(..) => refuse_several(),
         Event::SetQlimit(task, name, limit) => set_qlimit(world, *task, *name, *limit),
         Event::SetMscount(task, name, count) => set_mscount(world, *task, *name, *count),
         Event::SetSeqno(task, name, number) => set_seqno(world, *task, *name, *number),
         Event::InsertRight(task, name, from, poly, number) => {
+            *told = by_handing(world, *from, *poly, *number);
             let to = TaskName::new(*task, *name);
             let from = TaskName::new(*from, *poly);
             insert(world, &to, &from, *number)
         }
         Event::ExtractRight(task, name, number, to) => {
+            *told = by_handing(world, *task, *name, *number);
             extract(world, &TaskName::new(*task, *name), *number, *to)
         }
         Event::RequestNotification(task, name, variant, sync, notify, disposition) => {
@@ -424,7 +427,7 @@ fn serve(
             };
             request_notification(world, *task, *name, &asked)
         }
-        Event::Send(task, bytes) => send(world, alloc, *task, bytes, sent_to),
+        Event::Send(task, bytes) => send(world, alloc, *task, bytes, told),
         Event::Receive(task, name, room, large) => {
             receive(world, alloc, *task, *name, Buffer::new(*room, *large))
         }

@@ -10,9 +10,11 @@ ghost use Rattle.copyin.specs.Wanted.{WantsToSend};
 ghost use Rattle.message_codec.specs.Parses.{Parses};
 ghost use Rattle.message_codec.specs.Plain.{parsed_lone, parsed_plain, parsed_request};
 ghost use Rattle.message_codec.specs.Words.{body_words};
+ghost use Rattle.kernel_core.specs.Changing.{TellsSend};
 ghost use Rattle.kernel_core.specs.Send.{GoesTo, MovesNoReceive, PlansText, SendsText, TellsSent, UsesSlot};
 ghost use Rattle.copyin_base.specs.Worlds.{HasTask};
 
+use crate::change::{Change, by_send};
 use copyin::{Plan, check, check_lone, check_plain, check_request, commit};
 use copyin_base::{Code, World};
 use mach_types::{Bytes, MsgReturn, PortId, Reply, TaskId};
@@ -28,7 +30,8 @@ use std::alloc::Global;
 /// - those of its rights and of the message as a whole, as [`copyin::check`];
 /// - `MACH_SEND_NO_BUFFER`: memory was refused for the slots that it wants.
 ///
-/// In `sent_to` it leaves the port that the message went to, where no receive right went along.
+/// In `told` it leaves that the queue of the port changed that the message went to, where no receive right went
+/// along.
 ///
 /// Linear in the message, except for what [`copyin::check`] says of each right.
 pub(crate) fn send(
@@ -36,19 +39,19 @@ pub(crate) fn send(
     alloc: Global,
     task: TaskId,
     bytes: &Bytes,
-    sent_to: &mut Option<PortId>,
+    told: &mut Change,
 ) -> Result<Reply, Code>
     requires there { HasTask world.old task }
     requires stands { Stands world.old }
     ensures serves { Serves world.old (AnyEvent.Send task bytes.now) result world.new }
     ensures sent { OnOk result (UsesSlot world.old world.new) }
     ensures refused { OnErr result (world.new ≡ world.old) }
-    ensures to { OnOk result (TellsSent world.old task bytes.now sent_to.new) }
+    ensures tells { OnOk result (TellsSend world.old task bytes.now told.new) }
 
     // Memory is wanted only where the message could be sent, or isn't short.
     ensures wanted { IfErr result (λ code. code_number code ≡ msg_number SendNoBuffer → WantsToSend world.old task bytes.now) }
 {
-    *sent_to = send_text(world, alloc, task, bytes.as_slice())?;
+    *told = by_send(send_text(world, alloc, task, bytes.as_slice())?);
     Ok(Reply::Code(MsgReturn::Success.number()))
 }
 

@@ -34,3 +34,5 @@ mod Made
 mod Leaving
 pub mod Touching
 pub mod QuietEnd
+pub mod Losing
+pub mod Moving

@@ -68,7 +68,7 @@ and_none : (b : Bool) → (b && false) ≡ false
 and_none true = refl
 and_none false = refl
 
-none_and : (a b : Bool) → a ≡ false → (a && b) ≡ false
+pub none_and : (a b : Bool) → a ≡ false → (a && b) ≡ false
 none_and a b e = ap (λ (x : Bool). x && b) e
 
 pub held_is : (task p : ℕ) → IsOfReceives (is_held task receive p)
@@ -95,14 +95,14 @@ none_counted test is (x ∷ xs) none =
     let rest = none_counted test is xs (All-tail IsNoReceive x xs none) in
     rw e (omega (arith, rest))
 
-moves_keep : (old new gone come : List Token) → Moves old new gone come → All IsNoReceive gone → All IsNoReceive come → (test : Token → Bool) → IsOfReceives test → count test new ≡ count test old
+pub moves_keep : (old new gone come : List Token) → Moves old new gone come → All IsNoReceive gone → All IsNoReceive come → (test : Token → Bool) → IsOfReceives test → count test new ≡ count test old
 moves_keep old new gone come moves a b test is =
     let m = moves (λ x. if test x then 1 else 0) in
     let e = none_counted test is gone a in
     let f = none_counted test is come b in
     omega (arith, m, e, f)
 
-one_token : (kind : Kind) (p : ℕ) (place : Place) → same_kind receive kind ≡ false → All IsNoReceive (token kind p place ∷ [])
+pub one_token : (kind : Kind) (p : ℕ) (place : Place) → same_kind receive kind ≡ false → All IsNoReceive (token kind p place ∷ [])
 one_token kind p place not = All-cons IsNoReceive (token kind p place) [] not (All-nil IsNoReceive)
 
 -- ---- what a state with other names and counts keeps
@@ -124,7 +124,7 @@ keeps_by s t x e live log taken limit sets owner receives = record {
 
 -- ---- copying in what is no receive right
 
-kept_keeps : (b : Bool) (task name : ℕ) (old new : State) → new ≡ record (name_kept b task name old) { ledger = new.ledger } → SameReceives old new → Keeps old new
+pub kept_keeps : (b : Bool) (task name : ℕ) (old new : State) → new ≡ record (name_kept b task name old) { ledger = new.ledger } → SameReceives old new → Keeps old new
 kept_keeps true task name old new e = keeps_by old new _ e (λ p. refl) (λ p. refl) (λ p. refl) (λ p. refl) (λ p. refl) (λ set. refl)
 kept_keeps false task name old new e = keeps_by old new _ e (λ p. refl) (λ p. refl) (λ p. refl) (λ p. refl) (λ p. refl) (λ set. refl)
 
@@ -132,7 +132,7 @@ fewer_keeps : (b : Bool) (task name n : ℕ) (old new : State) → new ≡ recor
 fewer_keeps true task name n old new e = keeps_by old new _ e (λ p. refl) (λ p. refl) (λ p. refl) (λ p. refl) (λ p. refl) (λ set. refl)
 fewer_keeps false task name n old new e = keeps_by old new _ e (λ p. refl) (λ p. refl) (λ p. refl) (λ p. refl) (λ p. refl) (λ set. refl)
 
-changed_keeps : (d : Disposition) (target : Target) (task name : ℕ) (old new : State) → same_kind receive (kind_sent d) ≡ false → new ≡ record (changed_by d target task name old) { ledger = new.ledger } → SameReceives old new → Keeps old new
+pub changed_keeps : (d : Disposition) (target : Target) (task name : ℕ) (old new : State) → same_kind receive (kind_sent d) ≡ false → new ≡ record (changed_by d target task name old) { ledger = new.ledger } → SameReceives old new → Keeps old new
 changed_keeps MoveReceive target task name old new not e r = absurd (let f : true ≡ false = not in cc)
 changed_keeps MoveSend (Target.port p) task name old new not e r = grind (arith, kept_keeps)
 changed_keeps MoveSend (Target.dead n) task name old new not e r = fewer_keeps (nat_lt 1 n) task name _ old new e r
@@ -141,7 +141,7 @@ changed_keeps MoveSendOnce (Target.once p) task name old new not e r = kept_keep
 changed_keeps MakeSend (Target.port p) task name old new not e r = keeps_by old new _ e (λ q. refl) (λ q. refl) (λ q. refl) (λ q. refl) (λ q. refl) (λ set. refl) r
 changed_keeps d target task name old new not e r = kept_keeps true task name old new e r
 
-taken_none : (d : Disposition) (target : Target) (task : ℕ) → same_kind receive (kind_sent d) ≡ false → All IsNoReceive (taken_by d target task)
+pub taken_none : (d : Disposition) (target : Target) (task : ℕ) → same_kind receive (kind_sent d) ≡ false → All IsNoReceive (taken_by d target task)
 taken_none MoveReceive target task not = absurd (let f : true ≡ false = not in cc)
 taken_none MoveSend (Target.port p) task not = one_token send p (in_task task) refl
 taken_none MoveSendOnce (Target.once p) task not = one_token send_once p (in_task task) refl
@@ -292,7 +292,7 @@ once_keeps : (task name port : ℕ) (old new : State) → NamedOnce task name po
 once_keeps task name port old new (inl (found, same)) = keeps_same old new same
 once_keeps task name port old new (inr (none, named)) = named_keeps task name (Target.port port) old new named
 
-for_keeps : (kind : Kind) (task name port : ℕ) (old new : State) → NamedFor kind task name port old new → Keeps old new
+pub for_keeps : (kind : Kind) (task name port : ℕ) (old new : State) → NamedFor kind task name port old new → Keeps old new
 for_keeps receive task name port old new n = once_keeps task name port old new n
 for_keeps send task name port old new n = once_keeps task name port old new n
 for_keeps send_once task name port old new n = named_keeps task name (Target.once port) old new n

@@ -1,8 +1,9 @@
-use Rattle.std.proofs.Common.{refl, sym, ◌∙◌, rules}
+use Rattle.std.proofs.Common.{refl, rules}
 use Rattle.mach_types.specs.declared.calls.Event.{Event}
 use Rattle.copyin_base.specs.Serving.{Serves}
 use Rattle.copyin_base.proofs.Spares.{keeps_refl}
 use Rattle.kernel_core_base.proofs.Refused.{takes_none}
+use Rattle.kernel_core.proofs.Changed.{on_ok}
 use Rattle.kernel_core.proofs.Keeping.{always_wants, sent_spares, carried, lost, handed_on, asked}
 use Rattle.kernel_core.proofs.kernel.serve.Goals as goal
 
@@ -90,71 +91,71 @@ returns-in-ReceiveAgain-clause-performs c =
     let x = rw c.new-in-ReceiveAgain.ensures at c.receive_again.ensures in
     rw c.in-ReceiveAgain.is (record { serves = x.serves; wanted = x.wanted; spares = x.spares; turns = x.turns })
 
-pub returns-in-TaskCreate-clause-to : goal.returns-in-TaskCreate-clause-to
-returns-in-TaskCreate-clause-to c = λ task bytes is. absurd (let e = sym c.in-TaskCreate.is ∙ is in cc)
+pub returns-in-TaskCreate-clause-tells : goal.returns-in-TaskCreate-clause-tells
+returns-in-TaskCreate-clause-tells c = rw c.in-TaskCreate.is (on_ok _ tt)
 
-pub returns-in-TaskTerminate-clause-to : goal.returns-in-TaskTerminate-clause-to
-returns-in-TaskTerminate-clause-to c = λ task bytes is. absurd (let e = sym c.in-TaskTerminate.is ∙ is in cc)
+pub returns-in-TaskTerminate-clause-tells : goal.returns-in-TaskTerminate-clause-tells
+returns-in-TaskTerminate-clause-tells c = rw c.in-TaskTerminate.is (on_ok _ tt)
 
-pub returns-in-Allocate-clause-to : goal.returns-in-Allocate-clause-to
-returns-in-Allocate-clause-to c = λ task bytes is. absurd (let e = sym c.in-Allocate.is ∙ is in cc)
+pub returns-in-Allocate-clause-tells : goal.returns-in-Allocate-clause-tells
+returns-in-Allocate-clause-tells c = rw c.in-Allocate.is (on_ok _ tt)
 
-pub returns-in-AllocateName-clause-to : goal.returns-in-AllocateName-clause-to
-returns-in-AllocateName-clause-to c = λ task bytes is. absurd (let e = sym c.in-AllocateName.is ∙ is in cc)
+pub returns-in-AllocateName-clause-tells : goal.returns-in-AllocateName-clause-tells
+returns-in-AllocateName-clause-tells c = rw c.in-AllocateName.is (on_ok _ tt)
 
-pub returns-in-Deallocate-clause-to : goal.returns-in-Deallocate-clause-to
-returns-in-Deallocate-clause-to c = λ task bytes is. absurd (let e = sym c.in-Deallocate.is ∙ is in cc)
+pub returns-in-Deallocate-clause-tells : goal.returns-in-Deallocate-clause-tells
+returns-in-Deallocate-clause-tells c = rw c.in-Deallocate.is (on_ok _ c.by_losing_one.ensures)
 
-pub returns-in-Destroy-clause-to : goal.returns-in-Destroy-clause-to
-returns-in-Destroy-clause-to c = λ task bytes is. absurd (let e = sym c.in-Destroy.is ∙ is in cc)
+pub returns-in-Destroy-clause-tells : goal.returns-in-Destroy-clause-tells
+returns-in-Destroy-clause-tells c = rw c.in-Destroy.is (on_ok _ c.by_losing_all.ensures)
 
-pub returns-in-ModRefs-clause-to : goal.returns-in-ModRefs-clause-to
-returns-in-ModRefs-clause-to c = λ task bytes is. absurd (let e = sym c.in-ModRefs.is ∙ is in cc)
+pub returns-in-ModRefs-clause-tells : goal.returns-in-ModRefs-clause-tells
+returns-in-ModRefs-clause-tells c = rw c.in-ModRefs.is (on_ok _ tt)
 
-pub returns-in-GetRefs-clause-to : goal.returns-in-GetRefs-clause-to
-returns-in-GetRefs-clause-to c = λ task bytes is. absurd (let e = sym c.in-GetRefs.is ∙ is in cc)
+pub returns-in-GetRefs-clause-tells : goal.returns-in-GetRefs-clause-tells
+returns-in-GetRefs-clause-tells c = rw c.in-GetRefs.is (on_ok _ tt)
 
-pub returns-in-NameType-clause-to : goal.returns-in-NameType-clause-to
-returns-in-NameType-clause-to c = λ task bytes is. absurd (let e = sym c.in-NameType.is ∙ is in cc)
+pub returns-in-NameType-clause-tells : goal.returns-in-NameType-clause-tells
+returns-in-NameType-clause-tells c = rw c.in-NameType.is (on_ok _ tt)
 
-pub returns-in-Names-clause-to : goal.returns-in-Names-clause-to
-returns-in-Names-clause-to c = λ task bytes is. absurd (let e = sym c.in-Names.is ∙ is in cc)
+pub returns-in-Names-clause-tells : goal.returns-in-Names-clause-tells
+returns-in-Names-clause-tells c = rw c.in-Names.is (on_ok _ tt)
 
-pub returns-in-Rename-clause-to : goal.returns-in-Rename-clause-to
-returns-in-Rename-clause-to c = λ task bytes is. absurd (let e = sym c.in-Rename.is ∙ is in cc)
+pub returns-in-Rename-clause-tells : goal.returns-in-Rename-clause-tells
+returns-in-Rename-clause-tells c = rw c.in-Rename.is (on_ok _ tt)
 
-pub returns-in-ReceiveStatus-clause-to : goal.returns-in-ReceiveStatus-clause-to
-returns-in-ReceiveStatus-clause-to c = λ task bytes is. absurd (let e = sym c.in-ReceiveStatus.is ∙ is in cc)
+pub returns-in-ReceiveStatus-clause-tells : goal.returns-in-ReceiveStatus-clause-tells
+returns-in-ReceiveStatus-clause-tells c = rw c.in-ReceiveStatus.is (on_ok _ tt)
 
-pub returns-in-SetStatus-clause-to : goal.returns-in-SetStatus-clause-to
-returns-in-SetStatus-clause-to c = λ task bytes is. absurd (let e = sym c.in-SetStatus.is ∙ is in cc)
+pub returns-in-SetStatus-clause-tells : goal.returns-in-SetStatus-clause-tells
+returns-in-SetStatus-clause-tells c = rw c.in-SetStatus.is (on_ok _ tt)
 
-pub returns-in-MoveMember-clause-to : goal.returns-in-MoveMember-clause-to
-returns-in-MoveMember-clause-to c = λ task bytes is. absurd (let e = sym c.in-MoveMember.is ∙ is in cc)
+pub returns-in-MoveMember-clause-tells : goal.returns-in-MoveMember-clause-tells
+returns-in-MoveMember-clause-tells c = rw c.in-MoveMember.is (on_ok _ c.by_moving.ensures)
 
-pub returns-in-SetQlimit-clause-to : goal.returns-in-SetQlimit-clause-to
-returns-in-SetQlimit-clause-to c = λ task bytes is. absurd (let e = sym c.in-SetQlimit.is ∙ is in cc)
+pub returns-in-SetQlimit-clause-tells : goal.returns-in-SetQlimit-clause-tells
+returns-in-SetQlimit-clause-tells c = rw c.in-SetQlimit.is (on_ok _ tt)
 
-pub returns-in-SetMscount-clause-to : goal.returns-in-SetMscount-clause-to
-returns-in-SetMscount-clause-to c = λ task bytes is. absurd (let e = sym c.in-SetMscount.is ∙ is in cc)
+pub returns-in-SetMscount-clause-tells : goal.returns-in-SetMscount-clause-tells
+returns-in-SetMscount-clause-tells c = rw c.in-SetMscount.is (on_ok _ tt)
 
-pub returns-in-SetSeqno-clause-to : goal.returns-in-SetSeqno-clause-to
-returns-in-SetSeqno-clause-to c = λ task bytes is. absurd (let e = sym c.in-SetSeqno.is ∙ is in cc)
+pub returns-in-SetSeqno-clause-tells : goal.returns-in-SetSeqno-clause-tells
+returns-in-SetSeqno-clause-tells c = rw c.in-SetSeqno.is (on_ok _ tt)
 
-pub returns-in-InsertRight-clause-to : goal.returns-in-InsertRight-clause-to
-returns-in-InsertRight-clause-to c = λ task bytes is. absurd (let e = sym c.in-InsertRight.is ∙ is in cc)
+pub returns-in-InsertRight-clause-tells : goal.returns-in-InsertRight-clause-tells
+returns-in-InsertRight-clause-tells c = rw c.in-InsertRight.is (on_ok _ c.by_handing.ensures)
 
-pub returns-in-ExtractRight-clause-to : goal.returns-in-ExtractRight-clause-to
-returns-in-ExtractRight-clause-to c = λ task bytes is. absurd (let e = sym c.in-ExtractRight.is ∙ is in cc)
+pub returns-in-ExtractRight-clause-tells : goal.returns-in-ExtractRight-clause-tells
+returns-in-ExtractRight-clause-tells c = rw c.in-ExtractRight.is (on_ok _ c.by_handing-in-ExtractRight.ensures)
 
-pub returns-in-RequestNotification-clause-to : goal.returns-in-RequestNotification-clause-to
-returns-in-RequestNotification-clause-to c = λ task bytes is. absurd (let e = sym c.in-RequestNotification.is ∙ is in cc)
+pub returns-in-RequestNotification-clause-tells : goal.returns-in-RequestNotification-clause-tells
+returns-in-RequestNotification-clause-tells c = rw c.in-RequestNotification.is (on_ok _ tt)
 
-pub returns-in-Receive-clause-to : goal.returns-in-Receive-clause-to
-returns-in-Receive-clause-to c = λ task bytes is. absurd (let e = sym c.in-Receive.is ∙ is in cc)
+pub returns-in-Receive-clause-tells : goal.returns-in-Receive-clause-tells
+returns-in-Receive-clause-tells c = rw c.in-Receive.is (on_ok _ tt)
 
-pub returns-in-ReceiveAgain-clause-to : goal.returns-in-ReceiveAgain-clause-to
-returns-in-ReceiveAgain-clause-to c = λ task bytes is. absurd (let e = sym c.in-ReceiveAgain.is ∙ is in cc)
+pub returns-in-ReceiveAgain-clause-tells : goal.returns-in-ReceiveAgain-clause-tells
+returns-in-ReceiveAgain-clause-tells c = rw c.in-ReceiveAgain.is (on_ok _ tt)
 
-pub returns-in-Send-clause-to : goal.returns-in-Send-clause-to
-returns-in-Send-clause-to c = λ task bytes is. (let e = sym c.in-Send.is ∙ is in search rules)
+pub returns-in-Send-clause-tells : goal.returns-in-Send-clause-tells
+returns-in-Send-clause-tells c = rw c.in-Send.is c.send.ensures.tells

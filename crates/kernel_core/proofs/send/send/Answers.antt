@@ -7,15 +7,19 @@ use Rattle.kernel_core.proofs.send.send.Goals as goal
 
 pub returns-clause-serves : goal.returns-clause-serves
 returns-clause-serves c = rw c.number.ensures (send_done c.args.world.now c.args.task c.requires.there c.args.bytes.now c.send_text.new.world
-    (subst (λ (xs : List ℕ). SendsText c.args.world.now c.args.task xs c.send_text.new.world) c.as_slice.ensures c.in_ok-sent_to.ensures.ok))
+    (subst (λ (xs : List ℕ). SendsText c.args.world.now c.args.task xs c.send_text.new.world) c.as_slice.ensures c.in_ok-send_text.ensures.ok))
 
 pub returns-clause-sent : goal.returns-clause-sent
-returns-clause-sent c = uses_slot c.args.world.now c.args.task c.requires.there c.as_slice.result.now c.send_text.new.world c.requires.stands c.in_ok-sent_to.ensures.ok
+returns-clause-sent c = uses_slot c.args.world.now c.args.task c.requires.there c.as_slice.result.now c.send_text.new.world c.requires.stands c.in_ok-send_text.ensures.ok
 
-pub returns-in_err-sent_to-clause-wanted : goal.returns-in_err-sent_to-clause-wanted
-returns-in_err-sent_to-clause-wanted c =
+pub returns-in_err-send_text-clause-wanted : goal.returns-in_err-send_text-clause-wanted
+returns-in_err-send_text-clause-wanted c =
     let p = err_from_is_err_and c.from_residual.result c.from_residual.ensures.1 in
-    rw (p.1, p.2) (λ is. subst (λ (xs : List ℕ). WantsToSend c.args.world.now c.args.task xs) c.as_slice.ensures (c.in_err-sent_to.ensures.wanted is))
+    rw (p.1, p.2) (λ is. subst (λ (xs : List ℕ). WantsToSend c.args.world.now c.args.task xs) c.as_slice.ensures (c.in_err-send_text.ensures.wanted is))
 
-pub returns-clause-to : goal.returns-clause-to
-returns-clause-to c = subst (λ (xs : List ℕ). TellsSent c.args.world.now c.args.task xs c.in_ok-sent_to.field-0) c.as_slice.ensures c.in_ok-sent_to.ensures.to
+pub returns-clause-tells : goal.returns-clause-tells
+returns-clause-tells c = (
+  c.in_ok-send_text.field-0,
+  subst (λ (xs : List ℕ). TellsSent c.args.world.now c.args.task xs c.in_ok-send_text.field-0) c.as_slice.ensures c.in_ok-send_text.ensures.to,
+  c.by_send.ensures,
+)
