@@ -69,6 +69,3 @@ fn main(rt: HostRuntime) -> io::Result<()> {
     let mut out = rt.stdout();
     each_growth_refused(&rt, &mut out)
 }
-
-#[cfg(test)]
-mod tests;
