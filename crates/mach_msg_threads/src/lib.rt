@@ -20,6 +20,3 @@ pub use fault::RunFault;
 pub use gate::{Gate, is_change, tell};
 pub use hall::{BlockGate, Hall};
 pub use message::{Outcome, mach_msg};
-
-#[cfg(test)]
-mod tests;

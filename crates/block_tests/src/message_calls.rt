@@ -1,7 +1,8 @@
+//! Message calls of one caller, by a gate that says how often to try again.
 ghost use Rattle.std.specs.Prelude.{◌≡◌, IfOk};
 
-use super::*;
 use kernel_lock::{Entry, Pass, Shared};
+use mach_msg_threads::{Gate, Outcome, mach_msg};
 use mach_types::{Event, Name, PortId, Reply, TaskId, Waited};
 use std::alloc::Global;
 use std::sync::Wait;
