@@ -17,6 +17,3 @@ pub use histories::{
 };
 pub use levels::level;
 pub use lines::{first_line, line};
-
-#[cfg(test)]
-mod tests;

@@ -1,7 +1,10 @@
-use super::*;
+//! Histories as text: what is read and written back, which line is bad, and what `check` says.
 use log::Level;
 use std::alloc::Global;
 use std::test::*;
+use tracer::{
+    CheckFault, HistoryFault, check, first_line, level, line, read_history, write_history,
+};
 use tracer_base::TextFault;
 
 // A message sent to a port and received.
