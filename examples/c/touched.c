@@ -1,0 +1,132 @@
+/* What each call may have changed for a thread that waits: a line has the call, and the ports and sets that
+ * gelvonds_touched tells after it, by identity. */
+#include "gelvonds.h"
+
+#include <inttypes.h>
+#include <stdio.h>
+#include <string.h>
+
+enum { HEADER = 24, WITH_RIGHT = 32, ROOM = 64 };
+
+/* Names that the tasks choose: of the server a port and a set, of the client a send right for that port. */
+enum { PORT = 10, SET = 20, OTHER_SET = 21, SERVICE = 30, SPARE = 40 };
+
+static gelvonds kernel = GELVONDS_NONE;
+static gelvonds_task server, client;
+
+static void put_word(uint8_t *at, uint32_t word) {
+    for (int i = 0; i < 4; i++)
+        at[i] = (uint8_t)(word >> (8 * i));
+}
+
+/* The line of a call: how it ended where it was refused, and what it touched. */
+static void tell(const char *call, gelvonds_code code) {
+    gelvonds_touched_places touched;
+    char name[GELVONDS_TEXT_ROOM];
+    printf("%s:", call);
+    if (code != KERN_SUCCESS && gelvonds_code_name(code, name, sizeof name) != 0)
+        printf(" %s,", name);
+    if (gelvonds_touched(&kernel, &touched) != KERN_SUCCESS)
+        printf(" not told");
+    else if (touched.all)
+        printf(" any");
+    for (int i = 0; i < 4; i++)
+        if (!touched.all && touched.on[i].kind != 0)
+            printf(" %s %" PRIu64, touched.on[i].kind == GELVONDS_PORT ? "port" : "set", touched.on[i].identity);
+    printf("\n");
+}
+
+/* A message of raw bytes, or one whose body is the right under the name by this disposition. */
+static gelvonds_code send(gelvonds_task task, gelvonds_name to, uint32_t by, gelvonds_name right, uint32_t disposition) {
+    uint8_t bytes[WITH_RIGHT];
+    memset(bytes, 0, sizeof bytes);
+    put_word(bytes, MACH_MSGH_BITS(by, 0) | (right != 0 ? MACH_MSGH_BITS_COMPLEX : 0));
+    put_word(bytes + 8, to);
+    put_word(bytes + 24, disposition | 32u << 8 | 1u << 16 | 1u << 28);
+    put_word(bytes + 28, right);
+    return gelvonds_send(&kernel, task, bytes, right != 0 ? WITH_RIGHT : HEADER);
+}
+
+static gelvonds_code receive(gelvonds_task task, gelvonds_name name, size_t room, bool large) {
+    uint8_t bytes[ROOM];
+    size_t length;
+    gelvonds_waited waited;
+    return gelvonds_receive(&kernel, task, name, bytes, room, large, &length, &waited);
+}
+
+/* Tasks, ports and sets are made, and asked about. */
+static void make(void) {
+    uint32_t number;
+    tell("task_create", gelvonds_task_create(&kernel, &server));
+    gelvonds_task_create(&kernel, &client);
+    tell("allocate_name of a port", gelvonds_port_allocate_name(&kernel, server, MACH_PORT_RIGHT_RECEIVE, PORT));
+    tell("allocate_name of a set", gelvonds_port_allocate_name(&kernel, server, MACH_PORT_RIGHT_PORT_SET, SET));
+    gelvonds_port_allocate_name(&kernel, server, MACH_PORT_RIGHT_PORT_SET, OTHER_SET);
+    tell("get_refs", gelvonds_port_get_refs(&kernel, server, PORT, MACH_PORT_RIGHT_RECEIVE, &number));
+    tell("rename", gelvonds_port_rename(&kernel, server, PORT, SPARE));
+    gelvonds_port_rename(&kernel, server, SPARE, PORT);
+    tell("set_qlimit", gelvonds_port_set_qlimit(&kernel, server, PORT, 3));
+    tell("set_mscount", gelvonds_port_set_mscount(&kernel, server, PORT, 0));
+    tell("a name that isn't there", gelvonds_port_type(&kernel, server, SPARE, &number));
+}
+
+/* A port goes into a set, into another, and out of it. */
+static void move(void) {
+    tell("move_member into a set", gelvonds_port_move_member(&kernel, server, PORT, SET));
+    tell("move_member into another set", gelvonds_port_move_member(&kernel, server, PORT, OTHER_SET));
+    tell("a message to a port in a set", send(server, PORT, MACH_MSG_TYPE_MAKE_SEND, 0, 0));
+    tell("it is received by the set", receive(server, OTHER_SET, ROOM, false));
+    tell("move_member out of all sets", gelvonds_port_move_member(&kernel, server, PORT, MACH_PORT_NULL));
+}
+
+/* Messages to a port that is in no set. */
+static void talk(void) {
+    tell("a message", send(server, PORT, MACH_MSG_TYPE_MAKE_SEND, 0, 0));
+    tell("too long, and it stays", receive(server, PORT, 0, true));
+    tell("it is received", receive(server, PORT, ROOM, false));
+    tell("there is none", receive(server, PORT, ROOM, false));
+    tell("a message with a send right", send(server, PORT, MACH_MSG_TYPE_MAKE_SEND, PORT, MACH_MSG_TYPE_MAKE_SEND));
+    tell("too long, and it is destroyed", receive(server, PORT, 0, false));
+}
+
+/* Rights are handed to another task and back, and references go. */
+static void hand(void) {
+    gelvonds_name poly;
+    uint32_t kind;
+    tell("insert_right of a send right",
+         gelvonds_port_insert_right(&kernel, client, SERVICE, server, PORT, MACH_MSG_TYPE_MAKE_SEND));
+    tell("mod_refs by 2", gelvonds_port_mod_refs(&kernel, client, SERVICE, MACH_PORT_RIGHT_SEND, 2));
+    tell("deallocate", gelvonds_port_deallocate(&kernel, client, SERVICE));
+    tell("extract_right of a send right",
+         gelvonds_port_extract_right(&kernel, client, SERVICE, MACH_MSG_TYPE_COPY_SEND, server, &poly, &kind));
+    tell("destroy of send rights", gelvonds_port_destroy(&kernel, client, SERVICE));
+    gelvonds_port_move_member(&kernel, server, PORT, SET);
+    tell("insert_right of a receive right in a set",
+         gelvonds_port_insert_right(&kernel, client, SERVICE, server, PORT, MACH_MSG_TYPE_MOVE_RECEIVE));
+    tell("extract_right of a receive right",
+         gelvonds_port_extract_right(&kernel, client, SERVICE, MACH_MSG_TYPE_MOVE_RECEIVE, server, &poly, &kind));
+}
+
+/* What dies, and what is lost with it. */
+static void end(void) {
+    gelvonds_port_insert_right(&kernel, client, SERVICE, server, PORT, MACH_MSG_TYPE_MAKE_SEND_ONCE);
+    tell("deallocate of a send-once right", gelvonds_port_deallocate(&kernel, client, SERVICE));
+    gelvonds_port_insert_right(&kernel, client, SERVICE, server, PORT, MACH_MSG_TYPE_MAKE_SEND);
+    tell("destroy of a receive right", gelvonds_port_destroy(&kernel, server, PORT));
+    tell("deallocate of a dead name", gelvonds_port_deallocate(&kernel, client, SERVICE));
+    tell("destroy of a set", gelvonds_port_destroy(&kernel, server, SET));
+    tell("task_terminate", gelvonds_task_terminate(&kernel, client));
+}
+
+int main(void) {
+    if (gelvonds_make(&kernel) != KERN_SUCCESS)
+        return 1;
+    tell("nothing yet", KERN_SUCCESS);
+    make();
+    move();
+    talk();
+    hand();
+    end();
+    gelvonds_free(&kernel);
+    return 0;
+}
