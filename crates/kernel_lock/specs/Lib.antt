@@ -3,5 +3,4 @@ pub mod Replays
 pub mod Views
 pub mod Table
 pub mod Berth
-pub mod Room
 pub mod Fits

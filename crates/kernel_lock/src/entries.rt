@@ -4,10 +4,10 @@ ghost use Rattle.std.specs.Vec.{vec_capacity};
 ghost use Rattle.mach_types.specs.declared.calls.Reply.{Reply};
 ghost use Rattle.kernel_core.specs.Bounds.{IsWithin};
 ghost use Rattle.kernel_lock.specs.Replays.{kept_of};
-ghost use Rattle.kernel_lock.specs.Room.{HasRoom, IsUnused};
+ghost use Rattle.kernel_record.specs.Room.{HasRoom, IsUnused};
 
 use crate::entry::Entry;
-use crate::room::Room;
+use kernel_record::Room;
 use mach_types::{Event, Reply};
 use std::alloc::{AllocError, Global};
 

@@ -13,7 +13,6 @@ mod board;
 mod entries;
 mod entry;
 mod lock;
-mod room;
 
 pub use board::{Board, Watch};
 pub use entry::Entry;

@@ -3,7 +3,7 @@ use Rattle.std.specs.Prelude.{◌≡◌, ◌≤◌, []}
 use Rattle.std.specs.Vec.{vec_capacity}
 use Rattle.mach_types.specs.declared.calls.Reply.{Reply}
 use Rattle.kernel_core.specs.Bounds.{reply_bytes, reply_names, reply_members}
-use Rattle.kernel_lock.specs.declared.room.Room.{Room}
+use Rattle.kernel_record.specs.declared.room.Room.{Room}
 
 -- There is room for it.
 pub record HasRoom (room : Room) (reply : Reply) : Type 0 where

@@ -3,14 +3,14 @@
 ghost use Rattle.std.specs.Prelude.{◌≡◌, IfOk};
 ghost use Rattle.mach_types.specs.declared.calls.Reply.{Reply};
 ghost use Rattle.kernel_core.specs.Bounds.{as_bytes, as_names, as_members, IsWithin};
-ghost use Rattle.kernel_lock.specs.Room.{HasRoom, IsUnused};
+ghost use Rattle.kernel_record.specs.Room.{HasRoom, IsUnused};
 
 use mach_types::{Bytes, Event, Name, NameList, NameTypes, Reply};
 use std::alloc::{AllocError, Global};
 
 /// Room for so many bytes, names and members.
 #[derive(Drop)]
-pub(crate) struct Room {
+pub struct Room {
     bytes: Vec<u8>,
     names: Vec<(Name, u32)>,
     members: Vec<Name>,
@@ -18,7 +18,7 @@ pub(crate) struct Room {
 
 impl Room {
     /// No room. Takes no memory.
-    pub(crate) fn none(alloc: Global) -> Room
+    pub fn none(alloc: Global) -> Room
         ensures { IsUnused result }
     {
         Room {
@@ -29,7 +29,7 @@ impl Room {
     }
 
     /// Room for a copy of each reply to the event that has no more than so many bytes, names or members.
-    pub(crate) fn of(alloc: Global, event: &Event, most: usize) -> Result<Room, AllocError>
+    pub fn of(alloc: Global, event: &Event, most: usize) -> Result<Room, AllocError>
         ensures unused { IfOk result IsUnused }
         ensures room { IfOk result (λ room. (reply : Reply) → IsWithin event.now most reply → HasRoom room reply) }
     {
@@ -41,7 +41,7 @@ impl Room {
     }
 
     /// A copy of the reply, which takes no more memory; room that it leaves is given back.
-    pub(crate) fn copy(self, reply: &Reply) -> Reply
+    pub fn copy(self, reply: &Reply) -> Reply
         requires unused { IsUnused self }
         requires room { HasRoom self reply.now }
         ensures { result ≡ reply.now }
