@@ -37,7 +37,7 @@ struct Guest {
     bell: Unparker,
 }
 
-/// All blocks that came into a hall, and how many changes there were.
+/// The places of the blocks that came into a hall, and how many changes there were.
 #[derive(Drop)]
 struct Guests {
     changes: u64,
@@ -45,11 +45,24 @@ struct Guests {
 }
 
 impl Guests {
-    /// A new block, which runs, and its place.
+    /// A new block, which runs, and its place: the first that another has left, or a new one. Linear in the places.
     fn admit(&mut self, bell: Unparker) -> Result<usize, AllocError> {
+        let guest = Guest {
+            standing: Standing::Runs,
+            bell,
+        };
+        let left = self
+            .all
+            .iter()
+            .position(|guest| guest.standing == Standing::Ended);
+        if let Some(place) = left
+            && let Some(free) = self.all.get_mut(place)
+        {
+            *free = guest;
+            return Ok(place);
+        }
         let place = self.all.len();
-        let standing = Standing::Runs;
-        self.all.push(Guest { standing, bell })?;
+        self.all.push(guest)?;
         Ok(place)
     }
 
@@ -100,6 +113,9 @@ impl Guests {
 }
 
 /// What the gates of one run share: who runs, who waits, and a count of the changes.
+///
+/// A block that enters takes a place that another has left, if there is one. So a hall has as many places as blocks were
+/// in it at once.
 #[derive(Drop)]
 pub struct Hall {
     guests: Mutex<Guests>,

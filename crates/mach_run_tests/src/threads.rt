@@ -214,12 +214,14 @@ fn change<R: Wait>(mut gate: BlockGate<'_, R>, answered: &AtomicBool) -> bool {
     !early
 }
 
-/// A gate answers once another block has changed something, and not before.
+/// A gate answers once another block has changed something, and not before. It has the place of one that left.
 #[test]
 fn gate_holds(rt: HostRuntime) -> Result<(), Fail> {
     let hall = Hall::new(rt.alloc());
-    let first = hall.enter(&rt, rt.alloc())?;
+    let left = hall.enter(&rt, rt.alloc())?;
     let second = hall.enter(&rt, rt.alloc())?;
+    drop(left);
+    let first = hall.enter(&rt, rt.alloc())?;
     let answered = AtomicBool::new(false);
     let answered = &answered;
     let (again, none_before) = thread::join(
