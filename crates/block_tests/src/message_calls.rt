@@ -191,7 +191,7 @@ fn a_message_comes_back(rt: HostRuntime) -> Result<(), Fail> {
 }
 
 #[test]
-fn a_long_message_stays(rt: HostRuntime) -> Result<(), Fail> {
+fn a_long_message_stays_or_is_lost(rt: HostRuntime) -> Result<(), Fail> {
     let shared = Shared::new(rt.alloc())?;
     let mut pass = one_port(&rt, &shared)?;
     let sent = calls(&rt, rt.alloc(), &shared, &mut pass, sends(SEND, 0));
@@ -201,7 +201,26 @@ fn a_long_message_stays(rt: HostRuntime) -> Result<(), Fail> {
         ..receives(RECEIVE | LARGE, 0)
     };
     let long = calls(&rt, rt.alloc(), &shared, &mut pass, short);
-    assert!(rt; long == empty(0x1000_4004, 24, (0, 1, 1)));
+    assert!(rt; long == empty(0x1000_4004, 24, (0, 0, 1)));
+    let short = Asked {
+        room: 20,
+        ..receives(RECEIVE, 0)
+    };
+    let lost = calls(&rt, rt.alloc(), &shared, &mut pass, short);
+    assert!(rt; lost == empty(0x1000_4004, 24, (0, 1, 1)));
+    Ok(())
+}
+
+/// A refused send and a refused receive are told as calls that changed nothing.
+#[test]
+fn a_refused_call_changes_nothing(rt: HostRuntime) -> Result<(), Fail> {
+    let shared = Shared::new(rt.alloc())?;
+    let mut pass = shared.pass(&rt)?;
+    shared.call(&rt, &mut pass, Event::TaskCreate);
+    let sent = calls(&rt, rt.alloc(), &shared, &mut pass, sends(SEND, 0));
+    assert!(rt; sent == empty(0x1000_0003, 0, (0, 0, 1)));
+    let received = calls(&rt, rt.alloc(), &shared, &mut pass, receives(RECEIVE, 0));
+    assert!(rt; received == empty(0x1000_4002, 0, (0, 0, 1)));
     Ok(())
 }
 

@@ -1,5 +1,5 @@
 //! What decides whether a caller waits.
-use mach_types::{MsgReturn, Reply, Touched, Waited};
+use mach_types::{KernReturn, Reply, Touched, Waited};
 
 /// Whether a message call waits, and what is told of each call.
 ///
@@ -18,7 +18,7 @@ pub trait Gate {
         self.pause(turn)
     }
 
-    /// A call was made. `changed` is false where it wasn't recorded, or timed out.
+    /// A call was made. `changed` is false where it changed nothing ([`is_change`]).
     fn stepped(&mut self, changed: bool);
 
     /// A call was made that may have changed something: these ports and sets, of all that a receive waits on. It is
@@ -28,18 +28,33 @@ pub trait Gate {
     }
 }
 
-/// Returns whether a call with this reply may have changed what another waits for.
-pub fn is_change(reply: &Reply) -> bool {
+/// Returns whether a call with this reply may have changed anything. `touched` is what it left in its pass
+/// ([`Pass::touched`](kernel_lock::Pass::touched)).
+///
+/// A call changes nothing where it wasn't recorded, was refused, found no message, left one that was too long, or
+/// only reads: references, a type, names, a status, members. Constant time.
+pub fn is_change(reply: &Reply, touched: &Touched) -> bool {
     match reply {
-        Reply::NoRecord | Reply::Empty(_) => false,
-        Reply::Code(code) => *code != MsgReturn::SendTimedOut.number(),
-        _ => true,
+        Reply::Code(code) => *code == KernReturn::Success.number(),
+        Reply::TooLarge(_) => *touched != Touched::none(),
+        Reply::Task(_)
+        | Reply::Name(_)
+        | Reply::Right(..)
+        | Reply::Previous(_)
+        | Reply::Message(_) => true,
+        Reply::Refs(_)
+        | Reply::NameType(_)
+        | Reply::Names(_)
+        | Reply::Status(_)
+        | Reply::Members(_)
+        | Reply::Empty(_)
+        | Reply::NoRecord => false,
     }
 }
 
 /// Tells the gate of a call with this reply, and what it may have changed.
 pub fn tell<G: Gate>(gate: &mut G, reply: &Reply, touched: &Touched) {
-    if is_change(reply) {
+    if is_change(reply, touched) {
         gate.stepped_at(touched);
     } else {
         gate.stepped(false);
