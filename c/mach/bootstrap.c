@@ -80,7 +80,7 @@ static kern_return_t copy_send(gelvonds_task from, mach_port_name_t name, gelvon
     uint32_t kind;
     const kern_return_t code =
         gelvonds_port_extract_right(&gm_kernel, from, name, MACH_MSG_TYPE_COPY_SEND, to, there, &kind);
-    gm_record_right(code, *there, kind, "extract %u %u %u %u", from, name, MACH_MSG_TYPE_COPY_SEND, to);
+    gm_record_right(code, there, &kind, "extract %u %u %u %u", from, name, MACH_MSG_TYPE_COPY_SEND, to);
     if (code == KERN_SUCCESS)
         gm_wake(GM_CHANGES);
     return code;
@@ -107,7 +107,7 @@ static kern_return_t make_keeper(void)
     if (has_keeper)
         return KERN_SUCCESS;
     code = gelvonds_task_create(&gm_kernel, &keeper);
-    gm_record_number(code, "task", keeper, "task");
+    gm_record_number(code, "task", &keeper, "task");
     has_keeper = code == KERN_SUCCESS;
     return code;
 }

@@ -23,7 +23,7 @@ void gm_open_history(void)
     file = getenv("GELVONDS_HISTORY");
     if (file == NULL || *file == 0)
         return;
-    gm_history = fopen(file, "w");
+    gm_history = fopen(file, "we");
     if (gm_history == NULL)
         fails("opened");
     else if (fputs("mach-history 1\n", gm_history) < 0)
@@ -76,8 +76,8 @@ static void write_bytes(const void *bytes, size_t length)
     if (length == 0)
         putc('-', gm_history);
     for (size_t i = 0; i < length; i++) {
-        putc(digit[from[i] >> 4], gm_history);
-        putc(digit[from[i] & 15], gm_history);
+        putc_unlocked(digit[from[i] >> 4], gm_history);
+        putc_unlocked(digit[from[i] & 15], gm_history);
     }
 }
 
@@ -95,7 +95,7 @@ void gm_record_code(kern_return_t code, const char *format, ...)
     end(before);
 }
 
-void gm_record_number(kern_return_t code, const char *word, uint32_t number, const char *format, ...)
+void gm_record_number(kern_return_t code, const char *word, const uint32_t *number, const char *format, ...)
 {
     va_list arguments;
     int before;
@@ -108,9 +108,9 @@ void gm_record_number(kern_return_t code, const char *word, uint32_t number, con
     if (code != KERN_SUCCESS)
         write_code(code);
     else if (strcmp(word, "type") == 0)
-        fprintf(gm_history, " -> type %08" PRIx32, number);
+        fprintf(gm_history, " -> type %08" PRIx32, *number);
     else
-        fprintf(gm_history, " -> %s %" PRIu32, word, number);
+        fprintf(gm_history, " -> %s %" PRIu32, word, *number);
     end(before);
 }
 
@@ -157,7 +157,7 @@ void gm_record_status(kern_return_t code, const gelvonds_status *s, gelvonds_tas
     end(before);
 }
 
-void gm_record_right(kern_return_t code, mach_port_name_t name, uint32_t kind, const char *format, ...)
+void gm_record_right(kern_return_t code, const mach_port_name_t *name, const uint32_t *kind, const char *format, ...)
 {
     va_list arguments;
     int before;
@@ -170,7 +170,7 @@ void gm_record_right(kern_return_t code, mach_port_name_t name, uint32_t kind, c
     if (code != KERN_SUCCESS)
         write_code(code);
     else
-        fprintf(gm_history, " -> right %" PRIu32 " %" PRIu32, name, kind);
+        fprintf(gm_history, " -> right %" PRIu32 " %" PRIu32, *name, *kind);
     end(before);
 }
 

@@ -73,7 +73,7 @@ static kern_return_t enter(void)
     gm_self.caller = callers;
     if (!gm_self.has_task && !has_first_task) {
         code = gelvonds_task_create(&gm_kernel, &first_task);
-        gm_record_number(code, "task", first_task, "task");
+        gm_record_number(code, "task", &first_task, "task");
         has_first_task = code == KERN_SUCCESS;
     }
     if (code != KERN_SUCCESS)

@@ -127,14 +127,14 @@ void gm_flush_history(void);
 
 /* Writes the entry of a call: its line by the format, and a reply. Nothing where there is no history. */
 void gm_record_code(kern_return_t code, const char *format, ...) __attribute__((format(printf, 2, 3)));
-/* .. whose reply is this word and number where the code is 0, .. */
-void gm_record_number(kern_return_t code, const char *word, uint32_t number, const char *format, ...)
+/* .. whose reply is this word and number where the code is 0 (else nothing is at the pointer), .. */
+void gm_record_number(kern_return_t code, const char *word, const uint32_t *number, const char *format, ...)
     __attribute__((format(printf, 4, 5)));
 /* .. or a list of names, with their types where there are some. */
 void gm_record_names(kern_return_t code, const gelvonds_name *names, const uint32_t *types, size_t count,
                      const char *format, ...) __attribute__((format(printf, 5, 6)));
 void gm_record_status(kern_return_t code, const gelvonds_status *status, gelvonds_task task, mach_port_name_t name);
-void gm_record_right(kern_return_t code, mach_port_name_t name, uint32_t kind, const char *format, ...)
+void gm_record_right(kern_return_t code, const mach_port_name_t *name, const uint32_t *kind, const char *format, ...)
     __attribute__((format(printf, 4, 5)));
 void gm_record_send(kern_return_t code, gelvonds_task task, const void *bytes, size_t length);
 /* The entry of a receipt by the call, of which waited says what a later try receives from, or NULL. */

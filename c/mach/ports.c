@@ -8,7 +8,7 @@ kern_return_t mach_port_allocate(task_t task, mach_port_right_t right, mach_port
     if (code != KERN_SUCCESS)
         return code;
     code = gelvonds_port_allocate(&gm_kernel, number, right, name);
-    gm_record_number(code, "name", *name, "alloc %u %u", number, right);
+    gm_record_number(code, "name", name, "alloc %u %u", number, right);
     return gm_end(code, GM_CHANGES);
 }
 
@@ -19,7 +19,7 @@ kern_return_t mach_port_allocate_name(task_t task, mach_port_right_t right, mach
     if (code != KERN_SUCCESS)
         return code;
     code = gelvonds_port_allocate_name(&gm_kernel, number, right, name);
-    gm_record_number(code, "name", name, "allocname %u %u %u", number, right, name);
+    gm_record_number(code, "name", &name, "allocname %u %u %u", number, right, name);
     return gm_end(code, GM_CHANGES);
 }
 
@@ -63,7 +63,7 @@ kern_return_t mach_port_get_refs(task_t task, mach_port_name_t name, mach_port_r
     if (code != KERN_SUCCESS)
         return code;
     code = gelvonds_port_get_refs(&gm_kernel, number, name, right, refs);
-    gm_record_number(code, "refs", *refs, "refs %u %u %u", number, name, right);
+    gm_record_number(code, "refs", refs, "refs %u %u %u", number, name, right);
     return gm_end(code, GM_ASKED);
 }
 
@@ -74,7 +74,7 @@ kern_return_t mach_port_type(task_t task, mach_port_name_t name, mach_port_type_
     if (code != KERN_SUCCESS)
         return code;
     code = gelvonds_port_type(&gm_kernel, number, name, ptype);
-    gm_record_number(code, "type", *ptype, "type %u %u", number, name);
+    gm_record_number(code, "type", ptype, "type %u %u", number, name);
     return gm_end(code, GM_ASKED);
 }
 
@@ -187,7 +187,7 @@ kern_return_t mach_port_extract_right(task_t task, mach_port_name_t name, mach_m
         return code;
     to = gm_self.task;
     code = gelvonds_port_extract_right(&gm_kernel, number, name, msgt_name, to, poly, polyPoly);
-    gm_record_right(code, *poly, *polyPoly, "extract %u %u %u %u", number, name, msgt_name, to);
+    gm_record_right(code, poly, polyPoly, "extract %u %u %u %u", number, name, msgt_name, to);
     return gm_end(code, GM_CHANGES);
 }
 
@@ -201,7 +201,7 @@ kern_return_t mach_port_request_notification(task_t task, mach_port_name_t name,
     if (code != KERN_SUCCESS)
         return code;
     code = gelvonds_port_request_notification(&gm_kernel, number, name, variant, sync, notify, notifyPoly, previous);
-    gm_record_number(code, "previous", *previous, "notify %u %u %u %u %u %u", number, name, variant, sync, notify,
+    gm_record_number(code, "previous", previous, "notify %u %u %u %u %u %u", number, name, variant, sync, notify,
                      notifyPoly);
     return gm_end(code, GM_CHANGES);
 }

@@ -44,7 +44,7 @@ kern_return_t gelvonds_mach_task_create(task_t *child)
     if (code != KERN_SUCCESS)
         return code;
     code = gelvonds_task_create(&gm_kernel, &number);
-    gm_record_number(code, "task", number, "task");
+    gm_record_number(code, "task", &number, "task");
     if (code == KERN_SUCCESS) {
         code = gm_inherit_bootstrap(gm_self.task, number);
         *child = gm_task_of(number);

@@ -4,6 +4,7 @@
 
 #include <mach/message.h>
 #include <mach/mach_types.h>
+#include <string.h> /* stubs copy by memcpy */
 
 #ifdef __cplusplus
 extern "C" {
