@@ -64,7 +64,7 @@ enum gm_step {
 
 /* Wakes those whom the last call of the kernel concerns. */
 void gm_wake(enum gm_step step);
-/* Wakes all threads of a task that wait; or those that wait for a place, since a name that they use may have changed. */
+/* Wakes all threads of a task that wait; or those that wait for a place, since a name that they use may be another's. */
 void gm_wake_task(gelvonds_task task);
 void gm_wake_senders_of(gelvonds_task task);
 

@@ -1,4 +1,7 @@
-/* The calls of names and rights: each is one call of the kernel. A task_t is gm_number's number of a task. */
+/* The calls of names and rights: each is one call of the kernel.
+ *
+ * Where a right goes from a name, or to another name, a thread of the task may wait that sends by it. No port is touched
+ * then, so it is woken apart. */
 #include "layer.h"
 
 kern_return_t mach_port_allocate(task_t task, mach_port_right_t right, mach_port_name_t *name)
@@ -31,6 +34,8 @@ kern_return_t mach_port_deallocate(task_t task, mach_port_name_t name)
         return code;
     code = gelvonds_port_deallocate(&gm_kernel, number, name);
     gm_record_code(code, "dealloc %u %u", number, name);
+    if (code == KERN_SUCCESS)
+        gm_wake_senders_of(number);
     return gm_end(code, GM_CHANGES);
 }
 
@@ -42,6 +47,8 @@ kern_return_t mach_port_destroy(task_t task, mach_port_name_t name)
         return code;
     code = gelvonds_port_destroy(&gm_kernel, number, name);
     gm_record_code(code, "destroy %u %u", number, name);
+    if (code == KERN_SUCCESS)
+        gm_wake_senders_of(number);
     return gm_end(code, GM_CHANGES);
 }
 
@@ -53,6 +60,8 @@ kern_return_t mach_port_mod_refs(task_t task, mach_port_name_t name, mach_port_r
         return code;
     code = gelvonds_port_mod_refs(&gm_kernel, number, name, right, delta);
     gm_record_code(code, "modrefs %u %u %u %d", number, name, right, delta);
+    if (code == KERN_SUCCESS)
+        gm_wake_senders_of(number);
     return gm_end(code, GM_CHANGES);
 }
 
@@ -78,7 +87,6 @@ kern_return_t mach_port_type(task_t task, mach_port_name_t name, mach_port_type_
     return gm_end(code, GM_ASKED);
 }
 
-/* A rename touches no port, but a thread that waits to send may use the name. */
 kern_return_t mach_port_rename(task_t task, mach_port_name_t old_name, mach_port_name_t new_name)
 {
     const gelvonds_task number = gm_number(task);
@@ -174,6 +182,8 @@ kern_return_t mach_port_insert_right(task_t task, mach_port_name_t name, mach_po
     from = gm_self.task;
     code = gelvonds_port_insert_right(&gm_kernel, number, name, from, poly, polyPoly);
     gm_record_code(code, "insert %u %u %u %u %u", number, name, from, poly, polyPoly);
+    if (code == KERN_SUCCESS)
+        gm_wake_senders_of(from);
     return gm_end(code, GM_CHANGES);
 }
 
@@ -188,6 +198,8 @@ kern_return_t mach_port_extract_right(task_t task, mach_port_name_t name, mach_m
     to = gm_self.task;
     code = gelvonds_port_extract_right(&gm_kernel, number, name, msgt_name, to, poly, polyPoly);
     gm_record_right(code, poly, polyPoly, "extract %u %u %u %u", number, name, msgt_name, to);
+    if (code == KERN_SUCCESS)
+        gm_wake_senders_of(number);
     return gm_end(code, GM_CHANGES);
 }
 

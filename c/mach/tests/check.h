@@ -14,7 +14,7 @@
 
 static atomic_int wrong;
 
-static void want_code(const char *file, int line, const char *what, kern_return_t code, kern_return_t wanted)
+static inline void want_code(const char *file, int line, const char *what, kern_return_t code, kern_return_t wanted)
 {
     if (code == wanted)
         return;
@@ -23,7 +23,7 @@ static void want_code(const char *file, int line, const char *what, kern_return_
     fprintf(stderr, ", not %s\n", mach_error_string(wanted));
 }
 
-static void want_number(const char *file, int line, const char *what, long number, long wanted)
+static inline void want_number(const char *file, int line, const char *what, long number, long wanted)
 {
     if (number == wanted)
         return;
