@@ -85,7 +85,7 @@ static kern_return_t enter(void)
     return KERN_SUCCESS;
 }
 
-static kern_return_t begin_first(void)
+kern_return_t gm_begin_first(void)
 {
     kern_return_t code;
     pthread_once(&once, prepare);
@@ -100,14 +100,6 @@ static kern_return_t begin_first(void)
     if (code != KERN_SUCCESS)
         pthread_mutex_unlock(&gm_mutex);
     return code;
-}
-
-kern_return_t gm_begin(void)
-{
-    if (!gm_self.entered)
-        return begin_first();
-    pthread_mutex_lock(&gm_mutex);
-    return KERN_SUCCESS;
 }
 
 kern_return_t gm_end(kern_return_t code, enum gm_step step)

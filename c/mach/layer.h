@@ -24,13 +24,14 @@
 
 enum gm_next { GM_DONE, GM_WAITS_FOR_ROOM, GM_SENT, GM_WAITS_FOR_MESSAGE };
 
-/* A message call that was begun. The buffer has the message that is sent, and then the one that is received. */
+/* A message call. The buffer has the message that is sent, and then the one that is received. */
 typedef struct gm_message_call {
     mach_msg_header_t *buffer;
     mach_msg_size_t send_size;
     mach_msg_size_t room;
     mach_port_name_t name;    /* what is received from */
-    mach_msg_option_t option; /* with MACH_SEND_TIMEOUT or MACH_RCV_TIMEOUT where the call is not to wait at all */
+    mach_msg_option_t option;
+    mach_msg_timeout_t timeout; /* milliseconds, where the option has a timeout */
     enum gm_next next;
     size_t length;            /* of the message received, or of one that is too long */
     gelvonds_waited on;       /* what it waits for */
@@ -62,8 +63,15 @@ enum gm_step {
     GM_CHANGES   /* anything */
 };
 
+extern gelvonds_mach_counts_t gm_counts;
+
 /* Wakes those whom the last call of the kernel concerns. */
-void gm_wake(enum gm_step step);
+void gm_wake_touched(enum gm_step step);
+static inline void gm_wake(enum gm_step step)
+{
+    if ((gm_counts.waiting_senders | gm_counts.waiting_receivers) != 0)
+        gm_wake_touched(step);
+}
 /* Wakes all threads of a task that wait; or those that wait for a place, since a name that they use may be another's. */
 void gm_wake_task(gelvonds_task task);
 void gm_wake_senders_of(gelvonds_task task);
@@ -75,8 +83,6 @@ void gm_leave(gm_waiter *waiter, bool without);
 /* Waits until the thread is woken, and returns true; or until then, and returns false. NULL: for good. A thread that is
  * cancelled here leaves its line, wakes the next and gives up the lock. */
 bool gm_sleep(gm_waiter *waiter, const struct timespec *until);
-
-extern gelvonds_mach_counts_t gm_counts;
 
 /* ---- probes.c: in a test build, whether one waits that could go on ---- */
 
@@ -108,7 +114,14 @@ extern pthread_mutex_t gm_mutex;
 
 /* Begins a call: takes the lock, at the thread's first call after it has got its task. With another code than 0 the lock
  * isn't held: KERN_RESOURCE_SHORTAGE, KERN_NO_SPACE; KERN_INVALID_TASK in a child of fork. */
-kern_return_t gm_begin(void);
+kern_return_t gm_begin_first(void);
+static inline kern_return_t gm_begin(void)
+{
+    if (!gm_self.entered)
+        return gm_begin_first();
+    pthread_mutex_lock(&gm_mutex);
+    return KERN_SUCCESS;
+}
 /* Wakes whom the call concerns, gives up the lock, and returns the code. */
 kern_return_t gm_end(kern_return_t code, enum gm_step step);
 

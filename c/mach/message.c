@@ -38,22 +38,32 @@ static mach_msg_return_t wait_and_try(gm_message_call *call, mach_msg_return_t c
     return code;
 }
 
-/* Makes one half of the call to its end: until it has sent, or until it has received. */
-static mach_msg_return_t finish_half(gm_message_call *call, mach_msg_return_t code, bool limited,
-                                     mach_msg_timeout_t timeout)
+/* The same, for at most as many milliseconds as the call says, where it has this option. */
+static mach_msg_return_t wait_in_time(gm_message_call *call, mach_msg_return_t code, mach_msg_option_t limit)
 {
     struct timespec until;
-    if (call->next != GM_WAITS_FOR_ROOM && call->next != GM_WAITS_FOR_MESSAGE)
-        return code;
-    if (limited)
-        until = after(timeout);
-    return wait_and_try(call, code, limited ? &until : NULL);
+    if ((call->option & limit) == 0)
+        return wait_and_try(call, code, NULL);
+    until = after(call->timeout);
+    return wait_and_try(call, code, &until);
+}
+
+/* Goes on with a call that hasn't ended with its first try: sends, and then receives. */
+static mach_msg_return_t go_on(gm_message_call *call, mach_msg_return_t code)
+{
+    if (call->next == GM_WAITS_FOR_ROOM)
+        code = wait_in_time(call, code, MACH_SEND_TIMEOUT);
+    if (call->next == GM_SENT)
+        code = gm_next_try(call);
+    if (call->next == GM_WAITS_FOR_MESSAGE)
+        code = wait_in_time(call, code, MACH_RCV_TIMEOUT);
+    return code;
 }
 
 /* Where a message was too long, its length is told in the header. */
-static void tell_length(const gm_message_call *call, mach_msg_return_t code)
+static void tell_length(const gm_message_call *call)
 {
-    if (code == MACH_RCV_TOO_LARGE && call->room >= sizeof *call->buffer)
+    if (call->room >= sizeof *call->buffer)
         call->buffer->msgh_size = (mach_msg_size_t)call->length;
 }
 
@@ -62,24 +72,22 @@ mach_msg_return_t mach_msg(mach_msg_header_t *msg, mach_msg_option_t option, mac
                            mach_port_name_t notify)
 {
     gm_message_call call;
-    mach_msg_return_t code = gm_begin();
+    mach_msg_return_t code;
     (void)notify;
-    if (code != KERN_SUCCESS)
-        return code;
     call.buffer = msg;
     call.send_size = send_size;
     call.room = rcv_size;
     call.name = rcv_name;
-    /* a call whose time is above 0 waits: the kernel's own timeouts are those that don't wait */
-    call.option = timeout == 0 ? option : option & ~(MACH_SEND_TIMEOUT | MACH_RCV_TIMEOUT);
+    call.option = option;
+    call.timeout = timeout;
+    code = gm_begin();
+    if (code != KERN_SUCCESS)
+        return code;
     code = gm_first_try(&call);
-    if (call.next == GM_WAITS_FOR_ROOM)
-        code = finish_half(&call, code, (option & MACH_SEND_TIMEOUT) != 0, timeout);
-    if (call.next == GM_SENT)
-        code = gm_next_try(&call);
-    if (call.next == GM_WAITS_FOR_MESSAGE)
-        code = finish_half(&call, code, (option & MACH_RCV_TIMEOUT) != 0, timeout);
-    tell_length(&call, code);
+    if (call.next != GM_DONE)
+        code = go_on(&call, code);
+    if (code == MACH_RCV_TOO_LARGE)
+        tell_length(&call);
     pthread_mutex_unlock(&gm_mutex);
     return code;
 }

@@ -6,6 +6,12 @@ static bool has(const gm_message_call *call, mach_msg_option_t option)
     return (call->option & option) != 0;
 }
 
+/* Whether the call waits that has this option for a timeout: without it for good, with it unless the time is 0. */
+static bool waits(const gm_message_call *call, mach_msg_option_t limit)
+{
+    return !has(call, limit) || call->timeout != 0;
+}
+
 /* Whether a send that is done takes a right from its task, so that a name changes. */
 static bool moves_rights(const mach_msg_header_t *msg)
 {
@@ -18,7 +24,8 @@ static mach_msg_return_t try_to_send(gm_message_call *call)
 {
     const gelvonds_task task = gm_self.task;
     mach_msg_return_t code = gelvonds_send(&gm_kernel, task, (const uint8_t *)call->buffer, call->send_size);
-    gm_record_send(code, task, call->buffer, call->send_size);
+    if (gm_history != NULL)
+        gm_record_send(code, task, call->buffer, call->send_size);
     call->next = GM_DONE;
     if (code == MACH_MSG_SUCCESS) {
         gm_wake(GM_SENDS);
@@ -28,7 +35,7 @@ static mach_msg_return_t try_to_send(gm_message_call *call)
             call->next = GM_SENT;
     } else if (code == MACH_SEND_TIMED_OUT) {
         gm_counts.refused_sends++;
-        if (!has(call, MACH_SEND_TIMEOUT)) {
+        if (waits(call, MACH_SEND_TIMEOUT)) {
             gelvonds_port_identity(&gm_kernel, task, call->buffer->msgh_remote_port, &call->on);
             call->next = GM_WAITS_FOR_ROOM;
         }
@@ -37,25 +44,37 @@ static mach_msg_return_t try_to_send(gm_message_call *call)
     return code;
 }
 
-static mach_msg_return_t try_to_receive(gm_message_call *call, bool again)
+/* What follows a try to receive, whatever it was from. */
+static mach_msg_return_t tried_to_receive(gm_message_call *call, mach_msg_return_t code)
 {
-    const gelvonds_task task = gm_self.task;
-    const gelvonds_waited before = call->on;
-    uint8_t *const bytes = (uint8_t *)call->buffer;
-    const bool large = has(call, MACH_RCV_LARGE);
-    mach_msg_return_t code;
-    if (again)
-        code = gelvonds_receive_again(&gm_kernel, task, bytes, call->room, large, &call->length, &call->on);
-    else
-        code = gelvonds_receive(&gm_kernel, task, call->name, bytes, call->room, large, &call->length, &call->on);
-    gm_record_receipt(code, call, task, again ? &before : NULL);
     call->next = GM_DONE;
-    if (code == MACH_RCV_TIMED_OUT && !has(call, MACH_RCV_TIMEOUT))
+    if (code == MACH_RCV_TIMED_OUT && waits(call, MACH_RCV_TIMEOUT))
         call->next = GM_WAITS_FOR_MESSAGE;
     else if (code == MACH_MSG_SUCCESS || code == MACH_RCV_TOO_LARGE)
         gm_wake(GM_RECEIVES);
     gm_probe();
     return code;
+}
+
+static mach_msg_return_t try_to_receive(gm_message_call *call)
+{
+    const mach_msg_return_t code =
+        gelvonds_receive(&gm_kernel, gm_self.task, call->name, (uint8_t *)call->buffer, call->room,
+                         has(call, MACH_RCV_LARGE), &call->length, &call->on);
+    if (gm_history != NULL)
+        gm_record_receipt(code, call, gm_self.task, NULL);
+    return tried_to_receive(call, code);
+}
+
+static mach_msg_return_t try_again(gm_message_call *call)
+{
+    const gelvonds_waited before = call->on;
+    const mach_msg_return_t code =
+        gelvonds_receive_again(&gm_kernel, gm_self.task, (uint8_t *)call->buffer, call->room,
+                               has(call, MACH_RCV_LARGE), &call->length, &call->on);
+    if (gm_history != NULL)
+        gm_record_receipt(code, call, gm_self.task, &before);
+    return tried_to_receive(call, code);
 }
 
 mach_msg_return_t gm_first_try(gm_message_call *call)
@@ -68,7 +87,7 @@ mach_msg_return_t gm_first_try(gm_message_call *call)
     if (has(call, MACH_SEND_MSG))
         return try_to_send(call);
     if (has(call, MACH_RCV_MSG))
-        return try_to_receive(call, false);
+        return try_to_receive(call);
     return MACH_MSG_SUCCESS;
 }
 
@@ -76,5 +95,5 @@ mach_msg_return_t gm_next_try(gm_message_call *call)
 {
     if (call->next == GM_WAITS_FOR_ROOM)
         return try_to_send(call);
-    return try_to_receive(call, call->next == GM_WAITS_FOR_MESSAGE);
+    return call->next == GM_SENT ? try_to_receive(call) : try_again(call);
 }

@@ -64,10 +64,10 @@ static void wake_place(gelvonds_waited on, enum gm_step step)
         wake_line(on, true, step == GM_CHANGES);
 }
 
-void gm_wake(enum gm_step step)
+void gm_wake_touched(enum gm_step step)
 {
     gelvonds_touched_places touched;
-    if (step == GM_ASKED || (senders == NULL && receivers == NULL))
+    if (step == GM_ASKED)
         return;
     if (gelvonds_touched(&gm_kernel, &touched) != KERN_SUCCESS || touched.all != 0) {
         wake_list(senders, NULL);

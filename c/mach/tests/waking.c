@@ -19,10 +19,23 @@ static void pause_a_little(void)
     nanosleep(&time, NULL);
 }
 
+/* Until so many threads wait to receive, woken or not. */
 static void wait_for_receivers(uint64_t number)
 {
     while (counts_now().waiting_receivers != number)
         pause_a_little();
+}
+
+/* Until the port's queue is empty. */
+static void wait_for_queue(mach_port_t port)
+{
+    mach_port_status_t status;
+    for (;;) {
+        MUST(mach_port_get_receive_status(mach_task_self(), port, &status));
+        if (status.mps_msgcount == 0)
+            return;
+        pause_a_little();
+    }
 }
 
 /* Receives by the name until its wait is ended. */
@@ -105,6 +118,7 @@ static void test_one_set(void)
     before = counts_now();
     for (uint32_t i = 0; i < CALLS; i++)
         MUST(send_number(port, i, MACH_PORT_NULL, 0, 0));
+    wait_for_queue(port);
     wait_for_receivers(WAITING);
     after = counts_now();
     fprintf(stderr, "%d sends to a set of 60 that wait: %lu woken, %lu in vain\n", CALLS,
