@@ -1,5 +1,5 @@
-/* Bootstrap ports. A task of the layer's own, made when the first is set, keeps the send rights: each is one reference of
- * that task, which all tasks share that have the port from the same maker. */
+/* Bootstrap ports. A task of the layer's own, made when the first is set, keeps the send rights: each is one reference
+ * of that task, which all tasks share that have the port from the same maker. */
 #include "layer.h"
 
 #include <stdlib.h>

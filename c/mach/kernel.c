@@ -25,7 +25,7 @@ static void thread_ends(void *self)
     gm_self.entered = false;
 }
 
-/* Fork copies the kernel in the state between two calls, and nothing of the history that the child would write again. */
+/* Fork copies the kernel between two calls, and no text of the history that the child would write again. */
 static void before_fork(void)
 {
     pthread_mutex_lock(&gm_mutex);

@@ -1,8 +1,8 @@
 /* Inside the layer alone: one kernel, one lock, the calling thread, and what each file gives the others.
  *
- * Every call of the kernel is made with the lock held, and is written to the history in that order. What a call does and
- * returns is the kernel's. The layer says which task a thread belongs to, which waiting threads are woken, and when a
- * thread that waits gives up. */
+ * Every call of the kernel is made with the lock held, and is written to the history in that order. What a call
+ * does and returns is the kernel's. The layer says which task a thread belongs to, which waiting threads are woken,
+ * and when a thread that waits gives up. */
 #ifndef GM_LAYER_H
 #define GM_LAYER_H
 
@@ -87,8 +87,8 @@ bool gm_sleep(gm_waiter *waiter, const struct timespec *until);
 /* ---- probes.c: in a test build, whether one waits that could go on ---- */
 
 #ifdef GELVONDS_MACH_TEST
-/* Makes a try for each thread that waits. One that would go on, though neither it nor another in its line was woken, ends
- * the program by abort. */
+/* Makes a try for each thread that waits. One that would go on, though neither it nor another in its line was woken,
+ * ends the program by abort. */
 void gm_probe(void);
 gm_waiter *gm_first_waiter(bool sends);
 bool gm_has_woken(const gm_waiter *like);
@@ -112,8 +112,8 @@ extern _Thread_local gm_thread gm_self;
 extern gelvonds gm_kernel;
 extern pthread_mutex_t gm_mutex;
 
-/* Begins a call: takes the lock, at the thread's first call after it has got its task. With another code than 0 the lock
- * isn't held: KERN_RESOURCE_SHORTAGE, KERN_NO_SPACE; KERN_INVALID_TASK in a child of fork. */
+/* Begins a call: takes the lock, at the thread's first call after it has got its task. With another code than 0 the
+ * lock isn't held: KERN_RESOURCE_SHORTAGE, KERN_NO_SPACE; KERN_INVALID_TASK in a child of fork. */
 kern_return_t gm_begin_first(void);
 static inline kern_return_t gm_begin(void)
 {

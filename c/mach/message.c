@@ -15,8 +15,8 @@ static struct timespec after(mach_msg_timeout_t milliseconds)
     return then;
 }
 
-/* Waits as the call says, which found a full queue or no message, and tries again whenever the thread is woken. Returns the
- * code of the last try, where that ended the wait or the time is over. */
+/* Waits as the call says, which found a full queue or no message, and tries again whenever the thread is woken.
+ * Returns the code of the last try, where that ended the wait or the time is over. */
 static mach_msg_return_t wait_and_try(gm_message_call *call, mach_msg_return_t code, const struct timespec *until)
 {
     const enum gm_next state = call->next;

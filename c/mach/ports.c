@@ -1,7 +1,7 @@
 /* The calls of names and rights: each is one call of the kernel.
  *
- * Where a right goes from a name, or to another name, a thread of the task may wait that sends by it. No port is touched
- * then, so it is woken apart. */
+ * Where a right goes from a name, or to another name, a thread of the task may wait that sends by it. No port is
+ * touched then, so it is woken apart. */
 #include "layer.h"
 
 kern_return_t mach_port_allocate(task_t task, mach_port_right_t right, mach_port_name_t *name)

@@ -1,9 +1,9 @@
 /* The threads that wait, and which of them a call of the kernel wakes.
  *
- * Those that wait for the same stand in one line, in the order of their arrival: receivers of one port or set, or senders
- * for a place in one port's queue. One message more, or one place more, wakes the first that isn't woken yet. So there
- * are as many woken threads as messages or places, or no others in the line. One that leaves without what it was woken
- * for wakes the next. A change of another kind wakes each that it may concern. */
+ * Those that wait for the same stand in one line, in the order of their arrival: receivers of one port or set, or
+ * senders for a place in one port's queue. One message more, or one place more, wakes the first that isn't woken yet.
+ * So there are as many woken threads as messages or places, or no others in the line. One that leaves without what it
+ * was woken for wakes the next. A change of another kind wakes each that it may concern. */
 #include "layer.h"
 
 enum { LINES = 256 };

@@ -1,5 +1,5 @@
-/* cost mach|gelvonds TIMES: sends a message and receives it so often, by mach_msg, or by gelvonds_send and gelvonds_receive.
- * What the one takes more than the other is the layer's. */
+/* cost mach|gelvonds TIMES: sends a message and receives it so often, by mach_msg, or by gelvonds_send and
+ * gelvonds_receive. What the one takes more than the other is the layer's. */
 #include <mach/mach.h>
 
 #include <gelvonds.h>

@@ -1,5 +1,5 @@
-/* How a wait ends in another way than by its message or its place, and that whoever waits behind it goes on: a timeout, a
- * cancelled thread, a death, a move, a renamed destination, the end of a task. */
+/* How a wait ends in another way than by its message or its place, and that whoever waits behind it goes on: a
+ * timeout, a cancelled thread, a death, a move, a renamed destination, the end of a task. */
 #define _DEFAULT_SOURCE 1
 #include "check.h"
 
@@ -165,6 +165,25 @@ static void test_places(void)
     MUST(mach_port_destroy(mach_task_self(), 5555));
 }
 
+/* Another thread's message takes the send right away that one waits with. */
+static void test_moved_right(void)
+{
+    mach_port_t full = full_port(), other = new_port();
+    wait gone = { full, MACH_SEND_INVALID_DEST, 0, 0 };
+    number_message message;
+    pthread_t thread = starts(send_one, &gone);
+    until_waiting(0, 1);
+    message.head.msgh_bits = MACH_MSGH_BITS(MACH_MSG_TYPE_COPY_SEND, MACH_MSG_TYPE_MOVE_SEND);
+    message.head.msgh_remote_port = other;
+    message.head.msgh_local_port = full;
+    message.head.msgh_id = 1;
+    message.number = 0;
+    MUST(mach_msg(&message.head, MACH_SEND_MSG, sizeof message, 0, MACH_PORT_NULL, 0, MACH_PORT_NULL));
+    pthread_join(thread, NULL);
+    MUST(mach_port_destroy(mach_task_self(), full));
+    MUST(mach_port_destroy(mach_task_self(), other));
+}
+
 static void *wait_in_task(void *given)
 {
     number_message message;
@@ -200,6 +219,11 @@ static void test_ended_task(void)
     MUST(task_terminate(task));
     for (int i = 0; i < 3; i++)
         pthread_join(threads[i], NULL);
+    MUST(gelvonds_mach_task_create(&task)); /* one that has no port */
+    MUST(gelvonds_mach_thread_create(task, wait_on_empty_set, NULL, &threads[0]));
+    until_waiting(1, 0);
+    MUST(task_terminate(task));
+    pthread_join(threads[0], NULL);
 }
 
 /* Many that wait for a short time, while messages come: each message that was sent is received. */
@@ -240,6 +264,7 @@ int main(void)
     test_deaths();
     test_moves();
     test_places();
+    test_moved_right();
     test_ended_task();
     test_timeouts();
     return ends();

@@ -1,5 +1,5 @@
-/* latency [TIMES]: a request and its answer between two threads, so often (20,000) by mach_msg, by two POSIX message queues
- * and by a socket pair, in turns. Prints the least and the median of five runs, in nanoseconds for one request. */
+/* latency [TIMES]: a request and its answer between two threads, so often (20,000) by mach_msg, by two POSIX message
+ * queues and by a socket pair, in turns. Prints the least and the median of five runs, in nanoseconds for one request. */
 #define _DEFAULT_SOURCE 1
 #include "check.h"
 

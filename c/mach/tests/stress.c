@@ -1,12 +1,12 @@
-/* stress [MESSAGES]: so many messages (20,000) among 64 threads, while ports move and die, tasks end, threads are cancelled
- * and time runs out. None is lost, and none is left waiting.
+/* stress [MESSAGES]: so many messages (20,000) among 64 threads, while ports move and die, tasks end, threads are
+ * cancelled and time runs out. None is lost, and none is left waiting.
  *
- * Hubs, each a task: threads that receive by a set, and senders of a task of their own, which fill the queues of the hub's
- * ports. A mover takes ports out of the set and puts them back, and sends receive rights to the next hub, with what is in
- * their queues. Each message has a number, and is received once.
+ * Hubs, each a task: threads that receive by a set, and senders of a task of their own, which fill the queues of
+ * the hub's ports. A mover takes ports out of the set and puts them back, and sends receive rights to the next hub,
+ * with what is in their queues. Each message has a number, and is received once.
  *
- * Services, each a task that doesn't live long: clients send requests with a right to reply once. To each comes a reply, or
- * the notice that the right was lost. Keepers end the tasks, or cancel their threads, and start others. */
+ * Services, each a task that doesn't live long: clients send requests with a right to reply once. To each comes a
+ * reply, or the notice that the right was lost. Keepers end the tasks, or cancel their threads, and start others. */
 #define _DEFAULT_SOURCE 1
 #include "check.h"
 

@@ -21,8 +21,9 @@
 extern "C" {
 #endif
 
-/* Receives by rcv_name into a buffer of max_size bytes, hands each request to demux, and sends its reply, until a receive
- * is refused: the code is returned. With a timeout (milliseconds) MACH_RCV_TIMEOUT and MACH_RCV_LARGE are looked at. */
+/* Receives by rcv_name into a buffer of max_size bytes, hands each request to demux, and sends its reply, until a
+ * receive is refused: the code is returned. With a timeout (milliseconds) MACH_RCV_TIMEOUT and MACH_RCV_LARGE are
+ * looked at. */
 mach_msg_return_t mach_msg_server(boolean_t (*demux)(mach_msg_header_t *request, mach_msg_header_t *reply),
                                   mach_msg_size_t max_size, mach_port_t rcv_name);
 mach_msg_return_t mach_msg_server_timeout(boolean_t (*demux)(mach_msg_header_t *request, mach_msg_header_t *reply),

@@ -1,4 +1,5 @@
-/* Messages: a header of 24 bytes, typed items, and mach_msg. The layout is that of GNU Mach for 32 bits, on every machine. */
+/* Messages: a header of 24 bytes, typed items, and mach_msg. The layout is that of GNU Mach for 32 bits, on every
+ * machine. */
 #ifndef _MACH_MESSAGE_H_
 #define _MACH_MESSAGE_H_
 
@@ -122,9 +123,9 @@ typedef kern_return_t mach_msg_return_t;
 #define MACH_RCV_IN_SET 0x1000400a
 #define MACH_RCV_BODY_ERROR 0x1000400c
 
-/* Sends the message, receives one into the same buffer, or first the one and then the other. Waits for a place in a full
- * queue and for a message, each for as many milliseconds as timeout says where the option asks for it, else for good.
- * notify isn't looked at. */
+/* Sends the message, receives one into the same buffer, or first the one and then the other. Waits for a place in a
+ * full queue and for a message, each for as many milliseconds as timeout says where the option asks for it, else for
+ * good. notify isn't looked at. */
 mach_msg_return_t mach_msg(mach_msg_header_t *msg, mach_msg_option_t option, mach_msg_size_t send_size,
                            mach_msg_size_t rcv_size, mach_port_name_t rcv_name, mach_msg_timeout_t timeout,
                            mach_port_name_t notify);

@@ -17,7 +17,8 @@ void mig_put_reply_port(mach_port_t port);
 /* Destroys the thread's reply port, whatever port is: a late reply then finds it dead. */
 void mig_dealloc_reply_port(mach_port_t port);
 
-/* Copies a string into so many bytes, the last of them 0, and fills the rest with zeros. Returns its length with one 0. */
+/* Copies a string into so many bytes, the last of them 0, and fills the rest with zeros. Returns its length with one
+ * 0. */
 vm_size_t mig_strncpy(char *destination, const char *source, vm_size_t length);
 
 /* Pages for data, by vm_allocate and vm_deallocate; the address is 0 where memory is refused. */
