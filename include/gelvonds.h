@@ -1,7 +1,8 @@
 /* Gelvonds for C: Mach 3 port IPC in one process, by calls of a kernel of one's own.
  *
  * Each function from gelvonds_task_create on makes one call of a task, by the kernel's own step, and answers its
- * code: Mach's number, or one of the library's own (GELVONDS_..). The functions before it make and end a kernel,
+ * code: Mach's number, or one of the library's own (GELVONDS_..). The last two, gelvonds_msg_begin and
+ * gelvonds_msg_next, make at most one. The functions before gelvonds_task_create make and end a kernel,
  * and tell its profile, which port a name is, the version, and the name of a code. The Mach calls are those of Keith Loepere, Mach 3
  * Kernel Interfaces (1992), in the chapter that each comment names; docs/CALLS.md says what each does and which
  * refusal comes first. docs/EMBEDDING.md says how to build and link.
@@ -71,6 +72,23 @@ typedef struct gelvonds_waited {
 #define GELVONDS_SET 2u
 #define GELVONDS_DEAD 3u /* of gelvonds_port_identity alone */
 
+/* A message call between its tries: gelvonds_msg_begin fills it in, and gelvonds_msg_next goes on with it. It has no
+ * pointer and nothing to give back, so it may lie on the stack, be copied, and be left at any time. */
+typedef struct gelvonds_msg {
+    uint32_t state;         /* GELVONDS_MSG_.. */
+    gelvonds_task task;     /* who sends and receives */
+    gelvonds_name name;     /* the name that is received from */
+    uint32_t options;       /* MACH_SEND_.. and MACH_RCV_.., but for those of interruption */
+    size_t length;          /* once it has ended: how many bytes were received, or are needed; else 0 */
+    gelvonds_waited waited; /* while it waits: on which port or set; else the kind 0 */
+} gelvonds_msg;
+
+/* What a gelvonds_msg waits for. */
+#define GELVONDS_MSG_DONE 0u              /* the call has ended */
+#define GELVONDS_MSG_WAITS_FOR_ROOM 1u    /* the queue of the port is full */
+#define GELVONDS_MSG_SENT 2u              /* nothing: the message was sent, and one is to be received */
+#define GELVONDS_MSG_WAITS_FOR_MESSAGE 3u /* the port or set has no message */
+
 /* The ports and sets that a call may have changed for one that waits: a queue, a limit, members, or where a receive right
  * lies. A place is free where its kind is 0. */
 typedef struct gelvonds_touched_places {
@@ -84,6 +102,7 @@ typedef struct gelvonds_touched_places {
 #define GELVONDS_TOO_SHORT 0x47000003 /* a list is longer than the array: its length was told */
 #define GELVONDS_NO_WAITED 0x47000004 /* a gelvonds_waited whose kind is neither */
 #define GELVONDS_NO_ANSWER 0x47000005 /* the kernel's answer is none that the call has: never comes */
+#define GELVONDS_NO_MSG 0x47000006    /* a gelvonds_msg with no try to come: it has ended, or was never begun */
 
 /* kern_return_t. */
 #ifndef KERN_SUCCESS
@@ -123,6 +142,17 @@ typedef struct gelvonds_touched_places {
 #define MACH_RCV_BODY_ERROR 0x1000400c
 #define MACH_MSG_IPC_SPACE 0x00002000
 #define MACH_MSG_IPC_KERNEL 0x00000800
+#endif
+
+/* The options of mach_msg (mach_msg_option_t), of gelvonds_msg_begin. */
+#ifndef MACH_SEND_MSG
+#define MACH_SEND_MSG 0x00000001u
+#define MACH_RCV_MSG 0x00000002u
+#define MACH_SEND_TIMEOUT 0x00000010u   /* one try to send */
+#define MACH_SEND_INTERRUPT 0x00000040u /* interrupts nothing */
+#define MACH_RCV_TIMEOUT 0x00000100u    /* one try to receive */
+#define MACH_RCV_INTERRUPT 0x00000400u  /* interrupts nothing */
+#define MACH_RCV_LARGE 0x00000800u      /* a message longer than the room stays */
 #endif
 
 /* Words that are never names: no port, and a port that has died. */
@@ -393,6 +423,38 @@ gelvonds_code gelvonds_receive(gelvonds *kernel, gelvonds_task task, gelvonds_na
  * hasn't its receive right, or it is in a set; GELVONDS_NO_WAITED: no kind, and no call is made. */
 gelvonds_code gelvonds_receive_again(gelvonds *kernel, gelvonds_task task, uint8_t *buffer, size_t room,
                                      bool large, size_t *length, gelvonds_waited *waited);
+
+/* mach_msg, for a caller who can wait: begins the call, and makes its first try. With MACH_SEND_MSG the message is
+ * sent. With MACH_RCV_MSG one is received from the name into the buffer, after the send where both are asked for. Each
+ * call of gelvonds_msg_begin and gelvonds_msg_next makes one try, and msg->state says what comes next:
+ *   GELVONDS_MSG_DONE               nothing: the call has ended with the code that is returned. msg->length is how many
+ *                                   bytes were received, or with MACH_RCV_TOO_LARGE are needed; else 0
+ *   GELVONDS_MSG_WAITS_FOR_ROOM     the queue of the port msg->waited is full. The code is MACH_SEND_TIMED_OUT
+ *   GELVONDS_MSG_WAITS_FOR_MESSAGE  msg->waited has no message. The code is MACH_RCV_TIMED_OUT
+ *   GELVONDS_MSG_SENT               the message was sent, and the code is 0: call gelvonds_msg_next at once
+ * Where it waits, the caller lets other threads make calls, and then calls gelvonds_msg_next. Or it gives up: the code
+ * that was returned last is then that of the call. So the loop of a caller is
+ *     code = gelvonds_msg_begin(&kernel, &msg, task, options, bytes, length, buffer, room, name);
+ *     while (msg.state != GELVONDS_MSG_DONE) {
+ *         if (msg.state != GELVONDS_MSG_SENT)
+ *             .. sleep until another call may have ended the wait ..
+ *         code = gelvonds_msg_next(&kernel, &msg, bytes, length, buffer, room);
+ *     }
+ * The tries are those of gelvonds_send, gelvonds_receive and gelvonds_receive_again, whose codes come. MACH_SEND_TIMEOUT
+ * and MACH_RCV_TIMEOUT allow one try of their part, and then the call ends with its code. MACH_SEND_INTERRUPT and
+ * MACH_RCV_INTERRUPT interrupt nothing. With neither MACH_SEND_MSG nor MACH_RCV_MSG the call ends with the code 0, and no
+ * try is made.
+ * KERN_INVALID_ARGUMENT: an option that isn't among the seven, such as MACH_SEND_NOTIFY; the call has ended, and no try
+ * is made. The bytes and the buffer are two places, also where both are asked for. */
+gelvonds_code gelvonds_msg_begin(gelvonds *kernel, gelvonds_msg *msg, gelvonds_task task, uint32_t options,
+                                 const uint8_t *bytes, size_t length, uint8_t *buffer, size_t room, gelvonds_name name);
+
+/* Goes on with a message call that hasn't ended: makes one more try, with the same bytes and the same buffer. The bytes
+ * are read only where it waits for room.
+ * GELVONDS_NO_MSG: msg has no try to come, since it has ended, or holds a state, a kind or an option that is none; no
+ * try is made, and msg->state is GELVONDS_MSG_DONE. */
+gelvonds_code gelvonds_msg_next(gelvonds *kernel, gelvonds_msg *msg, const uint8_t *bytes, size_t length,
+                                uint8_t *buffer, size_t room);
 
 #ifdef __cplusplus
 }

@@ -86,6 +86,7 @@ static const struct {
     NAMED(GELVONDS_TOO_SHORT),
     NAMED(GELVONDS_NO_WAITED),
     NAMED(GELVONDS_NO_ANSWER),
+    NAMED(GELVONDS_NO_MSG),
 };
 
 static void tell_text(const char *function, size_t length, const char *text) {
@@ -435,6 +436,109 @@ static void messages(gelvonds *kernel) {
     receive_again(kernel, waited);
 }
 
+/* ---- mach_msg: task 1 sends to the port of task 0, whose set it is received from ---- */
+
+static const uint32_t SEND = MACH_SEND_MSG, RECEIVE = MACH_RCV_MSG;
+
+/* What a call of gelvonds_msg_begin or gelvonds_msg_next left. */
+static void tell_msg(const gelvonds_msg *msg, const uint8_t *buffer) {
+    printf(", state %" PRIu32 " task %" PRIu32 " name %" PRIu32 " options %" PRIx32, msg->state, msg->task, msg->name, msg->options);
+    tell_received(buffer, msg->length, &msg->waited);
+}
+
+static void put_message(uint8_t *message, uint32_t id, gelvonds_name to) {
+    memset(message, 0, HEADER);
+    put_word(message, MACH_MSG_TYPE_COPY_SEND);
+    put_word(message + 8, to);
+    put_word(message + 20, id);
+}
+
+/* Begins a call that sends a message without a body to this name, or receives from the other. */
+static gelvonds_msg begin(gelvonds *kernel, gelvonds_task task, uint32_t options, gelvonds_name to, size_t room, gelvonds_name from) {
+    uint8_t message[HEADER], buffer[ROOM];
+    gelvonds_msg msg;
+    memset(&msg, 0xee, sizeof msg);
+    memset(buffer, 0xee, sizeof buffer);
+    put_message(message, 9, to);
+    CALL(gelvonds_msg_begin, kernel, &msg, task, options, message, sizeof message, buffer, room, from);
+    tell_msg(&msg, buffer);
+    return msg;
+}
+
+static void next(gelvonds *kernel, gelvonds_msg *msg, gelvonds_name to, size_t room) {
+    uint8_t message[HEADER], buffer[ROOM];
+    memset(buffer, 0xee, sizeof buffer);
+    put_message(message, 9, to);
+    CALL(gelvonds_msg_next, kernel, msg, message, sizeof message, buffer, room);
+    tell_msg(msg, buffer);
+}
+
+/* A full queue is waited for, but not by a call with MACH_SEND_TIMEOUT. */
+static void waits_for_room(gelvonds *kernel) {
+    gelvonds_msg msg;
+    CALL(gelvonds_port_set_qlimit, kernel, 0, PORT, 1);
+    ends();
+    receive(kernel, SET, ROOM, false);
+    msg = begin(kernel, 1, SEND | MACH_SEND_INTERRUPT, SERVICE, ROOM, 0);
+    next(kernel, &msg, SERVICE, ROOM);
+    tell_identity(kernel, 0, PORT);
+    msg = begin(kernel, 1, SEND, SERVICE, ROOM, 0);
+    next(kernel, &msg, SERVICE, ROOM);
+    begin(kernel, 1, SEND | MACH_SEND_TIMEOUT, SERVICE, ROOM, 0);
+    receive(kernel, SET, ROOM, false);
+    next(kernel, &msg, SERVICE, ROOM);
+    begin(kernel, 1, SEND, 1, ROOM, 0);
+}
+
+/* A message is waited for, but not by a call with MACH_RCV_TIMEOUT. What was named stays the same, whatever its name. */
+static void waits_for_message(gelvonds *kernel) {
+    gelvonds_msg msg;
+    begin(kernel, 0, RECEIVE | MACH_RCV_LARGE, 0, HEADER - 1, SET);
+    begin(kernel, 0, RECEIVE, 0, HEADER - 1, SET);
+    begin(kernel, 0, RECEIVE | MACH_RCV_TIMEOUT, 0, ROOM, SET);
+    msg = begin(kernel, 0, RECEIVE | MACH_RCV_INTERRUPT, 0, ROOM, SET);
+    CALL(gelvonds_port_rename, kernel, 0, SET, 8);
+    ends();
+    next(kernel, &msg, 0, ROOM);
+    begin(kernel, 1, SEND, SERVICE, ROOM, 0);
+    next(kernel, &msg, 0, ROOM);
+    next(kernel, &msg, 0, ROOM);
+}
+
+/* Task 0 sends to its own port, and receives: three tries. */
+static void sends_and_receives(gelvonds *kernel) {
+    gelvonds_msg msg;
+    CALL(gelvonds_port_insert_right, kernel, 0, PORT, 0, PORT, MACH_MSG_TYPE_MAKE_SEND);
+    ends();
+    begin(kernel, 1, SEND, SERVICE, ROOM, 0);
+    msg = begin(kernel, 0, SEND | RECEIVE | MACH_RCV_TIMEOUT, PORT, ROOM, 8);
+    receive(kernel, 8, ROOM, false);
+    next(kernel, &msg, PORT, ROOM);
+    next(kernel, &msg, PORT, ROOM);
+    begin(kernel, 0, SEND | RECEIVE | MACH_SEND_TIMEOUT, 5, ROOM, 8);
+}
+
+/* Options that are none, structs that are none, and no kernel. */
+static void no_messages(gelvonds *kernel) {
+    gelvonds none = GELVONDS_NONE;
+    gelvonds_msg msg = begin(kernel, 0, 0, PORT, ROOM, 8);
+    begin(kernel, 0, SEND | 0x20, PORT, ROOM, 8);
+    begin(kernel, 0, RECEIVE | 0x200, PORT, ROOM, 8);
+    begin(kernel, 0, SEND | 0x80, PORT, ROOM, 8);
+    begin(kernel, 2, SEND, PORT, ROOM, 8);
+    msg.state = 4;
+    next(kernel, &msg, PORT, ROOM);
+    msg.state = GELVONDS_MSG_WAITS_FOR_MESSAGE;
+    msg.waited.kind = GELVONDS_DEAD;
+    next(kernel, &msg, PORT, ROOM);
+    msg.state = GELVONDS_MSG_WAITS_FOR_ROOM;
+    msg.options = SEND | 0x20;
+    next(kernel, &msg, PORT, ROOM);
+    msg = begin(&none, 0, RECEIVE, PORT, ROOM, 8);
+    begin(&none, 0, SEND, PORT, ROOM, 8);
+    next(&none, &msg, PORT, ROOM);
+}
+
 int main(void) {
     gelvonds kernel = GELVONDS_NONE;
     texts();
@@ -451,6 +555,10 @@ int main(void) {
     notices(&kernel);
     identities(&kernel);
     messages(&kernel);
+    waits_for_room(&kernel);
+    waits_for_message(&kernel);
+    sends_and_receives(&kernel);
+    no_messages(&kernel);
     gelvonds_free(&kernel);
     return 0;
 }

@@ -58,39 +58,40 @@ static void sleep_until_changed(struct account *own) {
     sleepers--;
 }
 
-/* Sends a message without a body, and waits while the queue is full. */
-static void send_waiting(uint32_t id, struct account *own) {
-    uint8_t message[HEADER] = { 0 };
+/* mach_msg: sends the message, or receives one into the room, and waits as long as it has to. */
+static gelvonds_code mach_msg(gelvonds_task task, uint32_t options, const uint8_t *message, uint8_t *room, gelvonds_name name,
+                              struct account *own) {
+    gelvonds_msg msg;
     gelvonds_code code;
+    pthread_mutex_lock(&lock);
+    code = gelvonds_msg_begin(&kernel, &msg, task, options, message, HEADER, room, HEADER, name);
+    while (msg.state != GELVONDS_MSG_DONE) {
+        if (msg.state == GELVONDS_MSG_SENT)
+            pthread_cond_broadcast(&changed); /* a receiver may wait for the message */
+        else
+            sleep_until_changed(own);
+        code = gelvonds_msg_next(&kernel, &msg, message, HEADER, room, HEADER);
+    }
+    if (code == KERN_SUCCESS || code == MACH_RCV_TOO_LARGE)
+        pthread_cond_broadcast(&changed); /* a receiver may wait for a message, or a sender for room */
+    pthread_mutex_unlock(&lock);
+    return code;
+}
+
+/* Sends a message without a body. */
+static void send_waiting(uint32_t id, struct account *own) {
+    uint8_t message[HEADER] = { 0 }, room[HEADER];
     put_word(message, MACH_MSGH_BITS(MACH_MSG_TYPE_COPY_SEND, 0));
     put_word(message + 8, service_of_client);
     put_word(message + 20, id);
-    pthread_mutex_lock(&lock);
-    while ((code = gelvonds_send(&kernel, client, message, sizeof message)) == MACH_SEND_TIMED_OUT)
-        sleep_until_changed(own);
-    if (code == KERN_SUCCESS)
-        pthread_cond_broadcast(&changed); /* a receiver may wait for the message */
-    pthread_mutex_unlock(&lock);
-    require("send", code);
+    require("send", mach_msg(client, MACH_SEND_MSG, message, room, MACH_PORT_NULL, own));
 }
 
-/* Receives a message, and returns its id. Waits while there is none. */
+/* Receives a message, and returns its id. */
 static uint32_t receive_waiting(struct account *own) {
-    uint8_t message[HEADER];
-    size_t length;
-    gelvonds_waited waited;
-    gelvonds_code code;
-    pthread_mutex_lock(&lock);
-    code = gelvonds_receive(&kernel, server, service, message, sizeof message, false, &length, &waited);
-    while (code == MACH_RCV_TIMED_OUT) {
-        sleep_until_changed(own);
-        code = gelvonds_receive_again(&kernel, server, message, sizeof message, false, &length, &waited);
-    }
-    if (code == KERN_SUCCESS || code == MACH_RCV_TOO_LARGE)
-        pthread_cond_broadcast(&changed); /* a sender may wait for the room */
-    pthread_mutex_unlock(&lock);
-    require("receive", code);
-    return word_at(message + 20);
+    uint8_t message[HEADER] = { 0 }, room[HEADER];
+    require("receive", mach_msg(server, MACH_RCV_MSG, message, room, service, own));
+    return word_at(room + 20);
 }
 
 /* ---- the threads ---- */

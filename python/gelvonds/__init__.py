@@ -46,6 +46,7 @@ GELVONDS_IN_USE = 0x47000002
 GELVONDS_TOO_SHORT = 0x47000003
 GELVONDS_NO_WAITED = 0x47000004
 GELVONDS_NO_ANSWER = 0x47000005
+GELVONDS_NO_MSG = 0x47000006
 
 KERN_SUCCESS = 0
 KERN_NO_SPACE = 3
@@ -120,7 +121,20 @@ _CODES: Dict[int, str] = {
     if re.match(r"KERN_|MACH_SEND_|MACH_RCV_|GELVONDS_", name)
 }
 
-# (the kind of a Waited, the room for a text, and no codes)
+# (options, the states of a message call, the kind of a Waited, the room for a text, and no codes)
+MACH_SEND_MSG = 0x00000001
+MACH_RCV_MSG = 0x00000002
+MACH_SEND_TIMEOUT = 0x00000010
+MACH_SEND_INTERRUPT = 0x00000040
+MACH_RCV_TIMEOUT = 0x00000100
+MACH_RCV_INTERRUPT = 0x00000400
+MACH_RCV_LARGE = 0x00000800
+
+GELVONDS_MSG_DONE = 0
+GELVONDS_MSG_WAITS_FOR_ROOM = 1
+GELVONDS_MSG_SENT = 2
+GELVONDS_MSG_WAITS_FOR_MESSAGE = 3
+
 GELVONDS_PORT = 1
 GELVONDS_SET = 2
 GELVONDS_DEAD = 3
@@ -404,6 +418,44 @@ class _Waited(ctypes.Structure):
     _fields_ = [("identity", ctypes.c_uint64), ("kind", ctypes.c_uint32)]
 
 
+class _Msg(ctypes.Structure):
+    _fields_ = [("state", ctypes.c_uint32), ("task", ctypes.c_uint32), ("name", ctypes.c_uint32)]
+    _fields_ += [("options", ctypes.c_uint32), ("length", ctypes.c_size_t), ("waited", _Waited)]
+
+
+class MessageCall:
+    """A message call between its tries: what `Kernel.msg_begin` returns, and `Kernel.msg_next` goes on with.
+
+    `code` is that of the last try, from 0 to 2^32 - 1: while the call waits, the code of one who gives up.
+    """
+
+    def __init__(self, contents: bytes, room: int) -> None:
+        self.code = 0
+        self._contents = contents
+        # (no pointer is to nothing)
+        self._room, self._buffer, self._msg = room, ctypes.create_string_buffer(max(room, 1)), _Msg()
+
+    @property
+    def state(self) -> int:
+        """`GELVONDS_MSG_..`: whether the call has ended, or what it waits for."""
+        return self._msg.state
+
+    @property
+    def waited(self) -> Optional[Waited]:
+        """The port or set on which the call waits, or None."""
+        return Waited(self._msg.waited.identity, self._msg.waited.kind) if self._msg.waited.kind else None
+
+    @property
+    def length(self) -> int:
+        """How many bytes were received, or are needed (`MACH_RCV_TOO_LARGE`); else 0."""
+        return self._msg.length
+
+    @property
+    def contents(self) -> bytes:
+        """The bytes of the message that was received, which `received` reads; else none."""
+        return self._buffer.raw[: self.length] if self.state == GELVONDS_MSG_DONE and self.code == 0 else b""
+
+
 class _Touched(ctypes.Structure):
     _fields_ = [("on", _Waited * 4), ("all", ctypes.c_uint32)]
 
@@ -460,6 +512,10 @@ _FUNCTIONS: Dict[str, Tuple[Any, ...]] = {
     "send": (_WORD, ctypes.c_char_p, _SIZE),
     "receive": (_WORD, _WORD, ctypes.c_char_p, _SIZE, ctypes.c_bool, _LENGTH, ctypes.POINTER(_Waited)),
     "receive_again": (_WORD, ctypes.c_char_p, _SIZE, ctypes.c_bool, _LENGTH, ctypes.POINTER(_Waited)),
+    "msg_begin": (
+        ctypes.POINTER(_Msg), _WORD, _WORD, ctypes.c_char_p, _SIZE, ctypes.c_char_p, _SIZE, _WORD,
+    ),
+    "msg_next": (ctypes.POINTER(_Msg), ctypes.c_char_p, _SIZE, ctypes.c_char_p, _SIZE),
 }
 
 # What the functions take that have no handle. They return a length.
@@ -771,12 +827,39 @@ class Kernel:
             raise MachError(code)
         return buffer.raw[: length.value]
 
+    # -- message calls, for a caller who waits
+
+    def msg_begin(
+        self, task: int, options: int, contents: bytes = b"", name: int = MACH_PORT_NULL, room: int = _MOST_BYTES
+    ) -> MessageCall:
+        """mach_msg: begins a call by its options (`MACH_SEND_MSG`, `MACH_RCV_MSG` and more), and makes its first try.
+
+        Raises nothing for a code: the call has it. Unless its state is `GELVONDS_MSG_DONE`, `msg_next` goes on with it:
+        at once if it is `GELVONDS_MSG_SENT`, else once calls of others may have ended the wait.
+        """
+        if room < 0:
+            raise ValueError(f"the room is {room} bytes")
+        # (more room counts as this)
+        call = MessageCall(_bytes(contents), min(room, _MOST_BYTES))
+        words = _u32(task, "the task"), _u32(options, "the options")
+        self._try("msg_begin", call, words, (_u32(name, "the name"),))
+        return call
+
+    def msg_next(self, call: MessageCall) -> None:
+        """Goes on with a call that hasn't ended: makes its next try. The code of one that has ended is `GELVONDS_NO_MSG`."""
+        self._try("msg_next", call, (), ())
+
+    def _try(self, function: str, call: MessageCall, words: Tuple[int, ...], name: Tuple[int, ...]) -> None:
+        places = call._contents, len(call._contents), call._buffer, call._room
+        call.code = self._ask(function, ctypes.byref(call._msg), *words, *places, *name)
+
 
 __all__ = [
     "Data",
     "Item",
     "Kernel",
     "MachError",
+    "MessageCall",
     "NoMessage",
     "Notice",
     "PortRight",

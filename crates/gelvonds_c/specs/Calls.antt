@@ -36,6 +36,9 @@ no_waited = 0x47000004  -- GELVONDS_NO_WAITED
 abbrev pub no_answer : ℕ
 no_answer = 0x47000005  -- GELVONDS_NO_ANSWER
 
+abbrev pub no_msg : ℕ
+no_msg = 0x47000006  -- GELVONDS_NO_MSG
+
 -- What an answer is told by: the code of a refusal, why a receive got no message, and else 0, as the call was done.
 abbrev pub code_for : Option Reply → ℕ
 code_for None = no_kernel

@@ -3,4 +3,5 @@ pub mod Calls
 pub mod Making
 pub mod Identities
 pub mod Touching
+pub mod Trying
 pub mod Texts

@@ -5,7 +5,7 @@ use Rattle.mach_types.specs.declared.codes.KernReturn.TheVariants as kern
 use Rattle.mach_types.specs.declared.codes.MsgReturn.{MsgReturn}
 use Rattle.mach_types.specs.declared.codes.MsgReturn.TheVariants as msg
 use Rattle.mach_types.specs.Codes.{kern_number, msg_number}
-use Rattle.gelvonds_c.specs.Calls.{no_kernel, too_short, no_waited, no_answer}
+use Rattle.gelvonds_c.specs.Calls.{no_kernel, too_short, no_waited, no_answer, no_msg}
 use Rattle.gelvonds_c.specs.Making.{in_use}
 
 -- The text stands at the front of the caller's room, with a zero byte behind it, where there is room for both. Else nothing was written.
@@ -56,7 +56,8 @@ own_name number =
     if number == in_use then codes "GELVONDS_IN_USE" else
     if number == too_short then codes "GELVONDS_TOO_SHORT" else
     if number == no_waited then codes "GELVONDS_NO_WAITED" else
-    if number == no_answer then codes "GELVONDS_NO_ANSWER" else []
+    if number == no_answer then codes "GELVONDS_NO_ANSWER" else
+    if number == no_msg then codes "GELVONDS_NO_MSG" else []
 
 -- The number is that of a kernel call's code, or of a message's, and this is the code's name.
 abbrev pub IsKern : (number : ℕ) → (name : List ℕ) → Type 0

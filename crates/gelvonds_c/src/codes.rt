@@ -12,3 +12,5 @@ pub const TOO_SHORT: i32 = 0x4700_0003;
 pub const NO_WAITED: i32 = 0x4700_0004;
 /// The kernel's answer is none that the call has. It never comes.
 pub const NO_ANSWER: i32 = 0x4700_0005;
+/// A message call has no try to come: it has ended, or was never begun.
+pub const NO_MSG: i32 = 0x4700_0006;

@@ -22,6 +22,7 @@ mod sets;
 mod texts;
 mod touched;
 mod transfers;
+mod tries;
 
 use crate::codes::{IN_USE, NO_KERNEL, SUCCESS};
 use crate::handle::Handle;

@@ -81,14 +81,14 @@ pub extern "C" fn gelvonds_receive_again(
 }
 
 /// The room, at most what 32 bits tell.
-fn room_of(places: usize) -> u32
+pub(crate) fn room_of(places: usize) -> u32
     ensures { result ≡ min places 4294967295 }
 {
     u32::try_from(places).unwrap_or(u32::MAX)
 }
 
 /// What was waited for, where its kind is one.
-fn waited_before(waited: &WaitedFor) -> Option<Waited>
+pub(crate) fn waited_before(waited: &WaitedFor) -> Option<Waited>
     ensures { MatchOption result (IsNoKind waited.now.kind) (λ w. IsWaited waited.now.kind waited.now.identity w) }
 {
     match waited.kind {
@@ -116,7 +116,7 @@ pub(crate) fn waited_for(waited: &Waited) -> WaitedFor
 
 /// Writes what a receive answers, and returns its code.
 #[inline(always)]
-fn received(
+pub(crate) fn received(
     reply: &Option<Reply>,
     buffer: &mut [u8],
     count: &mut usize,

@@ -120,6 +120,7 @@ fn own_name(number: u32) -> &'static str
         0x4700_0003 => "GELVONDS_TOO_SHORT",
         0x4700_0004 => "GELVONDS_NO_WAITED",
         0x4700_0005 => "GELVONDS_NO_ANSWER",
+        0x4700_0006 => "GELVONDS_NO_MSG",
         _ => "",
     }
 }
