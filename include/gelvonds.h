@@ -96,6 +96,16 @@ typedef struct gelvonds_touched_places {
     uint32_t all; /* 1 where it may be any port and any set, else 0 */
 } gelvonds_touched_places;
 
+/* The verdict of gelvonds_check on a history's text. */
+typedef struct gelvonds_verdict {
+    uint64_t number; /* how many calls a legal history has; else the number of the line or of the call, from 1 */
+    uint32_t kind;   /* GELVONDS_LEGAL, GELVONDS_BAD_LINE or GELVONDS_NOT_CONFIRMED */
+} gelvonds_verdict;
+
+#define GELVONDS_LEGAL 1u         /* the calls and their replies are a run of the machine */
+#define GELVONDS_BAD_LINE 2u      /* the line of this number is the first that no history has there */
+#define GELVONDS_NOT_CONFIRMED 3u /* the call of this number is the first whose reply isn't confirmed */
+
 /* Codes of the library's own. */
 #define GELVONDS_NO_KERNEL 0x47000001 /* the handle holds no kernel */
 #define GELVONDS_IN_USE 0x47000002    /* the handle holds a kernel already */
@@ -103,6 +113,7 @@ typedef struct gelvonds_touched_places {
 #define GELVONDS_NO_WAITED 0x47000004 /* a gelvonds_waited whose kind is neither */
 #define GELVONDS_NO_ANSWER 0x47000005 /* the kernel's answer is none that the call has: never comes */
 #define GELVONDS_NO_MSG 0x47000006    /* a gelvonds_msg with no try to come: it has ended, or was never begun */
+#define GELVONDS_NO_ENTRY 0x47000007  /* no line of a last call is kept (gelvonds_entry) */
 
 /* kern_return_t. */
 #ifndef KERN_SUCCESS
@@ -249,6 +260,41 @@ gelvonds_code gelvonds_port_identity(gelvonds *kernel, gelvonds_task task, gelvo
  * before touched. Makes no call, and changes nothing.
  * GELVONDS_NO_KERNEL: the handle holds no kernel, and nothing is written. */
 gelvonds_code gelvonds_touched(gelvonds *kernel, gelvonds_touched_places *touched);
+
+/* ---- the history ----
+ * The calls of a kernel, line by line, as mach_run writes them (docs/FORMATS.md): a heading, and then for each call the
+ * number of its caller, the call, -> and its reply. A program asks for the heading once and for the line of each call
+ * behind it, writes them one behind the other, and has the text judged. Threads that share a kernel hold their lock over
+ * a call and the asking for its line. None of the four makes a call, and what the last call was stays. The last call is
+ * that of the last function from gelvonds_task_create on with this handle. Where it wasn't made it has no line. */
+
+/* Keeps each call from now on with its reply, for gelvonds_entry, until gelvonds_free. Each call then takes memory for
+ * the copies first: for the bytes of a message that is sent, and for what its reply may have, which of a receive is its
+ * room, 65,536 bytes at most, and of a list the task's names. Where that is refused the call isn't made, and its code
+ * is that of out of memory: MACH_SEND_NO_BUFFER, MACH_RCV_BODY_ERROR | MACH_MSG_IPC_KERNEL, and of any other call
+ * KERN_RESOURCE_SHORTAGE. Nothing changes where calls are kept already. Without this a kernel keeps none.
+ * GELVONDS_NO_KERNEL: the handle holds no kernel. */
+gelvonds_code gelvonds_keep_entries(gelvonds *kernel);
+
+/* The line that the history begins with, "mach-history 1" or "mach-history 2" by the kernel's profile, with its line
+ * feed and no 0. *length is its length in bytes, also where GELVONDS_TOO_SHORT comes: the room is less than that, and
+ * no text was written. GELVONDS_NO_KERNEL: the handle holds no kernel. */
+gelvonds_code gelvonds_heading(gelvonds *kernel, uint8_t *text, size_t room, size_t *length);
+
+/* The line of the last call, of the caller with this number, with its line feed and no 0. *length as of
+ * gelvonds_heading. The line may be asked for again. A program numbers its callers as it likes.
+ * GELVONDS_NO_KERNEL: the handle holds no kernel; GELVONDS_NO_ENTRY: calls aren't kept, none was made since they are, or
+ * the last one wasn't made; KERN_RESOURCE_SHORTAGE: memory for the text, and the line is still kept. */
+gelvonds_code gelvonds_entry(gelvonds *kernel, uint64_t caller, uint8_t *text, size_t room, size_t *length);
+
+/* Judges the whole text of a history, by a kernel of its own that makes the calls anew:
+ *   GELVONDS_LEGAL          its calls and replies are a run of the machine, to the last line; number: how many calls
+ *   GELVONDS_BAD_LINE       no history has the line of this number there, or it has no line feed
+ *   GELVONDS_NOT_CONFIRMED  the call of this number, from 1, is the first that this kernel answers otherwise.
+ *                           docs/FORMATS.md says which legal histories come out so
+ * It uses no handle, and may be called at any time, by any thread.
+ * KERN_RESOURCE_SHORTAGE: memory. That is no verdict, and nothing is written. */
+gelvonds_code gelvonds_check(const uint8_t *text, size_t length, gelvonds_verdict *verdict);
 
 /* ---- texts ----
  * Each writes its text and a 0 behind it, and returns the text's length in bytes, without the 0. Where the room is

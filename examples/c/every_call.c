@@ -87,6 +87,7 @@ static const struct {
     NAMED(GELVONDS_NO_WAITED),
     NAMED(GELVONDS_NO_ANSWER),
     NAMED(GELVONDS_NO_MSG),
+    NAMED(GELVONDS_NO_ENTRY),
 };
 
 static void tell_text(const char *function, size_t length, const char *text) {
@@ -539,6 +540,84 @@ static void no_messages(gelvonds *kernel) {
     next(&none, &msg, PORT, ROOM);
 }
 
+/* ---- the history ---- */
+
+enum { LINE = 44 };
+
+/* The text that was written, with $ for a line feed, and a dot where nothing was. */
+static void tell_line(size_t length, const uint8_t *text) {
+    printf(", length %zu, ", length);
+    for (size_t i = 0; i < LINE; i++)
+        putchar(text[i] == '\n' ? '$' : text[i]);
+    printf("\n");
+}
+
+static void heading(gelvonds *kernel, size_t room) {
+    uint8_t text[LINE];
+    size_t length = BEFORE;
+    memset(text, '.', sizeof text);
+    CALL(gelvonds_heading, kernel, text, room, &length);
+    tell_line(length, text);
+}
+
+static void entry(gelvonds *kernel, uint64_t caller, size_t room) {
+    uint8_t text[LINE];
+    size_t length = BEFORE;
+    memset(text, '.', sizeof text);
+    CALL(gelvonds_entry, kernel, caller, text, room, &length);
+    tell_line(length, text);
+}
+
+static void check(const char *text) {
+    gelvonds_verdict verdict = { BEFORE, BEFORE };
+    CALL(gelvonds_check, (const uint8_t *)text, strlen(text), &verdict);
+    printf(", number %" PRIu64 " of kind %" PRIu32 "\n", verdict.number, verdict.kind);
+}
+
+/* The line of the last call, once there is one, and a history that is judged. */
+static void histories(void) {
+    gelvonds kernel = GELVONDS_NONE;
+    gelvonds_task task;
+    gelvonds_name name;
+    gelvonds_waited waited = { 0, 3 };
+    uint8_t buffer[ROOM];
+    size_t length;
+
+    CALL(gelvonds_keep_entries, &kernel);
+    ends();
+    heading(&kernel, LINE);
+    entry(&kernel, 0, LINE);
+    gelvonds_make_with_profile(&kernel, 2);
+    heading(&kernel, 15);
+    heading(&kernel, 14);
+    entry(&kernel, 0, LINE);
+    CALL(gelvonds_keep_entries, &kernel);
+    ends();
+    entry(&kernel, 0, LINE);
+    gelvonds_task_create(&kernel, &task);
+    entry(&kernel, 0, LINE);
+    entry(&kernel, 0, 4);
+    entry(&kernel, UINT64_MAX, LINE);
+    gelvonds_port_allocate(&kernel, task, MACH_PORT_RIGHT_RECEIVE, &name);
+    entry(&kernel, 1, LINE);
+    gelvonds_port_deallocate(&kernel, task, name);
+    entry(&kernel, 2, LINE);
+    gelvonds_port_names(&kernel, task, &name, 0, &name, 0, &length);
+    entry(&kernel, 3, LINE);
+    gelvonds_receive(&kernel, task, name, buffer, ROOM, true, &length, &waited);
+    entry(&kernel, 4, LINE);
+    /* (not made: no kind) */
+    waited.kind = 3;
+    gelvonds_receive_again(&kernel, task, buffer, ROOM, true, &length, &waited);
+    entry(&kernel, 5, LINE);
+    gelvonds_free(&kernel);
+
+    check("mach-history 2\n0 task -> task 0\n1 alloc 0 1 -> name 256\n");
+    check("mach-history 1\n0 task -> task 0\n1 alloc 0 1 -> name 256\n");
+    check("mach-history 2\n0 task -> task 0\n1 alloc 0 1 -> name 256");
+    check("mach-history 3\n");
+}
+
 int main(void) {
     gelvonds kernel = GELVONDS_NONE;
     texts();
@@ -560,5 +639,6 @@ int main(void) {
     sends_and_receives(&kernel);
     no_messages(&kernel);
     gelvonds_free(&kernel);
+    histories();
     return 0;
 }

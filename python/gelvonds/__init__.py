@@ -47,6 +47,11 @@ GELVONDS_TOO_SHORT = 0x47000003
 GELVONDS_NO_WAITED = 0x47000004
 GELVONDS_NO_ANSWER = 0x47000005
 GELVONDS_NO_MSG = 0x47000006
+GELVONDS_NO_ENTRY = 0x47000007
+
+GELVONDS_LEGAL = 1
+GELVONDS_BAD_LINE = 2
+GELVONDS_NOT_CONFIRMED = 3
 
 KERN_SUCCESS = 0
 KERN_NO_SPACE = 3
@@ -460,6 +465,17 @@ class _Touched(ctypes.Structure):
     _fields_ = [("on", _Waited * 4), ("all", ctypes.c_uint32)]
 
 
+class _Verdict(ctypes.Structure):
+    _fields_ = [("number", ctypes.c_uint64), ("kind", ctypes.c_uint32)]
+
+
+class Verdict(NamedTuple):
+    """What `check` returns: a kind, `GELVONDS_LEGAL`, `GELVONDS_BAD_LINE` or `GELVONDS_NOT_CONFIRMED`, and its number."""
+
+    kind: int
+    number: int
+
+
 class Status(NamedTuple):
     """What `Kernel.port_get_receive_status` returns: the fields of `mach_port_status_t`, in C with `mps_` before them."""
 
@@ -489,6 +505,9 @@ _FUNCTIONS: Dict[str, Tuple[Any, ...]] = {
     "profile": (_WORDS,),
     "port_identity": (_WORD, _WORD, ctypes.POINTER(_Waited)),
     "touched": (ctypes.POINTER(_Touched),),
+    "keep_entries": (),
+    "heading": (ctypes.c_char_p, _SIZE, _LENGTH),
+    "entry": (ctypes.c_uint64, ctypes.c_char_p, _SIZE, _LENGTH),
     "task_create": (_WORDS,),
     "task_terminate": (_WORD,),
     "port_allocate": (_WORD, _WORD, _WORDS),
@@ -522,6 +541,11 @@ _FUNCTIONS: Dict[str, Tuple[Any, ...]] = {
 _TEXTS: Dict[str, Tuple[Any, ...]] = {
     "code_name": (ctypes.c_int32, ctypes.c_char_p, _SIZE),
     "version": (ctypes.c_char_p, _SIZE),
+}
+
+# What the functions take that have no handle, and return a code.
+_JUDGES: Dict[str, Tuple[Any, ...]] = {
+    "check": (ctypes.c_char_p, _SIZE, ctypes.POINTER(_Verdict)),
 }
 
 _loading = threading.Lock()
@@ -563,6 +587,10 @@ def _library() -> ctypes.CDLL:
                 function = getattr(loaded, "gelvonds_" + name)
                 function.argtypes = arguments
                 function.restype = _SIZE
+            for name, arguments in _JUDGES.items():
+                function = getattr(loaded, "gelvonds_" + name)
+                function.argtypes = arguments
+                function.restype = ctypes.c_int32
             _loaded = loaded
         return _loaded
 
@@ -576,6 +604,19 @@ def _text(function: str, *arguments: Any) -> str:
 def library_version() -> str:
     """The version of the C library that is loaded. That of the package is `__version__`."""
     return _text("version")
+
+
+def check(text: bytes) -> Verdict:
+    """Judges the whole text of a history: `Kernel.heading`, and the line of each call behind it (`Kernel.entry`).
+
+    A legal history has the number of its calls. Else the number is that of the first bad line, or of the first call
+    whose reply isn't confirmed. Refused with `KERN_RESOURCE_SHORTAGE` where memory was refused.
+    """
+    verdict = _Verdict()
+    code = _library().gelvonds_check(text, len(text), ctypes.byref(verdict)) & 0xFFFFFFFF
+    if code:
+        raise MachError(code)
+    return Verdict(verdict.kind, verdict.number)
 
 
 def _free(library: ctypes.CDLL, handle: _Handle) -> None:
@@ -651,6 +692,36 @@ class Kernel:
         if touched.all:
             return None
         return [Waited(place.identity, place.kind) for place in touched.on if place.kind]
+
+    # -- the history
+
+    def keep_entries(self) -> None:
+        """Keeps each call from now on with its reply, for `entry`. A call takes memory for that first."""
+        self._call("keep_entries")
+
+    def heading(self) -> bytes:
+        """The line that a history of the kernel's calls begins with, with its line feed."""
+        return self._line("heading")
+
+    def entry(self, caller: int = 0) -> bytes:
+        """The line of the last call in a history, with its line feed, of the caller with this number.
+
+        Refused with `GELVONDS_NO_ENTRY` where calls aren't kept, or the last one wasn't made. Where threads share the
+        kernel, another's call may be the last one: let them hold a lock of their own over a call and its line.
+        """
+        return self._line("entry", _field(caller, 64, "the caller"))
+
+    def _line(self, function: str, *arguments: Any) -> bytes:
+        room, length = 256, ctypes.c_size_t()
+        while True:
+            text = ctypes.create_string_buffer(room)
+            code = self._ask(function, *arguments, text, room, ctypes.byref(length))
+            if code == GELVONDS_TOO_SHORT:
+                room = length.value
+            elif code:
+                raise MachError(code)
+            else:
+                return text.raw[: length.value]
 
     # -- tasks
 
@@ -866,7 +937,9 @@ __all__ = [
     "Received",
     "Status",
     "TooLarge",
+    "Verdict",
     "Waited",
+    "check",
     "code_name",
     "copy_send",
     "data",

@@ -2,14 +2,14 @@
 use Rattle.std.proofs.Common.{◌≡◌, sym, subst, Some}
 use Rattle.mach_types.specs.declared.calls.Event.{Event}
 use Rattle.mach_types.specs.declared.calls.Reply.{Reply}
-use Rattle.kernel_core.specs.Answers.{Answers}
-use Rattle.kernel_core.specs.contracts.kernel.Kernel.{the_row}
+use Rattle.kernel_record.specs.Recording.{StepsRecorded}
+use Rattle.kernel_record.specs.contracts.recorded.RecordedKernel.{the_row}
 use Rattle.gelvonds_c.specs.Held.{Kept}
 use Rattle.gelvonds_c.specs.Calls.{Calls}
 
 pub called : (before after : Kept) (old now new : the_row.Denot) (event : Event) (reply : Reply)
-    → before ≡ Some old → now ≡ old → after ≡ Some new → Answers now.tables event reply new.tables → Calls before event (Some reply) after
+    → before ≡ Some old → now ≡ old → after ≡ Some new → StepsRecorded now event reply new → Calls before event (Some reply) after
 called before after old now new event reply e f g a =
     subst (λ (x : Kept). Calls x event (Some reply) after) (sym e)
     (subst (λ (y : Kept). Calls (Some old) event (Some reply) y) (sym g)
-    (subst (λ (n : the_row.Denot). Answers n.tables event reply new.tables) f a))
+    (subst (λ (n : the_row.Denot). StepsRecorded n event reply new) f a))

@@ -27,8 +27,8 @@ use Rattle.std_heap.proofs.GlobalToken.{dealloc_token-Testable}
 use Rattle.std_heap.specs.contracts.Global as Heap
 use Rattle.std_heap.specs.contracts.GlobalAllocator.TheImpl.{ghosts, dict}
 use Rattle.std_heap.proofs.Global.TheLaws as heap
-use Rattle.kernel_core.specs.contracts.kernel.Kernel as Kernel
-use Rattle.kernel_core.proofs.kernel.Kernel.TheLaws as kernel
+use Rattle.kernel_record.specs.contracts.recorded.RecordedKernel as Kernel
+use Rattle.kernel_record.proofs.recorded.RecordedKernel.TheLaws as kernel
 use Rattle.gelvonds_c.specs.Held.{held, boxed}
 use Rattle.gelvonds_c.specs.contracts.parts.Parts as Parts
 use Rattle.gelvonds_c.specs.contracts.handle.Handle as Handle

@@ -5,7 +5,7 @@ use Rattle.mach_types.specs.declared.calls.Event.{Event}
 use Rattle.mach_types.specs.declared.calls.Reply.{Reply}
 use Rattle.mach_types.specs.declared.codes.MsgReturn.TheVariants.{ReceiveTimedOut, ReceiveTooLarge}
 use Rattle.mach_types.specs.Codes.{msg_number}
-use Rattle.kernel_core.specs.Answers.{Answers}
+use Rattle.kernel_record.specs.Recording.{StepsRecorded, missed}
 use Rattle.mach_types.specs.declared.calls.Waited.{Waited}
 use Rattle.mach_types.specs.declared.calls.Waited.TheVariants.{Port, Set}
 use Rattle.mach_types.specs.declared.calls.Status.{Status}
@@ -17,7 +17,12 @@ abbrev pub Calls : (old : Kept) → Event → Option Reply → (new : Kept) → 
 Calls None event reply new = (reply ≡ None) × (new ≡ None)
 Calls (Some old) event None new = ⊥
 Calls (Some old) event (Some reply) None = ⊥
-Calls (Some old) event (Some reply) (Some new) = Answers old.tables event reply new.tables
+Calls (Some old) event (Some reply) (Some new) = StepsRecorded old event reply new
+
+-- What a handle holds after a call that was not made: the same kernel, and where calls are kept nothing of this one.
+abbrev pub unmade : Kept → Kept
+unmade None = None
+unmade (Some kernel) = Some (record { kernel = kernel.kernel; last = missed kernel.last })
 
 -- ---- codes: Mach's numbers, and the library's own, as C has them, in 32 bits with a sign
 

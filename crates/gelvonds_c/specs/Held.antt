@@ -1,4 +1,4 @@
--- What a handle owns: at a pointer what a box of the kernel does, and at null nothing.
+-- What a handle owns: at a pointer what a box of the kernel with its last call does, and at null nothing.
 use base.Fml.{Fml, ftrue, ffalse}
 use denote.RawPtr.{Ptr, block_ptr, null_ptr}
 use Rattle.std.specs.Box.Ownership.{box_owns}
@@ -7,9 +7,9 @@ use Rattle.std.specs.Global.{Global}
 use Rattle.std.specs.declared.option.Option.{Option}
 use Rattle.std.specs.declared.option.Option.TheVariants.{None, Some}
 use Rattle.std_heap.specs.contracts.GlobalAllocator.TheImpl.{ghosts}
-use Rattle.kernel_core.specs.contracts.kernel.Kernel.{the_row}
+use Rattle.kernel_record.specs.contracts.recorded.RecordedKernel.{the_row}
 
--- the kernel that a handle holds, if any
+-- the kernel that a handle holds, if any, with what is kept of its last call
 abbrev pub Kept : Type 0
 Kept = Option the_row.Denot
 

@@ -34,6 +34,6 @@ identity_or true (Some entry) other = identity_of entry
 abbrev pub TellsIdentity : (old : Kept) → (task name : ℕ) → (code : ℤ) → (new : Kept) → (before after : WaitedFor) → Type 0
 TellsIdentity None task name code new before after = (code ≡ signed no_kernel) × (new ≡ None) × (after ≡ before)
 TellsIdentity (Some kernel) task name code new before after =
-    (code ≡ signed (identity_code (is_some (space_at kernel.tables task)) (entry_at kernel.tables task name)))
+    (code ≡ signed (identity_code (is_some (space_at kernel.kernel.tables task)) (entry_at kernel.kernel.tables task name)))
     × (new ≡ Some kernel)
-    × (after ≡ identity_or (is_some (space_at kernel.tables task)) (entry_at kernel.tables task name) before)
+    × (after ≡ identity_or (is_some (space_at kernel.kernel.tables task)) (entry_at kernel.kernel.tables task name) before)

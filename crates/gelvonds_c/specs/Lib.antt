@@ -4,4 +4,6 @@ pub mod Making
 pub mod Identities
 pub mod Touching
 pub mod Trying
+pub mod Recording
+pub mod Checking
 pub mod Texts

@@ -7,6 +7,7 @@ use Rattle.mach_types.specs.Codes.{kern_number}
 use Rattle.mach_model.specs.State.{State, opening_in}
 use Rattle.copyin_base.specs.Shows.{Shows}
 use Rattle.copyin_base.specs.Worlds.{WorldView}
+use Rattle.kernel_record.specs.declared.recorded.LastCall.TheVariants.{NotKept}
 use Rattle.gelvonds_c.specs.Held.{Kept}
 use Rattle.gelvonds_c.specs.Calls.{signed, no_kernel}
 
@@ -18,11 +19,11 @@ abbrev pub profile_numbered : ℕ → Option Profile
 profile_numbered number = if number == 1 then Some One else if number == 2 then Some Two else None
 
 -- A kernel stays, whatever is asked for. A handle without one has after success a kernel of the profile in which nothing was
--- made yet, and else still none, for want of a profile or of memory.
+-- made yet, whose calls are not kept. Else it has still none, for want of a profile or of memory.
 abbrev pub Makes : Option Profile → (old : Kept) → (code : ℤ) → (new : Kept) → Type 0
 Makes profile (Some kernel) code new = (code ≡ signed in_use) × (new ≡ Some kernel)
 Makes None None code new = (code ≡ signed (kern_number InvalidArgument)) × (new ≡ None)
-Makes (Some profile) None code (Some kernel) = (code ≡ signed (kern_number Success)) × Shows kernel.tables (opening_in profile)
+Makes (Some profile) None code (Some kernel) = (code ≡ signed (kern_number Success)) × Shows kernel.kernel.tables (opening_in profile) × (kernel.last ≡ NotKept)
 Makes (Some profile) None code None = code ≡ signed (kern_number ResourceShortage)
 
 -- The number is that of the profile of the state that the kernel shows.
@@ -32,4 +33,4 @@ IsProfileOf tables number = (s : State) → Shows tables s → profile_numbered 
 -- It is, and the kernel stays. A handle without one has no profile, and no number is written.
 abbrev pub TellsProfile : (old : Kept) → (code : ℤ) → (new : Kept) → (before after : ℕ) → Type 0
 TellsProfile None code new before after = (code ≡ signed no_kernel) × (new ≡ None) × (after ≡ before)
-TellsProfile (Some kernel) code new before after = (code ≡ signed (kern_number Success)) × (new ≡ Some kernel) × IsProfileOf kernel.tables after
+TellsProfile (Some kernel) code new before after = (code ≡ signed (kern_number Success)) × (new ≡ Some kernel) × IsProfileOf kernel.kernel.tables after

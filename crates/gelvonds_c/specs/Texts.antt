@@ -7,6 +7,7 @@ use Rattle.mach_types.specs.declared.codes.MsgReturn.TheVariants as msg
 use Rattle.mach_types.specs.Codes.{kern_number, msg_number}
 use Rattle.gelvonds_c.specs.Calls.{no_kernel, too_short, no_waited, no_answer, no_msg}
 use Rattle.gelvonds_c.specs.Making.{in_use}
+use Rattle.gelvonds_c.specs.Recording.{no_entry}
 
 -- The text stands at the front of the caller's room, with a zero byte behind it, where there is room for both. Else nothing was written.
 pub record Puts (text before : List ℕ) (told : ℕ) (after : List ℕ) : Type 0 where
@@ -57,7 +58,8 @@ own_name number =
     if number == too_short then codes "GELVONDS_TOO_SHORT" else
     if number == no_waited then codes "GELVONDS_NO_WAITED" else
     if number == no_answer then codes "GELVONDS_NO_ANSWER" else
-    if number == no_msg then codes "GELVONDS_NO_MSG" else []
+    if number == no_msg then codes "GELVONDS_NO_MSG" else
+    if number == no_entry then codes "GELVONDS_NO_ENTRY" else []
 
 -- The number is that of a kernel call's code, or of a message's, and this is the code's name.
 abbrev pub IsKern : (number : ℕ) → (name : List ℕ) → Type 0

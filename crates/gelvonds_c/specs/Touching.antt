@@ -21,4 +21,4 @@ c_touched touched = record { first = c_place None; second = c_place None; third 
 -- What the kernel's last call touched is told, and the kernel stays. A handle without one tells nothing.
 abbrev pub TellsTouched : (old : Kept) → (code : ℤ) → (new : Kept) → (before after : TouchedPlaces) → Type 0
 TellsTouched None code new before after = (code ≡ signed no_kernel) × (new ≡ None) × (after ≡ before)
-TellsTouched (Some kernel) code new before after = (code ≡ signed 0) × (new ≡ Some kernel) × (after ≡ c_touched kernel.touched)
+TellsTouched (Some kernel) code new before after = (code ≡ signed 0) × (new ≡ Some kernel) × (after ≡ c_touched kernel.kernel.touched)

@@ -15,7 +15,7 @@ use Rattle.gelvonds_c.specs.declared.messages.WaitedFor.{WaitedFor}
 use Rattle.gelvonds_c.specs.declared.tries.MessageCall.{MessageCall}
 use Rattle.gelvonds_c.specs.Held.{Kept}
 use Rattle.gelvonds_c.specs.Identities.{identity_or}
-use Rattle.gelvonds_c.specs.Calls.{Calls, IsWaited, IsNoKind, bytes_in, c_waited, code_for, length_or, no_answer, no_kernel, no_msg, received_into, signed}
+use Rattle.gelvonds_c.specs.Calls.{Calls, IsWaited, IsNoKind, bytes_in, c_waited, code_for, length_or, no_answer, no_kernel, no_msg, received_into, signed, unmade}
 
 -- ---- options
 
@@ -68,14 +68,14 @@ sent_code (Some reply) = no_answer
 -- The event was made; or there was no memory for its copy of the bytes, and nothing was.
 abbrev pub Sends : (old : Kept) → (task : ℕ) → (bytes : List ℕ) → (code : ℕ) → (new : Kept) → Type 0
 Sends old task bytes code new =
-    (code ≡ msg_number SendNoBuffer) × (new ≡ old) ⊎ ((reply : Option Reply) × Calls old (Send task bytes) reply new × (code ≡ sent_code reply))
+    (code ≡ msg_number SendNoBuffer) × (new ≡ unmade old) ⊎ ((reply : Option Reply) × Calls old (Send task bytes) reply new × (code ≡ sent_code reply))
 
 -- The port that the destination's name is, as gelvonds_port_identity tells it.
 abbrev pub destination_at : Kept → (task : ℕ) → (bytes : List ℕ) → WaitedFor
 destination_at None task bytes = nowhere
 destination_at (Some kernel) task bytes =
     if nat_lt (length bytes) 12 then nowhere else
-    identity_or (is_some (space_at kernel.tables task)) (entry_at kernel.tables task (word_at bytes 8)) nowhere
+    identity_or (is_some (space_at kernel.kernel.tables task)) (entry_at kernel.kernel.tables task (word_at bytes 8)) nowhere
 
 -- A full queue is tried again, unless there is to be one try. The receipt that is asked for comes where the message was sent.
 abbrev pub after_send : MessageCall → (code : ℕ) → (destination : WaitedFor) → MessageCall
@@ -123,7 +123,7 @@ Tries old call bytes code new after buffer_before buffer_after =
 -- No try: the call has ended, with this code.
 pub record Ends (old : Kept) (call : MessageCall) (number : ℕ) (code : ℤ) (new : Kept) (after : MessageCall) (buffer_before buffer_after : List ℕ) : Type 0 where
   pub code_is : code ≡ signed number
-  pub kernel_is : new ≡ old
+  pub kernel_is : new ≡ unmade old
   pub call_is : after ≡ ahead call done nowhere 0
   pub buffer_is : buffer_after ≡ buffer_before
 

@@ -1,6 +1,6 @@
 //! One call by a handle, and the answers that are a code or a number.
 ghost use Rattle.std.specs.Prelude.{◌≡◌, ℕ, MatchOption};
-ghost use Rattle.gelvonds_c.specs.Calls.{Calls, Asks, Tells, number_or, code_for, signed};
+ghost use Rattle.gelvonds_c.specs.Calls.{Calls, Asks, Tells, number_or, code_for, signed, unmade};
 
 use crate::codes::{NO_ANSWER, NO_KERNEL, SUCCESS};
 use crate::handle::Handle;
@@ -16,11 +16,22 @@ pub fn call(alloc: Global, handle: &mut Handle, event: &Event) -> Option<Reply>
 {
     match handle.take(alloc) {
         Some(mut kernel) => {
-            let reply = kernel.step(event);
-            *handle = Handle::of(kernel);
+            let reply = kernel.step(alloc, event);
+            handle.put(kernel);
             Some(reply)
         }
         None => None,
+    }
+}
+
+/// Tells the record that the call was not made: where calls are kept, nothing is kept of this one.
+#[cold]
+pub fn miss(alloc: Global, handle: &mut Handle)
+    ensures { handle.new.kernel ≡ unmade handle.old.kernel }
+{
+    if let Some(mut kernel) = handle.take(alloc) {
+        kernel.miss_call();
+        handle.put(kernel);
     }
 }
 

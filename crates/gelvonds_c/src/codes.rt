@@ -14,3 +14,5 @@ pub const NO_WAITED: i32 = 0x4700_0004;
 pub const NO_ANSWER: i32 = 0x4700_0005;
 /// A message call has no try to come: it has ended, or was never begun.
 pub const NO_MSG: i32 = 0x4700_0006;
+/// No line of a last call is kept.
+pub const NO_ENTRY: i32 = 0x4700_0007;

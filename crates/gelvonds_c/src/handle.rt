@@ -4,7 +4,7 @@ ghost use Rattle.std.specs.Option.{MatchOption};
 ghost use Rattle.gelvonds_c.specs.Held.{Kept, kept_coded};
 
 use crate::parts::Parts;
-use kernel_core::Kernel;
+use kernel_record::RecordedKernel;
 use std::alloc::Global;
 use std::marker::Model;
 use std::mem;
@@ -17,7 +17,7 @@ use std::ptr::null_mut;
 pub struct Handle {
     ptr: *mut u8,
     alloc: Global,
-    /// The kernel, if there is one.
+    /// The kernel with its last call, if there is one.
     pub ghost kernel: { Kept } by { kept_coded },
 }
 
@@ -27,8 +27,8 @@ impl Model for Handle {
     ghost also_owns = { λ h. held h.alloc h.ptr h.kernel };
 }
 
-// A kernel owns all that it holds, and nothing of it is counted or shared: `proofs/handle/Handle/TheSendSync/Send` proves
-// that a handle may go to another thread.
+// A kernel and its last call own all that they hold, and nothing of it is counted or shared:
+// `proofs/handle/Handle/TheSendSync/Send` proves that a handle may go to another thread.
 unsafe impl Send for Handle {}
 
 impl Handle {
@@ -43,14 +43,24 @@ impl Handle {
     }
 
     /// This kernel. Takes no memory.
-    pub fn of(kernel: Box<Kernel>) -> Handle
+    pub fn of(kernel: Box<RecordedKernel>) -> Handle
         ensures { result.kernel ≡ Some kernel.value }
     {
         Handle::of_parts(Parts::of(kernel))
     }
 
+    /// Puts the kernel into a handle that holds none. Takes no memory.
+    #[inline(always)]
+    pub fn put(&mut self, kernel: Box<RecordedKernel>)
+        requires empty { self.old.kernel ≡ None }
+        ensures { self.new.kernel ≡ Some kernel.value }
+    {
+        // Nothing is lost: the handle that goes holds none, and has nothing to give back.
+        mem::forget(mem::replace(self, Handle::of(kernel)));
+    }
+
     /// Takes the kernel out, and leaves none. Takes no memory.
-    pub fn take(&mut self, alloc: Global) -> Option<Box<Kernel>>
+    pub fn take(&mut self, alloc: Global) -> Option<Box<RecordedKernel>>
         ensures taken { MatchOption result (self.old.kernel ≡ None) (λ kernel. self.old.kernel ≡ Some kernel.value) }
         ensures left { self.new.kernel ≡ None }
     {
@@ -60,7 +70,7 @@ impl Handle {
         }
     }
 
-    fn of_parts(parts: Parts<Kernel, Global>) -> Handle
+    fn of_parts(parts: Parts<RecordedKernel, Global>) -> Handle
         ensures { result.kernel ≡ Some parts.value }
     {
         let Parts { ptr, alloc } = parts;
@@ -70,7 +80,7 @@ impl Handle {
         }
     }
 
-    fn into_parts(self) -> Option<Parts<Kernel, Global>>
+    fn into_parts(self) -> Option<Parts<RecordedKernel, Global>>
         ensures { MatchOption result (self.kernel ≡ None) (λ parts. self.kernel ≡ Some parts.value) }
     {
         let Handle { ptr, alloc } = self;
@@ -78,7 +88,7 @@ impl Handle {
             None
         } else {
             Some(Parts {
-                ptr: ptr as *mut Kernel,
+                ptr: ptr as *mut RecordedKernel,
                 alloc,
             })
         }

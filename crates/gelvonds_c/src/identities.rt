@@ -38,7 +38,7 @@ pub extern "C" fn gelvonds_port_identity(
         return NO_KERNEL;
     };
     let code = tell_identity(kernel.tables(), TaskId::new(task), Name::new(name), found);
-    *handle = Handle::of(kernel);
+    handle.put(kernel);
     code
 }
 

@@ -5,12 +5,17 @@
 //! answered as a code. `specs/Held` says what a handle owns, `specs/Calls` what a call by one does.
 #![tactic(auto)]
 
-ghost use Rattle.std.specs.Prelude.{◌≡◌, ◌≢◌, None, Some};
+ghost use Rattle.std.specs.Prelude.{◌≡◌, ◌≢◌, IfSome, None, Some};
 ghost use Rattle.mach_types.specs.declared.profiles.Profile.TheVariants.{One, Three};
+ghost use Rattle.mach_model.specs.State.{opening_in};
+ghost use Rattle.copyin_base.specs.Shows.{Shows};
+ghost use Rattle.kernel_record.specs.declared.recorded.LastCall.TheVariants.{NotKept};
 ghost use Rattle.gelvonds_c.specs.Making.{IsProfileOf, Makes, TellsProfile, profile_numbered};
 
 mod call;
+mod checking;
 mod codes;
+mod entries;
 mod handle;
 mod identities;
 mod messages;
@@ -26,7 +31,7 @@ mod tries;
 
 use crate::codes::{IN_USE, NO_KERNEL, SUCCESS};
 use crate::handle::Handle;
-use kernel_core::Kernel;
+use kernel_record::RecordedKernel;
 use mach_types::{KernReturn, Profile};
 use std::alloc::Global;
 
@@ -62,7 +67,7 @@ pub extern "C" fn gelvonds_profile(alloc: Global, handle: &mut Handle, profile: 
         return NO_KERNEL;
     };
     *profile = number_of(&kernel);
-    *handle = Handle::of(kernel);
+    handle.put(kernel);
     SUCCESS
 }
 
@@ -80,19 +85,28 @@ fn make(alloc: Global, handle: &mut Handle, profile: Option<Profile>) -> i32
     ensures { Makes profile handle.old.kernel result handle.new.kernel }
 {
     if let Some(kernel) = handle.take(alloc) {
-        *handle = Handle::of(kernel);
+        handle.put(kernel);
         return IN_USE;
     }
     let Some(profile) = profile else {
         return KernReturn::InvalidArgument.number().cast_signed();
     };
-    match Box::new(alloc, Kernel::with_profile(alloc, profile)) {
-        Ok(kernel) => {
-            *handle = Handle::of(kernel);
+    match new_kernel(alloc, profile) {
+        Some(kernel) => {
+            handle.put(kernel);
             SUCCESS
         }
-        Err(_) => KernReturn::ResourceShortage.number().cast_signed(),
+        None => KernReturn::ResourceShortage.number().cast_signed(),
     }
+}
+
+/// A kernel of this profile, in which nothing was made yet; `None` where memory is refused.
+fn new_kernel(alloc: Global, profile: Profile) -> Option<Box<RecordedKernel>>
+    requires one_set { profile ≢ Three }
+    ensures shows { IfSome result (λ kernel. Shows kernel.value.kernel.tables (opening_in profile)) }
+    ensures last { IfSome result (λ kernel. kernel.value.last ≡ NotKept) }
+{
+    Box::new(alloc, RecordedKernel::new(alloc, profile)).ok()
 }
 
 /// The profile that a kernel can have of this number.
@@ -108,8 +122,8 @@ fn profile_of(number: u32) -> Option<Profile>
 }
 
 /// The number of the kernel's profile.
-fn number_of(kernel: &Kernel) -> u32
-    ensures { IsProfileOf kernel.now.tables result }
+fn number_of(kernel: &RecordedKernel) -> u32
+    ensures { IsProfileOf kernel.now.kernel.tables result }
 {
     if kernel.tables().has_generations() {
         2

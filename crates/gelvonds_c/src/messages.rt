@@ -4,9 +4,9 @@ ghost use Rattle.mach_types.specs.declared.calls.Event.TheVariants.{Send, Receiv
 ghost use Rattle.mach_types.specs.declared.calls.Waited.{Waited};
 ghost use Rattle.mach_types.specs.declared.codes.MsgReturn.TheVariants.{SendNoBuffer};
 ghost use Rattle.mach_types.specs.Codes.{msg_number};
-ghost use Rattle.gelvonds_c.specs.Calls.{Asks, Receives, IsWaited, IsNoKind, bytes_in, c_waited, code_for, length_or, no_answer, no_waited, received_into, signed, waited_or};
+ghost use Rattle.gelvonds_c.specs.Calls.{Asks, Receives, IsWaited, IsNoKind, bytes_in, c_waited, code_for, length_or, no_answer, no_waited, received_into, signed, unmade, waited_or};
 
-use crate::call::{call, code, code_of};
+use crate::call::{call, code, code_of, miss};
 use crate::codes::{NO_ANSWER, NO_WAITED, SUCCESS};
 use crate::handle::Handle;
 use mach_types::{Bytes, Event, MsgReturn, Name, PortId, Reply, SetId, TaskId, Waited};
@@ -29,14 +29,17 @@ pub struct WaitedFor {
 /// `mach_msg` with `MACH_SEND_MSG`, that doesn't wait.
 #[unsafe(no_mangle)]
 pub extern "C" fn gelvonds_send(alloc: Global, handle: &mut Handle, task: u32, bytes: &[u8]) -> i32
-    ensures { Asks handle.old.kernel (Send task bytes.now) result handle.new.kernel ⊎ (result ≡ signed (msg_number SendNoBuffer)) × (handle.new.kernel ≡ handle.old.kernel) }
+    ensures { Asks handle.old.kernel (Send task bytes.now) result handle.new.kernel ⊎ (result ≡ signed (msg_number SendNoBuffer)) × (handle.new.kernel ≡ unmade handle.old.kernel) }
 {
     match Vec::from_slice(alloc, bytes) {
         Ok(copy) => {
             let event = Event::Send(TaskId::new(task), Bytes::from_vec(copy));
             code(alloc, handle, &event)
         }
-        Err(_) => MsgReturn::SendNoBuffer.number().cast_signed(),
+        Err(_) => {
+            miss(alloc, handle);
+            MsgReturn::SendNoBuffer.number().cast_signed()
+        }
     }
 }
 
@@ -70,9 +73,10 @@ pub extern "C" fn gelvonds_receive_again(
     count: &mut usize,
     waited: &mut WaitedFor,
 ) -> i32
-    ensures { ((w : Waited) × IsWaited waited.old.kind waited.old.identity w × Receives handle.old.kernel (ReceiveAgain task w (min (length buffer.old) 4294967295) large) result handle.new.kernel buffer.old buffer.new count.old count.new waited.old waited.new) ⊎ IsNoKind waited.old.kind × (result ≡ signed no_waited) × (handle.new.kernel ≡ handle.old.kernel) × (buffer.new ≡ buffer.old) × (count.new ≡ count.old) × (waited.new ≡ waited.old) }
+    ensures { ((w : Waited) × IsWaited waited.old.kind waited.old.identity w × Receives handle.old.kernel (ReceiveAgain task w (min (length buffer.old) 4294967295) large) result handle.new.kernel buffer.old buffer.new count.old count.new waited.old waited.new) ⊎ IsNoKind waited.old.kind × (result ≡ signed no_waited) × (handle.new.kernel ≡ unmade handle.old.kernel) × (buffer.new ≡ buffer.old) × (count.new ≡ count.old) × (waited.new ≡ waited.old) }
 {
     let Some(before) = waited_before(waited) else {
+        miss(alloc, handle);
         return NO_WAITED;
     };
     let room = room_of(buffer.len());

@@ -121,6 +121,7 @@ fn own_name(number: u32) -> &'static str
         0x4700_0004 => "GELVONDS_NO_WAITED",
         0x4700_0005 => "GELVONDS_NO_ANSWER",
         0x4700_0006 => "GELVONDS_NO_MSG",
+        0x4700_0007 => "GELVONDS_NO_ENTRY",
         _ => "",
     }
 }

@@ -40,7 +40,7 @@ pub extern "C" fn gelvonds_touched(
         return NO_KERNEL;
     };
     *touched = places(&kernel.touched());
-    *handle = Handle::of(kernel);
+    handle.put(kernel);
     SUCCESS
 }
 

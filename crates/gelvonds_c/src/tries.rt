@@ -4,9 +4,10 @@
 //! [`MessageCall`] which try comes next. They are the tries of `mach_msg` of the crate `mach_msg_threads`, which waits
 //! itself.
 ghost use Rattle.std.specs.Prelude.{◌≡◌, ◌↔◌, ◌⊎◌, IsTrue, MatchOption};
-ghost use Rattle.gelvonds_c.specs.Trying.{AreOptions, Begins, GoesOn, IsNoCall, IsReceipt, Sends, TriesToReceive, TriesToSend, ahead, destination_at, first_try, has, opened, sent_code, told};
+ghost use Rattle.gelvonds_c.specs.Calls.{unmade};
+ghost use Rattle.gelvonds_c.specs.Trying.{AreOptions, Begins, GoesOn, IsNoCall, IsReceipt, Sends, TriesToReceive, TriesToSend, ahead, destination_at, done, first_try, has, nowhere, opened, sent_code, told};
 
-use crate::call::call;
+use crate::call::{call, miss};
 use crate::codes::{NO_ANSWER, NO_KERNEL, NO_MSG, SUCCESS};
 use crate::handle::Handle;
 use crate::identities::gelvonds_port_identity;
@@ -129,11 +130,11 @@ pub extern "C" fn gelvonds_msg_begin(
 {
     *msg = MessageCall::opened(task, name, options & BUT_INTERRUPTS);
     if !are_options(msg.options) {
-        msg.set(DONE, NOWHERE, 0);
-        return KernReturn::InvalidArgument.number().cast_signed();
+        let code = KernReturn::InvalidArgument.number().cast_signed();
+        return end(alloc, handle, msg, code);
     }
     if msg.state == DONE {
-        return SUCCESS;
+        return end(alloc, handle, msg, SUCCESS);
     }
     go_on(alloc, handle, msg, bytes, buffer)
 }
@@ -153,8 +154,7 @@ pub extern "C" fn gelvonds_msg_next(
     ensures { GoesOn handle.old.kernel msg.old bytes.now result handle.new.kernel msg.new buffer.old buffer.new }
 {
     if !are_options(msg.options) {
-        msg.set(DONE, NOWHERE, 0);
-        return NO_MSG;
+        return end(alloc, handle, msg, NO_MSG);
     }
     go_on(alloc, handle, msg, bytes, buffer)
 }
@@ -175,11 +175,19 @@ fn go_on(
     }
     match msg.receipt(room_of(buffer.len())) {
         Some(event) => receive(alloc, handle, msg, &event, buffer),
-        None => {
-            msg.set(DONE, NOWHERE, 0);
-            NO_MSG
-        }
+        None => end(alloc, handle, msg, NO_MSG),
     }
+}
+
+/// Ends the call with this code, and without a try.
+fn end(alloc: Global, handle: &mut Handle, msg: &mut MessageCall, code: i32) -> i32
+    ensures code { result ≡ code }
+    ensures kernel { handle.new.kernel ≡ unmade handle.old.kernel }
+    ensures call { msg.new ≡ ahead msg.old done nowhere 0 }
+{
+    miss(alloc, handle);
+    msg.set(DONE, NOWHERE, 0);
+    code
 }
 
 /// Tries to send.
@@ -207,7 +215,10 @@ fn sent(alloc: Global, handle: &mut Handle, task: u32, bytes: &[u8]) -> u32
             let event = Event::Send(TaskId::new(task), Bytes::from_vec(copy));
             code_sent(&call(alloc, handle, &event))
         }
-        Err(_) => MsgReturn::SendNoBuffer.number(),
+        Err(_) => {
+            miss(alloc, handle);
+            MsgReturn::SendNoBuffer.number()
+        }
     }
 }
 

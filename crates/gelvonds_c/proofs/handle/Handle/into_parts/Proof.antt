@@ -29,7 +29,7 @@ use Rattle.std_alloc.proofs.BoxSteps.Form.{box_typed}
 use Rattle.std_alloc.proofs.BoxSteps.Steps.{box_in}
 use Rattle.std_heap.specs.contracts.Global as Heap
 use Rattle.std_heap.specs.contracts.GlobalAllocator.TheImpl.{ghosts}
-use Rattle.kernel_core.specs.contracts.kernel.Kernel as Kernel
+use Rattle.kernel_record.specs.contracts.recorded.RecordedKernel as Kernel
 use Rattle.gelvonds_c.proofs.Handles.{E, FromHandle, word, handle_out, either_held}
 use Rattle.gelvonds_c.specs.contracts.parts.Parts as Parts
 use Rattle.gelvonds_c.specs.contracts.handle.Handle as Handle
