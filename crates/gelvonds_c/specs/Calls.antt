@@ -1,16 +1,14 @@
 -- A call by a handle: the kernel's own step, where there is a kernel; and the code that C gets for it.
-use Rattle.std.specs.Prelude.{◌≡◌, ◌≢◌, ℕ, ℤ, ◌⊎◌, List, ◌++◌, Option, None, Some, length, drop, map, min, if◌then◌else◌, nat_lt}
-use Rattle.std.specs.Int.{w32, cast_signed}
+use Rattle.std.specs.Prelude.{◌≡◌, ℕ, ℤ, List, ◌++◌, Option, None, Some, length, drop, map, min, if◌then◌else◌, nat_lt}
 use Rattle.mach_types.specs.declared.calls.Event.{Event}
 use Rattle.mach_types.specs.declared.calls.Reply.{Reply}
 use Rattle.mach_types.specs.declared.codes.MsgReturn.TheVariants.{ReceiveTimedOut, ReceiveTooLarge}
 use Rattle.mach_types.specs.Codes.{msg_number}
 use Rattle.kernel_record.specs.Recording.{StepsRecorded, missed}
-use Rattle.mach_types.specs.declared.calls.Waited.{Waited}
-use Rattle.mach_types.specs.declared.calls.Waited.TheVariants.{Port, Set}
-use Rattle.mach_types.specs.declared.calls.Status.{Status}
-use Rattle.gelvonds_c.specs.declared.messages.WaitedFor.{WaitedFor}
-use Rattle.gelvonds_c.specs.declared.receive_right.PortStatus.{PortStatus}
+use Rattle.gelvonds_c_base.specs.declared.status.PortStatus.{PortStatus}
+use Rattle.gelvonds_c_base.specs.declared.waited.WaitedFor.{WaitedFor}
+use Rattle.gelvonds_c_base.specs.Answers.{c_status, c_waited}
+use Rattle.gelvonds_c_base.specs.Codes.{signed, no_kernel, too_short, no_answer}
 use Rattle.gelvonds_c.specs.Held.{Kept}
 
 abbrev pub Calls : (old : Kept) → Event → Option Reply → (new : Kept) → Type 0
@@ -23,26 +21,6 @@ Calls (Some old) event (Some reply) (Some new) = StepsRecorded old event reply n
 abbrev pub unmade : Kept → Kept
 unmade None = None
 unmade (Some kernel) = Some (record { kernel = kernel.kernel; last = missed kernel.last })
-
--- ---- codes: Mach's numbers, and the library's own, as C has them, in 32 bits with a sign
-
-abbrev pub signed : ℕ → ℤ
-signed number = cast_signed w32 number
-
-abbrev pub no_kernel : ℕ
-no_kernel = 0x47000001  -- GELVONDS_NO_KERNEL
-
-abbrev pub too_short : ℕ
-too_short = 0x47000003  -- GELVONDS_TOO_SHORT
-
-abbrev pub no_waited : ℕ
-no_waited = 0x47000004  -- GELVONDS_NO_WAITED
-
-abbrev pub no_answer : ℕ
-no_answer = 0x47000005  -- GELVONDS_NO_ANSWER
-
-abbrev pub no_msg : ℕ
-no_msg = 0x47000006  -- GELVONDS_NO_MSG
 
 -- What an answer is told by: the code of a refusal, why a receive got no message, and else 0, as the call was done.
 abbrev pub code_for : Option Reply → ℕ
@@ -110,29 +88,12 @@ abbrev pub right_kind_or : Option Reply → ℕ → ℕ
 right_kind_or (Some (Reply.Right name kind)) other = kind
 right_kind_or reply other = other
 
--- a status as C has it, and that which is answered, or the other one
-abbrev pub c_status : Status → PortStatus
-c_status s = record {
-  set = s.set;
-  sequence = s.sequence;
-  make_send = s.make_send;
-  limit = s.limit;
-  queued = s.queued;
-  send_once = s.send_once;
-  has_send = s.has_send;
-  port_destroyed = s.port_destroyed;
-  no_senders = s.no_senders;
-}
-
+-- a status that is answered, or the other one
 abbrev pub status_or : Option Reply → PortStatus → PortStatus
 status_or (Some (Reply.Status status)) other = c_status status
 status_or reply other = other
 
--- what was waited for as C has it, and that which is answered, or the other one
-abbrev pub c_waited : Waited → WaitedFor
-c_waited (Port port) = record { identity = port; kind = 1 }
-c_waited (Set set) = record { identity = set; kind = 2 }
-
+-- what was waited for, or the other one
 abbrev pub waited_or : Option Reply → WaitedFor → WaitedFor
 waited_or (Some (Reply.Empty waited)) other = c_waited waited
 waited_or reply other = other
@@ -203,11 +164,3 @@ pub record Receives (old : Kept) (event : Event) (code : ℤ) (new : Kept) (byte
   pub bytes_are : bytes_after ≡ received_into reply bytes_before
   pub length_is : length_after ≡ length_or reply length_before
   pub waited_is : waited_after ≡ waited_or reply waited_before
-
--- What C says was waited for, by its kind and identity.
-abbrev pub IsWaited : (kind identity : ℕ) → Waited → Type 0
-IsWaited kind identity w = (kind ≡ 1) × (w ≡ Port identity) ⊎ (kind ≡ 2) × (w ≡ Set identity)
-
--- neither a port nor a set
-abbrev pub IsNoKind : (kind : ℕ) → Type 0
-IsNoKind kind = (kind ≢ 1) × (kind ≢ 2)

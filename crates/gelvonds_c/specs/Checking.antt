@@ -9,7 +9,7 @@ use Rattle.kernel_lock.specs.History.{Legal}
 use Rattle.tracer.specs.Histories.{history_text, FitsLine, IsFirstBadLine}
 use Rattle.tracer.specs.Checks.{IsUnconfirmed}
 use Rattle.gelvonds_c.specs.declared.checking.Verdict.{Verdict}
-use Rattle.gelvonds_c.specs.Calls.{signed}
+use Rattle.gelvonds_c_base.specs.Codes.{signed}
 
 -- The text is the history of these entries by the profile.
 pub record IsHistory (text : List ℕ) (profile : Profile) (entries : List Entry) : Type 0 where

@@ -3,20 +3,11 @@ use Rattle.std.specs.Prelude.{◌≡◌, ℕ, ℤ, Bool, true, false, Option, No
 use Rattle.mach_types.specs.declared.codes.KernReturn.TheVariants.{Success, InvalidTask, InvalidName}
 use Rattle.mach_types.specs.Codes.{kern_number}
 use Rattle.name_space.specs.declared.Entry.{Entry}
-use Rattle.name_space.specs.declared.Entry.TheVariants.{Receive, Send, ReceiveAndSend, SendOnce, DeadName, Set}
 use Rattle.copyin_base.specs.Worlds.{space_at, entry_at}
-use Rattle.gelvonds_c.specs.declared.messages.WaitedFor.{WaitedFor}
+use Rattle.gelvonds_c_base.specs.declared.waited.WaitedFor.{WaitedFor}
+use Rattle.gelvonds_c_base.specs.Answers.{identity_of}
+use Rattle.gelvonds_c_base.specs.Codes.{signed, no_kernel}
 use Rattle.gelvonds_c.specs.Held.{Kept}
-use Rattle.gelvonds_c.specs.Calls.{signed, no_kernel}
-
--- any right for a port is that port; a dead name is none any more
-abbrev pub identity_of : Entry → WaitedFor
-identity_of (Receive port) = record { identity = port; kind = 1 }
-identity_of (Send port references) = record { identity = port; kind = 1 }
-identity_of (ReceiveAndSend port references) = record { identity = port; kind = 1 }
-identity_of (SendOnce port) = record { identity = port; kind = 1 }
-identity_of (DeadName references) = record { identity = 0; kind = 3 }
-identity_of (Set set) = record { identity = set; kind = 2 }
 
 -- The code for a task that lives or not, with this under the name, if anything.
 abbrev pub identity_code : (lives : Bool) → Option Entry → ℕ

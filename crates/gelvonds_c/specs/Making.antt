@@ -9,10 +9,7 @@ use Rattle.copyin_base.specs.Shows.{Shows}
 use Rattle.copyin_base.specs.Worlds.{WorldView}
 use Rattle.kernel_record.specs.declared.recorded.LastCall.TheVariants.{NotKept}
 use Rattle.gelvonds_c.specs.Held.{Kept}
-use Rattle.gelvonds_c.specs.Calls.{signed, no_kernel}
-
-abbrev pub in_use : ℕ
-in_use = 0x47000002  -- GELVONDS_IN_USE
+use Rattle.gelvonds_c_base.specs.Codes.{signed, in_use, no_kernel}
 
 -- the profile that a kernel can have of this number, if any
 abbrev pub profile_numbered : ℕ → Option Profile

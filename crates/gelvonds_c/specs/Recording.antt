@@ -11,10 +11,8 @@ use Rattle.kernel_record.specs.Recording.{kept_from}
 use Rattle.kernel_lock.specs.History.{entry}
 use Rattle.tracer.specs.Histories.{entry_line, heading}
 use Rattle.gelvonds_c.specs.Held.{Kept}
-use Rattle.gelvonds_c.specs.Calls.{signed, no_kernel, too_short, put_list}
-
-abbrev pub no_entry : ℕ
-no_entry = 0x47000007  -- GELVONDS_NO_ENTRY
+use Rattle.gelvonds_c_base.specs.Codes.{signed, no_entry, no_kernel, too_short}
+use Rattle.gelvonds_c.specs.Calls.{put_list}
 
 -- Calls are kept from now on. A handle without a kernel has none.
 abbrev pub KeepsEntries : (old : Kept) → (code : ℤ) → (new : Kept) → Type 0

@@ -1,62 +1,23 @@
 -- Mach's mach_msg, one try a call: what begin and next do, by the struct that C holds. The tries of a whole call, begin and then next until
 -- it is done, are those of MessageCall in mach_msg_threads/specs/Tries.
-use Rattle.std.specs.Prelude.{◌≡◌, ◌≢◌, ℕ, ℤ, ◌⊎◌, Bool, not, List, Option, None, Some, is_some, length, min, bit_and, ◌==◌, ◌&&◌, if◌then◌else◌, nat_lt}
-use Rattle.mach_types.specs.Bits.{send_msg_option, rcv_msg_option, send_timeout_option, rcv_timeout_option, rcv_large_option}
+use Rattle.std.specs.Prelude.{◌≡◌, ℕ, ℤ, ◌⊎◌, not, List, Option, None, Some, is_some, length, min, ◌==◌, ◌&&◌, if◌then◌else◌, nat_lt}
+use Rattle.mach_types.specs.Bits.{rcv_msg_option, send_timeout_option, rcv_timeout_option}
 use Rattle.mach_types.specs.Codes.{kern_number, msg_number}
 use Rattle.mach_types.specs.TextGuards.{word_at}
 use Rattle.mach_types.specs.declared.codes.KernReturn.TheVariants.{InvalidArgument}
 use Rattle.mach_types.specs.declared.codes.MsgReturn.TheVariants.{SendTimedOut, SendNoBuffer}
 use Rattle.mach_types.specs.declared.calls.Event.{Event}
-use Rattle.mach_types.specs.declared.calls.Event.TheVariants.{Send, Receive, ReceiveAgain}
+use Rattle.mach_types.specs.declared.calls.Event.TheVariants.{Send}
 use Rattle.mach_types.specs.declared.calls.Reply.{Reply}
-use Rattle.mach_types.specs.declared.calls.Waited.{Waited}
 use Rattle.copyin_base.specs.Worlds.{space_at, entry_at}
-use Rattle.gelvonds_c.specs.declared.messages.WaitedFor.{WaitedFor}
-use Rattle.gelvonds_c.specs.declared.tries.MessageCall.{MessageCall}
+use Rattle.gelvonds_c_base.specs.declared.message_call.MessageCall.{MessageCall}
+use Rattle.gelvonds_c_base.specs.declared.waited.WaitedFor.{WaitedFor}
+use Rattle.gelvonds_c_base.specs.Answers.{c_waited}
+use Rattle.gelvonds_c_base.specs.Codes.{signed, no_answer, no_kernel, no_msg}
+use Rattle.gelvonds_c_base.specs.MessageCalls.{AreOptions, IsNoCall, IsReceipt, ahead, done, has, nowhere, to_receive, to_receive_again, to_send}
 use Rattle.gelvonds_c.specs.Held.{Kept}
 use Rattle.gelvonds_c.specs.Identities.{identity_or}
-use Rattle.gelvonds_c.specs.Calls.{Calls, IsWaited, IsNoKind, bytes_in, c_waited, code_for, length_or, no_answer, no_kernel, no_msg, received_into, signed, unmade}
-
--- ---- options
-
-abbrev pub has : (options option : ℕ) → Bool
-has options option = bit_and options option == option
-
--- the options without MACH_SEND_INTERRUPT and MACH_RCV_INTERRUPT, which interrupt nothing
-abbrev pub told : (options : ℕ) → ℕ
-told options = bit_and options 0xfffffbbf
-
--- no other option than the five
-abbrev pub AreOptions : (options : ℕ) → Type 0
-AreOptions options = bit_and options 0x913 ≡ options
-
--- ---- the struct: which try comes next
-
-abbrev pub done : ℕ
-done = 0  -- GELVONDS_MSG_DONE
-
-abbrev pub to_send : ℕ
-to_send = 1  -- GELVONDS_MSG_WAITS_FOR_ROOM
-
-abbrev pub to_receive : ℕ
-to_receive = 2  -- GELVONDS_MSG_SENT
-
-abbrev pub to_receive_again : ℕ
-to_receive_again = 3  -- GELVONDS_MSG_WAITS_FOR_MESSAGE
-
-abbrev pub nowhere : WaitedFor
-nowhere = record { identity = 0; kind = 0 }
-
--- The call with this try ahead, which waits for this; and so many bytes received, or needed.
-abbrev pub ahead : MessageCall → (state : ℕ) → WaitedFor → (count : ℕ) → MessageCall
-ahead call state waited count = record { state = state; task = call.task; name = call.name; options = call.options; length = count; waited = waited }
-
--- The first try: a send that is asked for, or else a receipt that is.
-abbrev pub first_try : (options : ℕ) → ℕ
-first_try options = if has options send_msg_option then to_send else if has options rcv_msg_option then to_receive else done
-
-abbrev pub opened : (task name options : ℕ) → MessageCall
-opened task name options = record { state = first_try options; task = task; name = name; options = options; length = 0; waited = nowhere }
+use Rattle.gelvonds_c.specs.Calls.{Calls, bytes_in, code_for, length_or, received_into, unmade}
 
 -- ---- a try to send
 
@@ -90,13 +51,6 @@ pub record TriesToSend (old : Kept) (call : MessageCall) (bytes : List ℕ) (cod
   pub call_is : after ≡ after_send call number (destination_at new call.task bytes)
 
 -- ---- a try to receive
-
--- The first receives from the name, a later one from what the one before named.
-abbrev pub IsReceipt : MessageCall → (room : ℕ) → Event → Type 0
-IsReceipt call room event =
-    (call.state ≡ to_receive) × (event ≡ Receive call.task call.name room (has call.options rcv_large_option))
-    ⊎ ((waited : Waited) × (call.state ≡ to_receive_again) × IsWaited call.waited.kind call.waited.identity waited
-    × (event ≡ ReceiveAgain call.task waited room (has call.options rcv_large_option)))
 
 -- Where no message is there it is tried again from what was named, unless there is to be one try.
 abbrev pub after_receipt : MessageCall → Option Reply → MessageCall
@@ -133,10 +87,6 @@ Begins old call bytes code new after buffer_before buffer_after =
     ¬ (AreOptions call.options) × Ends old call (kern_number InvalidArgument) code new after buffer_before buffer_after
     ⊎ AreOptions call.options × (call.state ≡ done) × Ends old call 0 code new after buffer_before buffer_after
     ⊎ AreOptions call.options × Tries old call bytes code new after buffer_before buffer_after
-
--- A struct without a try to come: no call was begun, or it has ended.
-abbrev pub IsNoCall : MessageCall → Type 0
-IsNoCall call = (call.state ≢ to_send) × (call.state ≢ to_receive) × ((call.state ≡ to_receive_again) → IsNoKind call.waited.kind)
 
 -- The next try is made. A struct without one, or with options that are none, is refused.
 abbrev pub GoesOn : (old : Kept) (call : MessageCall) (bytes : List ℕ) (code : ℤ) (new : Kept) (after : MessageCall) (buffer_before buffer_after : List ℕ) → Type 0

@@ -1,9 +1,10 @@
 //! One call by a handle, and the answers that are a code or a number.
 ghost use Rattle.std.specs.Prelude.{◌≡◌, ℕ, MatchOption};
-ghost use Rattle.gelvonds_c.specs.Calls.{Calls, Asks, Tells, number_or, code_for, signed, unmade};
+ghost use Rattle.gelvonds_c_base.specs.Codes.{signed};
+ghost use Rattle.gelvonds_c.specs.Calls.{Calls, Asks, Tells, number_or, code_for, unmade};
 
-use crate::codes::{NO_ANSWER, NO_KERNEL, SUCCESS};
 use crate::handle::Handle;
+use gelvonds_c_base::codes::{NO_ANSWER, NO_KERNEL, SUCCESS};
 use mach_types::{Event, MsgReturn, Reply};
 use std::alloc::Global;
 

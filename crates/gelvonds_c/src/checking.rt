@@ -2,7 +2,7 @@
 ghost use Rattle.std.specs.Prelude.{◌≡◌, ◌⊎◌, IfSome};
 ghost use Rattle.gelvonds_c.specs.Checking.{IsVerdict, Judges};
 
-use crate::codes::SUCCESS;
+use gelvonds_c_base::codes::SUCCESS;
 use mach_types::KernReturn;
 use std::alloc::Global;
 use tracer::{CheckFault, HistoryFault, check, read_history};

@@ -6,8 +6,8 @@ ghost use Rattle.mach_types.specs.declared.codes.KernReturn.TheVariants.{Resourc
 ghost use Rattle.mach_types.specs.Codes.{kern_number};
 ghost use Rattle.gelvonds_c.specs.Recording.{IsHeadingOf, KeepsEntries, PutsLine, PutsNothing, TellsEntry, TellsHeading, TellsLast};
 
-use crate::codes::{NO_ENTRY, NO_KERNEL, SUCCESS, TOO_SHORT};
 use crate::handle::Handle;
+use gelvonds_c_base::codes::{NO_ENTRY, NO_KERNEL, SUCCESS, TOO_SHORT};
 use kernel_lock::Entry;
 use kernel_record::{LastCall, RecordedKernel};
 use mach_types::{KernReturn, Profile};

@@ -1,22 +1,15 @@
 //! Which port or set is under a name.
 ghost use Rattle.std.specs.Prelude.{◌≡◌, is_some};
 ghost use Rattle.copyin_base.specs.Worlds.{entry_at, space_at};
-ghost use Rattle.gelvonds_c.specs.Calls.{signed};
-ghost use Rattle.gelvonds_c.specs.Identities.{TellsIdentity, identity_code, identity_of, identity_or};
+ghost use Rattle.gelvonds_c_base.specs.Codes.{signed};
+ghost use Rattle.gelvonds_c.specs.Identities.{TellsIdentity, identity_code, identity_or};
 
-use crate::codes::{NO_KERNEL, SUCCESS};
 use crate::handle::Handle;
-use crate::messages::WaitedFor;
 use copyin_base::World;
+use gelvonds_c_base::codes::{NO_KERNEL, SUCCESS};
+use gelvonds_c_base::{WaitedFor, identity};
 use mach_types::{KernReturn, Name, TaskId};
-use name_space::Entry;
 use std::alloc::Global;
-
-const PORT: u32 = 1;
-
-const SET: u32 = 2;
-
-const DEAD: u32 = 3;
 
 /// Writes which port or set is under the task's name, by identity.
 ///
@@ -56,28 +49,5 @@ fn tell_identity(world: &World, task: TaskId, name: Name, found: &mut WaitedFor)
             SUCCESS
         }
         None => KernReturn::InvalidName.number().cast_signed(),
-    }
-}
-
-/// Which port or set this is, for C.
-fn identity(entry: &Entry) -> WaitedFor
-    ensures { result ≡ identity_of entry.now }
-{
-    match entry {
-        Entry::Receive(port)
-        | Entry::Send(port, _)
-        | Entry::ReceiveAndSend(port, _)
-        | Entry::SendOnce(port) => WaitedFor {
-            identity: port.number(),
-            kind: PORT,
-        },
-        Entry::DeadName(_) => WaitedFor {
-            identity: 0,
-            kind: DEAD,
-        },
-        Entry::Set(set) => WaitedFor {
-            identity: set.number(),
-            kind: SET,
-        },
     }
 }

@@ -14,7 +14,6 @@ ghost use Rattle.gelvonds_c.specs.Making.{IsProfileOf, Makes, TellsProfile, prof
 
 mod call;
 mod checking;
-mod codes;
 mod entries;
 mod handle;
 mod identities;
@@ -29,8 +28,8 @@ mod touched;
 mod transfers;
 mod tries;
 
-use crate::codes::{IN_USE, NO_KERNEL, SUCCESS};
 use crate::handle::Handle;
+use gelvonds_c_base::codes::{IN_USE, NO_KERNEL, SUCCESS};
 use kernel_record::RecordedKernel;
 use mach_types::{KernReturn, Profile};
 use std::alloc::Global;

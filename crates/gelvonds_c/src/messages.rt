@@ -4,27 +4,16 @@ ghost use Rattle.mach_types.specs.declared.calls.Event.TheVariants.{Send, Receiv
 ghost use Rattle.mach_types.specs.declared.calls.Waited.{Waited};
 ghost use Rattle.mach_types.specs.declared.codes.MsgReturn.TheVariants.{SendNoBuffer};
 ghost use Rattle.mach_types.specs.Codes.{msg_number};
-ghost use Rattle.gelvonds_c.specs.Calls.{Asks, Receives, IsWaited, IsNoKind, bytes_in, c_waited, code_for, length_or, no_answer, no_waited, received_into, signed, unmade, waited_or};
+ghost use Rattle.gelvonds_c_base.specs.Answers.{IsWaited, IsNoKind, c_waited};
+ghost use Rattle.gelvonds_c_base.specs.Codes.{no_answer, no_waited, signed};
+ghost use Rattle.gelvonds_c.specs.Calls.{Asks, Receives, bytes_in, code_for, length_or, received_into, unmade, waited_or};
 
 use crate::call::{call, code, code_of, miss};
-use crate::codes::{NO_ANSWER, NO_WAITED, SUCCESS};
 use crate::handle::Handle;
-use mach_types::{Bytes, Event, MsgReturn, Name, PortId, Reply, SetId, TaskId, Waited};
+use gelvonds_c_base::codes::{NO_ANSWER, NO_WAITED, SUCCESS};
+use gelvonds_c_base::{WaitedFor, waited_before, waited_for};
+use mach_types::{Bytes, Event, MsgReturn, Name, Reply, TaskId};
 use std::alloc::Global;
-
-const PORT: u32 = 1;
-
-const SET: u32 = 2;
-
-/// What a receive waited for, by identity.
-#[repr(C)]
-#[derive(Clone, Copy)]
-pub struct WaitedFor {
-    /// The identity.
-    pub identity: u64,
-    /// 1 for a port, 2 for a set.
-    pub kind: u32,
-}
 
 /// `mach_msg` with `MACH_SEND_MSG`, that doesn't wait.
 #[unsafe(no_mangle)]
@@ -89,33 +78,6 @@ pub(crate) fn room_of(places: usize) -> u32
     ensures { result ≡ min places 4294967295 }
 {
     u32::try_from(places).unwrap_or(u32::MAX)
-}
-
-/// What was waited for, where its kind is one.
-pub(crate) fn waited_before(waited: &WaitedFor) -> Option<Waited>
-    ensures { MatchOption result (IsNoKind waited.now.kind) (λ w. IsWaited waited.now.kind waited.now.identity w) }
-{
-    match waited.kind {
-        PORT => Some(Waited::Port(PortId::new(waited.identity))),
-        SET => Some(Waited::Set(SetId::new(waited.identity))),
-        _ => None,
-    }
-}
-
-/// What was waited for, for C.
-pub(crate) fn waited_for(waited: &Waited) -> WaitedFor
-    ensures { result ≡ c_waited waited.now }
-{
-    match waited {
-        Waited::Port(port) => WaitedFor {
-            identity: port.number(),
-            kind: PORT,
-        },
-        Waited::Set(set) => WaitedFor {
-            identity: set.number(),
-            kind: SET,
-        },
-    }
 }
 
 /// Writes what a receive answers, and returns its code.

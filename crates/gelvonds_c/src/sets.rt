@@ -1,11 +1,12 @@
 //! Calls of port sets.
 ghost use Rattle.std.specs.Prelude.{◌≡◌, length, if◌then◌else◌, nat_lt};
 ghost use Rattle.mach_types.specs.declared.calls.Event.TheVariants.{MoveMember, SetStatus};
-ghost use Rattle.gelvonds_c.specs.Calls.{Asks, ListsMembers, put_list, signed, too_short};
+ghost use Rattle.gelvonds_c_base.specs.Codes.{signed, too_short};
+ghost use Rattle.gelvonds_c.specs.Calls.{Asks, ListsMembers, put_list};
 
 use crate::call::{call, code, code_of};
-use crate::codes::{SUCCESS, TOO_SHORT};
 use crate::handle::Handle;
+use gelvonds_c_base::codes::{SUCCESS, TOO_SHORT};
 use mach_types::{Event, Name, Reply, TaskId};
 use std::alloc::Global;
 

@@ -3,111 +3,20 @@
 //! A static library neither sleeps nor locks. So each function makes one try at most, and leaves in the caller's
 //! [`MessageCall`] which try comes next. They are the tries of `mach_msg` of the crate `mach_msg_threads`, which waits
 //! itself.
-ghost use Rattle.std.specs.Prelude.{◌≡◌, ◌↔◌, ◌⊎◌, IsTrue, MatchOption};
+ghost use Rattle.std.specs.Prelude.{◌≡◌};
+ghost use Rattle.gelvonds_c_base.specs.MessageCalls.{AreOptions, ahead, done, nowhere, opened, told};
 ghost use Rattle.gelvonds_c.specs.Calls.{unmade};
-ghost use Rattle.gelvonds_c.specs.Trying.{AreOptions, Begins, GoesOn, IsNoCall, IsReceipt, Sends, TriesToReceive, TriesToSend, ahead, destination_at, done, first_try, has, nowhere, opened, sent_code, told};
+ghost use Rattle.gelvonds_c.specs.Trying.{Begins, GoesOn, Sends, TriesToReceive, TriesToSend, destination_at, sent_code};
 
 use crate::call::{call, miss};
-use crate::codes::{NO_ANSWER, NO_KERNEL, NO_MSG, SUCCESS};
 use crate::handle::Handle;
 use crate::identities::gelvonds_port_identity;
-use crate::messages::{WaitedFor, received, room_of, waited_before, waited_for};
-use mach_types::{Bytes, Event, KernReturn, MsgReturn, Name, Reply, TaskId};
+use crate::messages::{received, room_of};
+use gelvonds_c_base::codes::{NO_ANSWER, NO_KERNEL, NO_MSG, SUCCESS};
+use gelvonds_c_base::{MessageCall, NOWHERE, WaitedFor, waited_for};
+use mach_types::{Bytes, Event, KernReturn, MsgReturn, Reply, TaskId};
 use std::alloc::Global;
 use type_descriptor::read_word;
-
-const SEND: u32 = 0x1;
-
-const RECEIVE: u32 = 0x2;
-
-const SEND_TIMEOUT: u32 = 0x10;
-
-const RECEIVE_TIMEOUT: u32 = 0x100;
-
-const RECEIVE_LARGE: u32 = 0x800;
-
-/// All options that a call may have, but for those of interruption.
-const ALL: u32 = 0x913;
-
-/// The options but `MACH_SEND_INTERRUPT` and `MACH_RCV_INTERRUPT`, which interrupt nothing.
-const BUT_INTERRUPTS: u32 = 0xffff_fbbf;
-
-/// The call has ended.
-const DONE: u32 = 0;
-
-/// The queue is full: the next try sends again.
-const TO_SEND: u32 = 1;
-
-/// The message is sent: the next try receives.
-const TO_RECEIVE: u32 = 2;
-
-/// There was no message: the next try receives from what the one before named.
-const TO_RECEIVE_AGAIN: u32 = 3;
-
-/// Neither a port nor a set.
-const NOWHERE: WaitedFor = WaitedFor {
-    identity: 0,
-    kind: 0,
-};
-
-/// A message call that may have tries to come.
-#[repr(C)]
-#[derive(Clone, Copy)]
-pub struct MessageCall {
-    /// Which try comes next, or 0 for none.
-    pub state: u32,
-    /// The task that sends and receives.
-    pub task: u32,
-    /// The name that is received from.
-    pub name: u32,
-    /// The options, but for those of interruption.
-    pub options: u32,
-    /// How many bytes were received, or are needed; else 0.
-    pub length: usize,
-    /// What the call waits for, or the kind 0.
-    pub waited: WaitedFor,
-}
-
-impl MessageCall {
-    /// A call with its first try ahead.
-    fn opened(task: u32, name: u32, options: u32) -> MessageCall
-        ensures { result ≡ opened task name options }
-    {
-        MessageCall {
-            state: first_try(options),
-            task,
-            name,
-            options,
-            length: 0,
-            waited: NOWHERE,
-        }
-    }
-
-    /// Sets which try is ahead, and what was received.
-    fn set(&mut self, state: u32, waited: WaitedFor, count: usize)
-        ensures { self.new ≡ ahead self.old state waited count }
-    {
-        self.state = state;
-        self.waited = waited;
-        self.length = count;
-    }
-
-    /// The event of the next try, where that is a receipt.
-    fn receipt(&self, room: u32) -> Option<Event>
-        ensures { MatchOption result ((self.now.state ≡ 1) ⊎ IsNoCall self.now) (λ event. IsReceipt self.now room event) }
-    {
-        let task = TaskId::new(self.task);
-        let large = has(self.options, RECEIVE_LARGE);
-        match self.state {
-            TO_RECEIVE => Some(Event::Receive(task, Name::new(self.name), room, large)),
-            TO_RECEIVE_AGAIN => match waited_before(&self.waited) {
-                Some(before) => Some(Event::ReceiveAgain(task, before, room, large)),
-                None => None,
-            },
-            _ => None,
-        }
-    }
-}
 
 /// Begins `mach_msg`, and makes its first try: a send that is asked for, or else a receipt that is.
 ///
@@ -128,12 +37,12 @@ pub extern "C" fn gelvonds_msg_begin(
 ) -> i32
     ensures { Begins handle.old.kernel (opened task name (told options)) bytes.now result handle.new.kernel msg.new buffer.old buffer.new }
 {
-    *msg = MessageCall::opened(task, name, options & BUT_INTERRUPTS);
-    if !are_options(msg.options) {
+    *msg = MessageCall::opened(task, name, options);
+    if !msg.has_lawful_options() {
         let code = KernReturn::InvalidArgument.number().cast_signed();
         return end(alloc, handle, msg, code);
     }
-    if msg.state == DONE {
+    if msg.has_ended() {
         return end(alloc, handle, msg, SUCCESS);
     }
     go_on(alloc, handle, msg, bytes, buffer)
@@ -153,7 +62,7 @@ pub extern "C" fn gelvonds_msg_next(
 ) -> i32
     ensures { GoesOn handle.old.kernel msg.old bytes.now result handle.new.kernel msg.new buffer.old buffer.new }
 {
-    if !are_options(msg.options) {
+    if !msg.has_lawful_options() {
         return end(alloc, handle, msg, NO_MSG);
     }
     go_on(alloc, handle, msg, bytes, buffer)
@@ -170,7 +79,7 @@ fn go_on(
     requires { AreOptions msg.old.options }
     ensures { GoesOn handle.old.kernel msg.old bytes.now result handle.new.kernel msg.new buffer.old buffer.new }
 {
-    if msg.state == TO_SEND {
+    if msg.is_to_send() {
         return send(alloc, handle, msg, bytes);
     }
     match msg.receipt(room_of(buffer.len())) {
@@ -186,7 +95,7 @@ fn end(alloc: Global, handle: &mut Handle, msg: &mut MessageCall, code: i32) -> 
     ensures call { msg.new ≡ ahead msg.old done nowhere 0 }
 {
     miss(alloc, handle);
-    msg.set(DONE, NOWHERE, 0);
+    msg.end(0);
     code
 }
 
@@ -195,13 +104,13 @@ fn send(alloc: Global, handle: &mut Handle, msg: &mut MessageCall, bytes: &[u8])
     ensures { TriesToSend handle.old.kernel msg.old bytes.now result handle.new.kernel msg.new }
 {
     let code = sent(alloc, handle, msg.task, bytes);
-    if code == MsgReturn::SendTimedOut.number() && !has(msg.options, SEND_TIMEOUT) {
+    if code == MsgReturn::SendTimedOut.number() && !msg.sends_once() {
         let destination = destination(alloc, handle, msg.task, bytes);
-        msg.set(TO_SEND, destination, 0);
-    } else if code == 0 && has(msg.options, RECEIVE) {
-        msg.set(TO_RECEIVE, NOWHERE, 0);
+        msg.wait_for_room(destination);
+    } else if code == 0 && msg.receives() {
+        msg.go_on_to_receive();
     } else {
-        msg.set(DONE, NOWHERE, 0);
+        msg.end(0);
     }
     code.cast_signed()
 }
@@ -261,37 +170,10 @@ fn receive(
     let mut waited = NOWHERE;
     let code = received(&reply, buffer, &mut length, &mut waited);
     match &reply {
-        Some(Reply::Empty(found)) if !has(msg.options, RECEIVE_TIMEOUT) => {
-            msg.set(TO_RECEIVE_AGAIN, waited_for(found), 0);
+        Some(Reply::Empty(found)) if !msg.receives_once() => {
+            msg.wait_for_message(waited_for(found));
         }
-        _ => msg.set(DONE, NOWHERE, length),
+        _ => msg.end(length),
     }
     code
-}
-
-/// Whether there is no other option than the five.
-fn are_options(options: u32) -> bool
-    ensures { IsTrue result ↔ AreOptions options }
-{
-    options & ALL == options
-}
-
-/// Whether the option is among these.
-fn has(options: u32, option: u32) -> bool
-    ensures { result ≡ has options option }
-{
-    options & option == option
-}
-
-/// The first try: of a send that is asked for, or else of a receipt that is.
-fn first_try(options: u32) -> u32
-    ensures { result ≡ first_try options }
-{
-    if has(options, SEND) {
-        TO_SEND
-    } else if has(options, RECEIVE) {
-        TO_RECEIVE
-    } else {
-        DONE
-    }
 }

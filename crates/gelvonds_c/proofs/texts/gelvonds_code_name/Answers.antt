@@ -1,6 +1,6 @@
 use Rattle.std.proofs.Common.{◌≡◌, ℕ, subst, rules, w32}
 use Rattle.std.specs.Int.{cast_unsigned}
-use Rattle.gelvonds_c.specs.Texts.{IsCalled}
+use Rattle.gelvonds_c_base.specs.Codes.{IsCalled}
 use Rattle.gelvonds_c.proofs.texts.gelvonds_code_name.Goals as goal
 
 pub returns-clause-called : goal.returns-clause-called
