@@ -2,10 +2,10 @@
  *
  * Each function from gelvonds_task_create on makes one call of a task, by the kernel's own step, and answers its
  * code: Mach's number, or one of the library's own (GELVONDS_..). The last two, gelvonds_msg_begin and
- * gelvonds_msg_next, make at most one. The functions before gelvonds_task_create make and end a kernel,
- * and tell its profile, which port a name is, the version, and the name of a code. The Mach calls are those of Keith Loepere, Mach 3
- * Kernel Interfaces (1992), in the chapter that each comment names; docs/CALLS.md says what each does and which
- * refusal comes first. docs/EMBEDDING.md says how to build and link.
+ * gelvonds_msg_next, make at most one. The functions before gelvonds_task_create make and end a kernel, tell its
+ * profile, which port a name is, the lines of its history, the version and the name of a code, and judge a history.
+ * The Mach calls are those of Keith Loepere, Mach 3 Kernel Interfaces (1992), in the chapter that each comment names;
+ * docs/CALLS.md says what each does and which refusal comes first. docs/EMBEDDING.md says how to build and link.
  *
  * Each of the functions that make a call, but gelvonds_receive_again, may also answer
  *   GELVONDS_NO_KERNEL  the handle holds no kernel

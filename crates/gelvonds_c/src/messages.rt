@@ -8,7 +8,7 @@ ghost use Rattle.gelvonds_c_base.specs.Answers.{IsWaited, IsNoKind, c_waited};
 ghost use Rattle.gelvonds_c_base.specs.Codes.{no_answer, no_waited, signed};
 ghost use Rattle.gelvonds_c.specs.Calls.{Asks, Receives, bytes_in, code_for, length_or, received_into, unmade, waited_or};
 
-use crate::call::{call, code, code_of, miss};
+use crate::call::{call, code_of, miss};
 use crate::handle::Handle;
 use gelvonds_c_base::codes::{NO_ANSWER, NO_WAITED, SUCCESS};
 use gelvonds_c_base::{WaitedFor, waited_before, waited_for};
@@ -23,7 +23,7 @@ pub extern "C" fn gelvonds_send(alloc: Global, handle: &mut Handle, task: u32, b
     match Vec::from_slice(alloc, bytes) {
         Ok(copy) => {
             let event = Event::Send(TaskId::new(task), Bytes::from_vec(copy));
-            code(alloc, handle, &event)
+            code_of(&call(alloc, handle, &event))
         }
         Err(_) => {
             miss(alloc, handle);
