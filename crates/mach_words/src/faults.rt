@@ -1,5 +1,6 @@
 //! Why bytes are no message that can be sent, and that in words.
 use crate::data::word_at;
+use crate::phrase::Phrase;
 use mach_types::limits::MOST_BYTES;
 use std::io;
 use std::io::Write;
@@ -193,56 +194,73 @@ fn read_long(rest: &[u8]) -> Descriptor<'_> {
 /// Fails where `out` does; what was written before stays. Constant time; takes no memory.
 pub fn write_message_fault<W: Write>(fault: MessageFault, out: &mut W) -> io::Result<()> {
     match fault {
-        MessageFault::Length(length) => {
-            write!(
-                out,
-                "the message has {length} bytes; messages have 24 or more, a multiple of 4"
-            )
-        }
-        MessageFault::TooLong(length) => {
-            write!(out, "the message has {length} bytes, more than 65536")
-        }
-        MessageFault::Bits(bits) => {
-            write!(out, "bytes 0 to 3: no header has the bits {bits:08x}")
-        }
-        MessageFault::Destination(number) => write!(
-            out,
-            "byte 0: the destination's disposition is {number}; it is 17 to 21"
-        ),
-        MessageFault::Answer(number) => write!(
-            out,
-            "byte 1: the answer's disposition is {number}; it is 0 or 17 to 21"
-        ),
-        MessageFault::AnswerPort(name) => write!(
-            out,
-            "bytes 12 to 15: an answer port {name} without a disposition in byte 1"
-        ),
+        MessageFault::Bits(bits) => write!(out, "bytes 0 to 3: no header has the bits {bits:08x}"),
         MessageFault::Item(item, at, fault) => {
-            write!(out, "item {item}, at byte {at}: ")?;
-            write_item_fault(fault, out)
+            Phrase::two("item ", u64::from(item), ", at byte ", at as u64, ": ").write(out)?;
+            item_phrase(fault).write(out)
         }
+        _ => message_phrase(fault).write(out),
     }
 }
 
-/// Writes what is wrong with an item.
-fn write_item_fault<W: Write>(fault: ItemFault, out: &mut W) -> io::Result<()> {
+/// Returns the words for a fault that is about one decimal number.
+fn message_phrase(fault: MessageFault) -> Phrase {
+    match fault {
+        MessageFault::Length(length) => Phrase::one(
+            "the message has ",
+            length as u64,
+            " bytes; messages have 24 or more, a multiple of 4",
+        ),
+        MessageFault::TooLong(length) => {
+            Phrase::one("the message has ", length as u64, " bytes, more than 65536")
+        }
+        MessageFault::Destination(number) => Phrase::one(
+            "byte 0: the destination's disposition is ",
+            u64::from(number),
+            "; it is 17 to 21",
+        ),
+        MessageFault::Answer(number) => Phrase::one(
+            "byte 1: the answer's disposition is ",
+            u64::from(number),
+            "; it is 0 or 17 to 21",
+        ),
+        MessageFault::AnswerPort(name) => Phrase::one(
+            "bytes 12 to 15: an answer port ",
+            u64::from(name),
+            " without a disposition in byte 1",
+        ),
+        MessageFault::Bits(_) | MessageFault::Item(..) => Phrase::words(""),
+    }
+}
+
+/// Returns the words for what is wrong with an item.
+fn item_phrase(fault: ItemFault) -> Phrase {
     match fault {
         ItemFault::LongEnds(left) => {
-            write!(out, "a long descriptor has 12 bytes, and {left} are left")
+            Phrase::one(
+                "a long descriptor has 12 bytes, and ",
+                left as u64,
+                " are left",
+            )
         }
-        ItemFault::OutOfLine => out.write_all(
-            b"the bit inline is clear; data out of line is not there",
-        ),
-        ItemFault::Deallocates => out.write_all(b"the bit deallocate is set"),
-        ItemFault::Unused => out.write_all(b"the unused bit is set"),
+        ItemFault::OutOfLine => {
+            Phrase::words("the bit inline is clear; data out of line is not there")
+        }
+        ItemFault::Deallocates => Phrase::words("the bit deallocate is set"),
+        ItemFault::Unused => Phrase::words("the unused bit is set"),
         ItemFault::LongFields => {
-            out.write_all(b"a long descriptor whose short fields are not all 0")
+            Phrase::words("a long descriptor whose short fields are not all 0")
         }
-        ItemFault::PortSize(size) => write!(out, "port names of {size} bits; they have 32"),
-        ItemFault::Type(number) => write!(out, "the type {number} is above 255"),
-        ItemFault::DataEnds(bytes, past) => write!(
-            out,
-            "its {bytes} bytes of data end {past} bytes past the end of the message"
+        ItemFault::PortSize(size) => {
+            Phrase::one("port names of ", u64::from(size), " bits; they have 32")
+        }
+        ItemFault::Type(number) => Phrase::one("the type ", u64::from(number), " is above 255"),
+        ItemFault::DataEnds(bytes, past) => Phrase::two(
+            "its ",
+            bytes,
+            " bytes of data end ",
+            past,
+            " bytes past the end of the message",
         ),
     }
 }

@@ -7,6 +7,7 @@ mod events;
 mod faults;
 mod labels;
 mod numbers;
+mod phrase;
 
 pub use data::{word_at, write_data, write_plain};
 pub use events::task_of;
@@ -16,3 +17,4 @@ pub use numbers::{
     disposition_name, is_notice, kind_word, notice_word, right_word, write_code, write_right_name,
     write_type,
 };
+pub use phrase::Phrase;
