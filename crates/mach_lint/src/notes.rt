@@ -1,6 +1,6 @@
 //! Notes: what is suspicious about a line that is a call.
 use mach_types::{Disposition, Event, TaskId};
-use mach_words::{MessageFault, message_fault, task_of, word_at, write_message_fault};
+use mach_words::{MessageFault, Phrase, message_fault, task_of, word_at, write_message_fault};
 use std::io;
 use std::io::Write;
 use tracer_base::ScriptLine;
@@ -125,35 +125,54 @@ fn send_note(bytes: &[u8]) -> Option<Note> {
 /// Fails where `out` does; what was written before stays. Constant time; takes no memory.
 pub fn write_note<W: Write>(note: &Note, out: &mut W) -> io::Result<()> {
     match note {
-        Note::NoTask(task, 0) => write!(
-            out,
-            "task {task} is not made before this line; no task is"
-        ),
-        Note::NoTask(task, made) => write!(
-            out,
-            "task {task} is not made before this line; tasks are 0 to {}",
-            made.saturating_sub(1)
-        ),
-        Note::NotMade(right) => write!(
-            out,
-            "word 3: right {right} cannot be made: KERN_INVALID_VALUE; 1 is a port, 3 a set, 4 a dead name"
-        ),
-        Note::NoDisposition(word, number) => {
-            write!(
-                out,
-                "word {word}: {number} is no disposition; they are 16 to 21"
-            )
-        }
-        Note::Options(options) => {
-            write!(
-                out,
-                "word 3: the option {options} is none of 1, 2, 16, 256, 2048"
-            )
-        }
         Note::Message(fault) => write_message_fault(*fault, out),
-        Note::Size(size, length) => write!(
-            out,
-            "the size word says {size}, the message has {length} bytes (nobody looks at it)"
-        ),
+        _ => note_phrase(note).write(out),
     }
+}
+
+/// Returns the words for a note that is about numbers.
+fn note_phrase(note: &Note) -> Phrase {
+    match note {
+        Note::NoTask(task, made) => no_task(*task, *made),
+        Note::NotMade(right) => Phrase::one(
+            "word 3: right ",
+            u64::from(*right),
+            " cannot be made: KERN_INVALID_VALUE; 1 is a port, 3 a set, 4 a dead name",
+        ),
+        Note::NoDisposition(word, number) => Phrase::two(
+            "word ",
+            u64::from(*word),
+            ": ",
+            u64::from(*number),
+            " is no disposition; they are 16 to 21",
+        ),
+        Note::Options(options) => Phrase::one(
+            "word 3: the option ",
+            u64::from(*options),
+            " is none of 1, 2, 16, 256, 2048",
+        ),
+        Note::Size(size, length) => Phrase::two(
+            "the size word says ",
+            u64::from(*size),
+            ", the message has ",
+            *length as u64,
+            " bytes (nobody looks at it)",
+        ),
+        Note::Message(_) => Phrase::words(""),
+    }
+}
+
+/// Returns the words for a task that isn't made before the line, where so many are.
+fn no_task(task: u32, made: u32) -> Phrase {
+    let number = u64::from(task);
+    if made == 0 {
+        return Phrase::one("task ", number, " is not made before this line; no task is");
+    }
+    Phrase::two(
+        "task ",
+        number,
+        " is not made before this line; tasks are 0 to ",
+        u64::from(made.saturating_sub(1)),
+        "",
+    )
 }

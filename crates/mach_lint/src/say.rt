@@ -1,6 +1,6 @@
 //! Faults in words.
 use crate::fault::{Fault, NumberFault, WordFault};
-use mach_words::write_plain;
+use mach_words::{Phrase, write_plain};
 use std::io;
 use std::io::Write;
 
@@ -9,85 +9,111 @@ use std::io::Write;
 /// Fails where `out` does; what was written before stays. Linear in the word that the fault shows; takes no memory.
 pub fn write_fault<W: Write>(fault: &Fault<'_>, out: &mut W) -> io::Result<()> {
     match fault {
-        Fault::NoCall(number, word, near) => write_unknown(*number, word, "call", *near, out),
-        Fault::NoReply(number, word, near) => write_unknown(*number, word, "reply", *near, out),
+        Fault::NoCall(number, word, near) => write_unknown(
+            *number,
+            word,
+            ", is no call",
+            *near,
+            out,
+        ),
+        Fault::NoReply(number, word, near) => write_unknown(
+            *number,
+            word,
+            ", is no reply",
+            *near,
+            out,
+        ),
         Fault::Arguments(call, arguments, has) => write_arguments(call, arguments, *has, out),
-        Fault::Word(number, fault) => {
-            write!(out, "word {number}: ")?;
-            write_word_fault(fault, out)
-        }
-        Fault::ThreadNumber(number) => {
-            write!(out, "word 2: N is {number}; blocks are numbered 1 to 64")
-        }
-        Fault::ThreadTwice(number, line) => {
-            write!(out, "word 2: thread {number} began in line {line} already")
-        }
-        Fault::NoRecord(number) => write!(
-            out,
-            "word {number}: 'norecord' is no reply of a history: such a call was not made"
-        ),
-        Fault::ScriptLine(word) => {
-            out.write_all(b"word 2: '")?;
-            write_plain(word, out)?;
-            out.write_all(b"' is a line of a script; a history has the calls that it made")
-        }
-        Fault::Heading => {
-            out.write_all(
-                b"the first line is not 'mach-history 1' or 'mach-history 2' and its line feed",
-            )
-        }
-        Fault::NoArrow => out.write_all(b"no ' -> ' between call and reply"),
-        Fault::TwoArrows => out.write_all(b"more than one ' -> ' between call and reply"),
-        Fault::CallWanted => out.write_all(b"a call is wanted behind the caller"),
-        _ => write_shape(fault, out),
+        Fault::Word(number, fault) => write_word_fault(*number, fault, out),
+        Fault::ScriptLine(word) => write_script_line(word, out),
+        Fault::NoText(column, byte) => write_no_text(*column, *byte, out),
+        _ => line_phrase(fault).write(out),
     }
 }
 
-/// Writes the fault of a line's shape.
-fn write_shape<W: Write>(fault: &Fault<'_>, out: &mut W) -> io::Result<()> {
+/// Returns the words for a fault of the line that shows no bytes of it.
+fn line_phrase(fault: &Fault<'_>) -> Phrase {
     match fault {
-        Fault::Empty => out.write_all(b"the line is empty; no line may be"),
-        Fault::CarriageReturn(column) => write!(
-            out,
-            "a carriage return at column {column}: lines end in a line feed alone"
+        Fault::ThreadNumber(number) => Phrase::one(
+            "word 2: N is ",
+            u64::from(*number),
+            "; blocks are numbered 1 to 64",
         ),
-        Fault::Tab(column) => {
-            write!(
-                out,
-                "a tab at column {column}: words are parted by one space"
-            )
-        }
-        Fault::Comment => out.write_all(b"a comment: there are none"),
-        Fault::SpaceBefore => out.write_all(b"a space before the first word"),
-        Fault::SpaceBehind => out.write_all(b"a space behind the last word"),
-        Fault::TwoSpaces(column) => {
-            write!(
-                out,
-                "two spaces at column {column}: words are parted by one"
-            )
-        }
-        Fault::NoText(column, byte) => {
-            write!(
-                out,
-                "the byte {byte:02x} at column {column} is no printable ASCII"
-            )
-        }
-        Fault::NoLineFeed => out.write_all(b"the last line has no line feed"),
-        _ => out.write_all(b"nothing can be read here"),
+        Fault::ThreadTwice(number, line) => Phrase::two(
+            "word 2: thread ",
+            u64::from(*number),
+            " began in line ",
+            *line,
+            " already",
+        ),
+        Fault::NoRecord(number) => Phrase::one(
+            "word ",
+            *number as u64,
+            ": 'norecord' is no reply of a history: such a call was not made",
+        ),
+        Fault::CarriageReturn(column) => Phrase::one(
+            "a carriage return at column ",
+            *column as u64,
+            ": lines end in a line feed alone",
+        ),
+        Fault::Tab(column) => Phrase::one(
+            "a tab at column ",
+            *column as u64,
+            ": words are parted by one space",
+        ),
+        Fault::TwoSpaces(column) => Phrase::one(
+            "two spaces at column ",
+            *column as u64,
+            ": words are parted by one",
+        ),
+        _ => Phrase::words(line_words(fault)),
     }
 }
 
-/// Writes that a word is no call or no reply, and which is near.
+/// Returns the words for a fault that has no number.
+fn line_words(fault: &Fault<'_>) -> &'static str {
+    match fault {
+        Fault::Heading => {
+            "the first line is not 'mach-history 1' or 'mach-history 2' and its line feed"
+        }
+        Fault::NoArrow => "no ' -> ' between call and reply",
+        Fault::TwoArrows => "more than one ' -> ' between call and reply",
+        Fault::CallWanted => "a call is wanted behind the caller",
+        Fault::Empty => "the line is empty; no line may be",
+        Fault::Comment => "a comment: there are none",
+        Fault::SpaceBefore => "a space before the first word",
+        Fault::SpaceBehind => "a space behind the last word",
+        Fault::NoLineFeed => "the last line has no line feed",
+        _ => "nothing can be read here",
+    }
+}
+
+/// Writes that a byte is no printable ASCII.
+fn write_no_text<W: Write>(column: usize, byte: u8, out: &mut W) -> io::Result<()> {
+    write!(
+        out,
+        "the byte {byte:02x} at column {column} is no printable ASCII"
+    )
+}
+
+/// Writes that a history has a line of a script.
+fn write_script_line<W: Write>(word: &[u8], out: &mut W) -> io::Result<()> {
+    out.write_all(b"word 2: ")?;
+    write_quoted(word, out)?;
+    out.write_all(b" is a line of a script; a history has the calls that it made")
+}
+
+/// Writes that a word is no call or no reply, as `what` says, and which is near.
 fn write_unknown<W: Write>(
     number: usize,
     word: &[u8],
-    kind: &str,
+    what: &str,
     near: Option<&'static str>,
     out: &mut W,
 ) -> io::Result<()> {
-    write!(out, "word {number}, '")?;
-    write_plain(word, out)?;
-    write!(out, "', is no {kind}")?;
+    Phrase::one("word ", number as u64, ", ").write(out)?;
+    write_quoted(word, out)?;
+    out.write_all(what.as_bytes())?;
     match near {
         Some(meant) => write!(out, "; is '{meant}' meant?"),
         None => Ok(()),
@@ -101,13 +127,9 @@ fn write_arguments<W: Write>(
     has: usize,
     out: &mut W,
 ) -> io::Result<()> {
-    out.write_all(b"'")?;
-    write_plain(call, out)?;
-    if arguments.is_empty() {
-        out.write_all(b"' has no arguments")?;
-    } else {
-        write!(out, "' has the arguments {arguments}")?;
-    }
+    write_quoted(call, out)?;
+    out.write_all(list_words(arguments).as_bytes())?;
+    out.write_all(arguments.as_bytes())?;
     match has {
         0 => out.write_all(b"; here is none"),
         1 => out.write_all(b"; here is 1"),
@@ -115,39 +137,43 @@ fn write_arguments<W: Write>(
     }
 }
 
-/// Writes the fault of a word.
-fn write_word_fault<W: Write>(fault: &WordFault<'_>, out: &mut W) -> io::Result<()> {
-    match fault.fault {
-        NumberFault::InC(number) => {
-            write_quoted(fault.word, out)?;
-            write!(out, " is a name in C; a script writes its number, {number}")
-        }
-        NumberFault::NoKind => {
-            write_quoted(fault.word, out)?;
-            out.write_all(b" where p (a port) or s (a set) is wanted")
-        }
-        NumberFault::NoTypedName => {
-            write_quoted(fault.word, out)?;
-            out.write_all(b" is no NAME:TYPE")
-        }
-        NumberFault::OddDigits(count) => {
-            write!(out, "{} has {count} digits; a byte has two", fault.argument)
-        }
-        NumberFault::Prefix => write!(
-            out,
-            "{} begins with 0x; bytes are digits alone",
-            fault.argument
-        ),
-        NumberFault::Capital(digit, place) => {
-            write_digit(fault.argument, digit, out)?;
-            write!(out, " at digit {place}; hexadecimal is in lower case")
-        }
-        NumberFault::NoDigit(digit, place) => {
-            write_digit(fault.argument, digit, out)?;
-            write!(out, " at digit {place}, no hexadecimal digit")
-        }
-        _ => write_number_fault(fault, out),
+/// Returns the words before the list of arguments.
+fn list_words(arguments: &str) -> &'static str {
+    if arguments.is_empty() {
+        " has no arguments"
+    } else {
+        " has the arguments "
     }
+}
+
+/// Writes the fault of the word of this number.
+fn write_word_fault<W: Write>(number: usize, fault: &WordFault<'_>, out: &mut W) -> io::Result<()> {
+    Phrase::one("word ", number as u64, ": ").write(out)?;
+    write_subject(fault, out)?;
+    word_phrase(fault.fault).write(out)
+}
+
+/// Writes what the fault is about: the word, or its argument with the word or a digit.
+fn write_subject<W: Write>(fault: &WordFault<'_>, out: &mut W) -> io::Result<()> {
+    match fault.fault {
+        NumberFault::InC(_) | NumberFault::NoKind | NumberFault::NoTypedName => {
+            write_quoted(fault.word, out)
+        }
+        NumberFault::OddDigits(_) | NumberFault::Prefix => {
+            out.write_all(fault.argument.as_bytes())
+        }
+        NumberFault::Capital(digit, _) | NumberFault::NoDigit(digit, _) => {
+            write_part(fault.argument, " has ", &[digit], out)
+        }
+        _ => write_part(fault.argument, " is ", fault.word, out),
+    }
+}
+
+/// Writes an argument, words, and a text in quotes.
+fn write_part<W: Write>(argument: &str, words: &str, text: &[u8], out: &mut W) -> io::Result<()> {
+    out.write_all(argument.as_bytes())?;
+    out.write_all(words.as_bytes())?;
+    write_quoted(text, out)
 }
 
 /// Writes the text in quotes.
@@ -157,32 +183,48 @@ fn write_quoted<W: Write>(text: &[u8], out: &mut W) -> io::Result<()> {
     out.write_all(b"'")
 }
 
-/// Writes that the argument has this byte.
-fn write_digit<W: Write>(argument: &str, digit: u8, out: &mut W) -> io::Result<()> {
-    write!(out, "{argument} has ")?;
-    write_quoted(&[digit], out)
+/// Returns the words for the fault of a word, behind what it is about.
+fn word_phrase(fault: NumberFault) -> Phrase {
+    match fault {
+        NumberFault::InC(number) => Phrase::one(
+            " is a name in C; a script writes its number, ",
+            u64::from(number),
+            "",
+        ),
+        NumberFault::OddDigits(count) => {
+            Phrase::one(" has ", count as u64, " digits; a byte has two")
+        }
+        NumberFault::Capital(_, place) => {
+            Phrase::one(" at digit ", place as u64, "; hexadecimal is in lower case")
+        }
+        NumberFault::NoDigit(_, place) => {
+            Phrase::one(" at digit ", place as u64, ", no hexadecimal digit")
+        }
+        NumberFault::Hexadecimal(Some(number)) => {
+            Phrase::one("; numbers are decimal: write ", number, "")
+        }
+        NumberFault::LeadingZero(Some(number)) => {
+            Phrase::one("; a number has no leading zero: write ", number, "")
+        }
+        NumberFault::TooGreat(most) => Phrase::one("; the greatest is ", most, ""),
+        _ => Phrase::words(word_words(fault)),
+    }
 }
 
-/// Writes the fault of a word that should be a number or a code.
-fn write_number_fault<W: Write>(fault: &WordFault<'_>, out: &mut W) -> io::Result<()> {
-    write!(out, "{} is '", fault.argument)?;
-    write_plain(fault.word, out)?;
-    match fault.fault {
-        NumberFault::Minus => out.write_all(b"'; only DELTA has a sign"),
-        NumberFault::Plus => out.write_all(b"'; a number has no sign"),
-        NumberFault::Hexadecimal(Some(number)) => {
-            write!(out, "'; numbers are decimal: write {number}")
-        }
-        NumberFault::Hexadecimal(None) => out.write_all(b"'; numbers are decimal"),
-        NumberFault::LeadingZero(Some(number)) => {
-            write!(out, "'; a number has no leading zero: write {number}")
-        }
-        NumberFault::LeadingZero(None) => out.write_all(b"'; a number has no leading zero"),
-        NumberFault::TooGreat(most) => write!(out, "'; the greatest is {most}"),
-        NumberFault::MinusZero => out.write_all(b"': write 0"),
-        NumberFault::TooSmall => out.write_all(b"'; the least is -2147483648"),
-        NumberFault::NoFlag => out.write_all(b"'; it is 1 where a longer message stays, else 0"),
-        NumberFault::NoCode => out.write_all(b"'; it is eight lower case hexadecimal digits"),
-        _ => out.write_all(b"', no number"),
+/// Returns the words for the fault of a word that has no number.
+fn word_words(fault: NumberFault) -> &'static str {
+    match fault {
+        NumberFault::NoKind => " where p (a port) or s (a set) is wanted",
+        NumberFault::NoTypedName => " is no NAME:TYPE",
+        NumberFault::Prefix => " begins with 0x; bytes are digits alone",
+        NumberFault::Minus => "; only DELTA has a sign",
+        NumberFault::Plus => "; a number has no sign",
+        NumberFault::Hexadecimal(_) => "; numbers are decimal",
+        NumberFault::LeadingZero(_) => "; a number has no leading zero",
+        NumberFault::MinusZero => ": write 0",
+        NumberFault::TooSmall => "; the least is -2147483648",
+        NumberFault::NoFlag => "; it is 1 where a longer message stays, else 0",
+        NumberFault::NoCode => "; it is eight lower case hexadecimal digits",
+        _ => ", no number",
     }
 }

@@ -1,5 +1,6 @@
 //! The shape of a line: words with one space between them.
 use crate::fault::Fault;
+use memchr::memchr;
 
 /// Finds the first fault of the line's shape. Columns count from 1.
 pub(crate) fn shape_fault(line: &[u8]) -> Option<Fault<'_>> {
@@ -23,19 +24,22 @@ pub(crate) fn shape_fault(line: &[u8]) -> Option<Fault<'_>> {
 
 /// Returns the column of the byte's first occurrence.
 fn column_of(line: &[u8], byte: u8) -> Option<usize> {
-    let place = line.iter().position(|other| *other == byte)?;
-    place.checked_add(1)
+    memchr(byte, line)?.checked_add(1)
 }
 
 /// Whether the line's first word begins a comment.
 fn is_comment(line: &[u8]) -> bool {
-    let Some(start) = line.iter().position(|byte| *byte != b' ') else {
-        return false;
-    };
-    match line.get(start..) {
-        Some([b'#', ..] | [b'/', b'/', ..]) => true,
-        _ => false,
+    for (place, byte) in line.iter().enumerate() {
+        if *byte != b' ' {
+            return begins_comment(line.get(place..));
+        }
     }
+    false
+}
+
+/// Whether the text begins a comment.
+fn begins_comment(text: Option<&[u8]>) -> bool {
+    matches!(text, Some([b'#', ..] | [b'/', b'/', ..]))
 }
 
 /// Finds the first byte that isn't printable ASCII.
