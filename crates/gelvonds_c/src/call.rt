@@ -1,28 +1,43 @@
 //! One call by a handle, and the answers that are a code or a number.
-ghost use Rattle.std.specs.Prelude.{◌≡◌, ℕ, MatchOption};
+ghost use Rattle.std.specs.Prelude.{◌≡◌, ℕ, None, Some, MatchOption};
 ghost use Rattle.gelvonds_c_base.specs.Codes.{signed};
 ghost use Rattle.gelvonds_c.specs.Calls.{Calls, Asks, Tells, number_or, code_for, unmade};
 
 use crate::handle::Handle;
 use gelvonds_c_base::codes::{NO_ANSWER, NO_KERNEL, SUCCESS};
+use kernel_record::RecordedKernel;
 use mach_types::{Event, MsgReturn, Reply};
 use std::alloc::Global;
 
 /// Makes the call by the kernel that the handle holds, and returns its reply; `None` where it holds none.
 ///
 /// The handle holds the same kernel after it. Takes no memory but what the kernel takes.
-#[inline(always)]
 pub fn call(alloc: Global, handle: &mut Handle, event: &Event) -> Option<Reply>
     ensures { Calls handle.old.kernel event.now result handle.new.kernel }
 {
     match handle.take(alloc) {
-        Some(mut kernel) => {
-            let reply = kernel.step(alloc, event);
-            handle.put(kernel);
-            Some(reply)
-        }
+        Some(kernel) => Some(step(alloc, handle, kernel, event)),
         None => None,
     }
+}
+
+/// Makes the call by this kernel, puts it into a handle that holds none, and returns the reply.
+///
+/// The kit drops the hint to inline from a function that would grow very large. With this one in line in it, a function
+/// is as large as one can be: so it is called by functions that aren't inlined themselves.
+#[inline(always)]
+pub fn step(
+    alloc: Global,
+    handle: &mut Handle,
+    mut kernel: Box<RecordedKernel>,
+    event: &Event,
+) -> Reply
+    requires empty { handle.old.kernel ≡ None }
+    ensures { Calls (Some kernel.value) event.now (Some result) handle.new.kernel }
+{
+    let reply = kernel.step(alloc, event);
+    handle.put(kernel);
+    reply
 }
 
 /// Tells the record that the call was not made: where calls are kept, nothing is kept of this one.
@@ -37,22 +52,34 @@ pub fn miss(alloc: Global, handle: &mut Handle)
 }
 
 /// Makes a call that returns a code.
-#[inline(always)]
 pub fn code(alloc: Global, handle: &mut Handle, event: &Event) -> i32
     ensures { Asks handle.old.kernel event.now result handle.new.kernel }
 {
-    code_of(&call(alloc, handle, event))
+    match handle.take(alloc) {
+        Some(kernel) => code_of(&Some(step(alloc, handle, kernel, event))),
+        None => NO_KERNEL,
+    }
 }
 
 /// Makes a call that returns a number, and writes that, where it isn't refused.
 pub fn number(alloc: Global, handle: &mut Handle, event: &Event, out: &mut u32) -> i32
     ensures { Tells handle.old.kernel event.now result handle.new.kernel out.old out.new }
 {
-    let reply = call(alloc, handle, event);
-    if let Some(number) = number_of(&reply) {
+    match handle.take(alloc) {
+        Some(kernel) => put_number(&Some(step(alloc, handle, kernel, event)), out),
+        None => NO_KERNEL,
+    }
+}
+
+/// Writes the number of an answer that is one, and returns the code.
+fn put_number(reply: &Option<Reply>, out: &mut u32) -> i32
+    ensures code { result ≡ signed (code_for reply.now) }
+    ensures number { out.new ≡ number_or reply.now out.old }
+{
+    if let Some(number) = number_of(reply) {
         *out = number;
     }
-    code_of(&reply)
+    code_of(reply)
 }
 
 /// The code of an answer: of a refusal, of a receive that got no message, or that of success.

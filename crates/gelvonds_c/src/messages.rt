@@ -8,9 +8,9 @@ ghost use Rattle.gelvonds_c_base.specs.Answers.{IsWaited, IsNoKind, c_waited};
 ghost use Rattle.gelvonds_c_base.specs.Codes.{no_answer, no_waited, signed};
 ghost use Rattle.gelvonds_c.specs.Calls.{Asks, Receives, bytes_in, code_for, length_or, received_into, unmade, waited_or};
 
-use crate::call::{call, code_of, miss};
+use crate::call::{code_of, miss, step};
 use crate::handle::Handle;
-use gelvonds_c_base::codes::{NO_ANSWER, NO_WAITED, SUCCESS};
+use gelvonds_c_base::codes::{NO_ANSWER, NO_KERNEL, NO_WAITED, SUCCESS};
 use gelvonds_c_base::{WaitedFor, waited_before, waited_for};
 use mach_types::{Bytes, Event, MsgReturn, Name, Reply, TaskId};
 use std::alloc::Global;
@@ -23,7 +23,10 @@ pub extern "C" fn gelvonds_send(alloc: Global, handle: &mut Handle, task: u32, b
     match Vec::from_slice(alloc, bytes) {
         Ok(copy) => {
             let event = Event::Send(TaskId::new(task), Bytes::from_vec(copy));
-            code_of(&call(alloc, handle, &event))
+            match handle.take(alloc) {
+                Some(kernel) => code_of(&Some(step(alloc, handle, kernel, &event))),
+                None => NO_KERNEL,
+            }
         }
         Err(_) => {
             miss(alloc, handle);
@@ -48,7 +51,13 @@ pub extern "C" fn gelvonds_receive(
 {
     let room = room_of(buffer.len());
     let event = Event::Receive(TaskId::new(task), Name::new(name), room, large);
-    received(&call(alloc, handle, &event), buffer, count, waited)
+    match handle.take(alloc) {
+        Some(kernel) => {
+            let reply = Some(step(alloc, handle, kernel, &event));
+            received(&reply, buffer, count, waited)
+        }
+        None => NO_KERNEL,
+    }
 }
 
 /// A later try of a receive that found no message.
@@ -70,7 +79,13 @@ pub extern "C" fn gelvonds_receive_again(
     };
     let room = room_of(buffer.len());
     let event = Event::ReceiveAgain(TaskId::new(task), before, room, large);
-    received(&call(alloc, handle, &event), buffer, count, waited)
+    match handle.take(alloc) {
+        Some(kernel) => {
+            let reply = Some(step(alloc, handle, kernel, &event));
+            received(&reply, buffer, count, waited)
+        }
+        None => NO_KERNEL,
+    }
 }
 
 /// The room, at most what 32 bits tell.

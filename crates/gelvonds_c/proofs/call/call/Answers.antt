@@ -1,7 +1,8 @@
-use Rattle.gelvonds_c.proofs.Called.{called}
+use Rattle.std.proofs.Common.{Some, sym, subst}
+use Rattle.gelvonds_c.specs.Held.{Kept}
+use Rattle.gelvonds_c.specs.Calls.{Calls}
 use Rattle.gelvonds_c.proofs.call.call.Goals as goal
 
--- src/call.rt:13:1
+-- src/call.rt:14:1
 pub returns-in-Some : goal.returns-in-Some
-returns-in-Some c = called c.args.handle.now.kernel c.put.new.self.kernel c.in-Some.kernel.value c.deref_mut.result.now c.step-reply.new.self c.args.event.now c.step-reply.result
-    c.in-Some.ensures.taken c.deref_mut.ensures.value c.put.ensures c.step-reply.ensures
+returns-in-Some c = subst (λ (held : Kept). Calls held c.args.event.now (Some c.step.result) c.step.new.handle.kernel) (sym c.in-Some.ensures.taken) c.step.ensures
