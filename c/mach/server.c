@@ -3,6 +3,8 @@
 
 #include <stdlib.h>
 
+enum { LONGEST = 65536 }; /* the most bytes of a message */
+
 typedef boolean_t demux_t(mach_msg_header_t *request, mach_msg_header_t *reply);
 
 typedef struct buffers {
@@ -64,7 +66,8 @@ mach_msg_return_t mach_msg_server_timeout(demux_t *demux, mach_msg_size_t max_si
                                           mach_msg_option_t option, mach_msg_timeout_t timeout)
 {
     const size_t size = max_size < sizeof(mig_reply_header_t) ? sizeof(mig_reply_header_t) : max_size;
-    buffers both = { malloc(size), malloc(size), KERN_RESOURCE_SHORTAGE };
+    /* MIG's demux writes a reply without a look at the size: so there is room for the longest that can be sent */
+    buffers both = { malloc(size), malloc(size < LONGEST ? LONGEST : size), KERN_RESOURCE_SHORTAGE };
     pthread_cleanup_push(free_buffers, &both);
     if (both.request != NULL && both.reply != NULL)
         both.code = serve(demux, &both, max_size, rcv_name, option & (MACH_RCV_TIMEOUT | MACH_RCV_LARGE), timeout);

@@ -405,6 +405,13 @@ def _u32(number: int, what: str) -> int:
     return _field(number, 32, what)
 
 
+def _right(right: PortRight) -> Tuple[int, int]:
+    """A right's name and disposition, as two words."""
+    if not isinstance(right, PortRight):
+        raise TypeError(f"a right is wanted, such as make_send(1), not {type(right).__name__}")
+    return _u32(right.name, "the right's name"), _u32(right.disposition, "its disposition")
+
+
 def _word(number: int, what: str) -> int:
     """A word that is read with or without a sign."""
     if not -(1 << 31) <= number < 1 << 32:
@@ -836,12 +843,12 @@ class Kernel:
     def port_insert_right(self, task: int, name: int, source: int, right: PortRight) -> None:
         """mach_port_insert_right: copies in a right of the task `source`, and puts it under the name in the task."""
         words = _u32(task, "the task"), _u32(name, "the name"), _u32(source, "the source")
-        self._call("port_insert_right", *words, _u32(right.name, "the right's name"), _u32(right.disposition, "its disposition"))
+        self._call("port_insert_right", *words, *_right(right))
 
     def port_extract_right(self, task: int, right: PortRight, to: int) -> PortRight:
         """mach_port_extract_right: gives a right of the task to the task `to`, and returns its kind and its name there."""
         name, kind = _WORD(), _WORD()
-        words = _u32(task, "the task"), _u32(right.name, "the right's name"), _u32(right.disposition, "its disposition")
+        words = _u32(task, "the task"), *_right(right)
         self._call("port_extract_right", *words, _u32(to, "the task to"), ctypes.byref(name), ctypes.byref(kind))
         return PortRight(kind.value, name.value)
 
@@ -858,8 +865,7 @@ class Kernel:
         previous = _WORD()
         to = notify or PortRight(0, MACH_PORT_NULL)
         words = _u32(task, "the task"), _u32(name, "the name"), _u32(variant, "the variant"), _u32(sync, "sync")
-        right = _u32(to.name, "the notify port's name"), _u32(to.disposition, "its disposition")
-        self._call("port_request_notification", *words, *right, ctypes.byref(previous))
+        self._call("port_request_notification", *words, *_right(to), ctypes.byref(previous))
         return previous.value
 
     # -- messages
