@@ -49,10 +49,6 @@ GELVONDS_NO_ANSWER = 0x47000005
 GELVONDS_NO_MSG = 0x47000006
 GELVONDS_NO_ENTRY = 0x47000007
 
-GELVONDS_LEGAL = 1
-GELVONDS_BAD_LINE = 2
-GELVONDS_NOT_CONFIRMED = 3
-
 KERN_SUCCESS = 0
 KERN_NO_SPACE = 3
 KERN_INVALID_ARGUMENT = 4
@@ -126,7 +122,7 @@ _CODES: Dict[int, str] = {
     if re.match(r"KERN_|MACH_SEND_|MACH_RCV_|GELVONDS_", name)
 }
 
-# (options, the states of a message call, the kind of a Waited, the room for a text, and no codes)
+# (options, the states of a message call, the kinds of a Waited and of a verdict, the room for a text, and no codes)
 MACH_SEND_MSG = 0x00000001
 MACH_RCV_MSG = 0x00000002
 MACH_SEND_TIMEOUT = 0x00000010
@@ -143,6 +139,11 @@ GELVONDS_MSG_WAITS_FOR_MESSAGE = 3
 GELVONDS_PORT = 1
 GELVONDS_SET = 2
 GELVONDS_DEAD = 3
+
+GELVONDS_LEGAL = 1
+GELVONDS_BAD_LINE = 2
+GELVONDS_NOT_CONFIRMED = 3
+
 GELVONDS_TEXT_ROOM = 40
 
 
