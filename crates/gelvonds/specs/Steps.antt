@@ -6,7 +6,7 @@ use Rattle.mach_model.specs.State.{State}
 use Rattle.mach_laws.specs.Queued.{unused_onces}
 use Rattle.copyin_base.specs.Shows.{Shows}
 use Rattle.kernel_core.specs.Answers.{Answers}
-use Rattle.kernel_core.specs.Changing.{Touches}
+use Rattle.kernel_core.specs.Touching.{Touches}
 use Rattle.kernel_core.specs.Kernels.{KernelView, TakesTurns}
 use Rattle.kernel_core.specs.Wanted.{Wanted, Spares}
 

@@ -12,7 +12,7 @@ ghost use Rattle.mach_laws.specs.JudgedPaths.{JudgedPath};
 ghost use Rattle.mach_types.specs.declared.profiles.Profile.TheVariants.{One, Three};
 ghost use Rattle.mach_laws.specs.Queued.{SlotsWithin, unused_onces};
 ghost use Rattle.copyin_base.specs.Shows.{Shows};
-ghost use Rattle.kernel_core.specs.Changing.{few};
+ghost use Rattle.kernel_change.specs.Changing.{few};
 ghost use Rattle.kernel_core.specs.Bounds.{most_told, IsWithin};
 ghost use Rattle.gelvonds.specs.Steps.{IsStep};
 ghost use Rattle.gelvonds.specs.Results.{Answered, Sent, Received, done, extracted, notification_number, notify_name, notify_number};
@@ -152,7 +152,7 @@ impl Kernel {
     }
 
     /// Returns which ports and sets the last step may have changed: a queue, a limit, members, or where a receive
-    /// right lies. All others are for a task that waits as they were before (`kernel_core`'s `specs/Changing`).
+    /// right lies. All others are for a task that waits as they were before (`kernel_core`'s `specs/Touching`).
     ///
     /// None before the first step, after a refusal, after calls that only ask, a receive that found nothing or a
     /// message that is too long and stays, [`Kernel::create_task`], [`Kernel::rename`], [`Kernel::set_mscount`] and

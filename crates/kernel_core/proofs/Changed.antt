@@ -55,10 +55,11 @@ use Rattle.mach_types.specs.Bodies.{body_words as machine_words}
 use Rattle.copyin.proofs.Copying.{pairs, body_pairs}
 use Rattle.copyin.proofs.Planning.{message, third, copied, none_receives}
 use Rattle.destroy.specs.Stages.{SettlesIn}
-use Rattle.kernel_core.specs.declared.change.Change.TheVariants as change
-use Rattle.kernel_core.specs.declared.change.Change.{Change}
-use Rattle.kernel_core.specs.Changing.{few, port_under, set_of, with_set, named_left, touched_by, gives_none, by_message, by_receipt, by_send, by_references, by_losing_one, by_losing_all, left_by, moved_from, by_moving, by_handing, change_of, TellsChange, Touches}
+use Rattle.kernel_change.specs.declared.change.Change.TheVariants as change
+use Rattle.kernel_change.specs.declared.change.Change.{Change}
+use Rattle.kernel_change.specs.Changing.{few, port_under, set_of, with_set, named_left, touched_by, gives_none, by_message, by_receipt, by_send, by_references, by_losing_one, by_losing_all, left_by, moved_from, by_moving, by_handing, change_of}
 use Rattle.kernel_core.specs.Send.{MovesNoReceive, SendsTo, TellsSent}
+use Rattle.kernel_core.specs.Touching.{TellsChange, Touches}
 
 -- ---- where nothing is left to do, the state midway and the one after are shown by the same tables
 

@@ -8,4 +8,4 @@ pub mod MemoryCodes
 pub mod Limits
 pub mod Bounds
 pub mod Choices
-pub mod Changing
+pub mod Touching

@@ -6,8 +6,8 @@ ghost use Rattle.port.specs.Ports.{PortView, IsLive, with_port};
 ghost use Rattle.kernel_core.specs.Choices.{SameButTurns};
 ghost use Rattle.port_set.specs.Sets.{IsReady, in_set};
 
-use crate::change::set_of;
 use copyin_base::World;
+use kernel_change::set_of;
 use mach_types::{Event, Name, PortId, SetId, TaskId, Waited};
 use port::Attributes;
 use port_set::ready_member;

@@ -11,29 +11,31 @@ ghost use Rattle.mach_model.specs.Machine.{opening, Step};
 ghost use Rattle.mach_laws.specs.Judging.{IsBySet};
 ghost use Rattle.mach_laws.specs.Queued.{unused_onces};
 ghost use Rattle.copyin_base.specs.declared.code.Code.TheVariants.{Kern};
-ghost use Rattle.copyin_base.specs.Serving.{HasTasks, Declines};
+ghost use Rattle.copyin_base.specs.Serving.{HasTasks, Declines, Serves};
 ghost use Rattle.rights.specs.Unused.{IsUnusedOfAll};
 ghost use Rattle.copyin_base.specs.Shows.{Shows, SlotsSuffice};
 ghost use Rattle.copyin_base.specs.Stands.{Stands};
+ghost use Rattle.copyin_base.specs.Wanted.{UsesSpares};
 ghost use Rattle.copyin_base.specs.Worlds.{HasTask, IsIdle};
 ghost use Rattle.destroy.specs.Stages.{IsMidway, KeepsRooms, SettlesIn};
 ghost use Rattle.kernel_core.specs.Answers.{Answers};
 ghost use Rattle.kernel_core.specs.Bounds.{most_told, IsWithin};
-ghost use Rattle.kernel_core.specs.Changing.{few, TellsChange, Touches};
+ghost use Rattle.kernel_change.specs.Changing.{few};
 ghost use Rattle.kernel_core.specs.Choices.{SameButTurns};
 ghost use Rattle.kernel_core.specs.InTurn.{StepsInTurn};
 ghost use Rattle.kernel_core.specs.Kernels.{TakesTurns};
 ghost use Rattle.kernel_core.specs.Limits.{HasRoomFor, IsNearLimit};
 ghost use Rattle.kernel_core.specs.MemoryCodes.{TellsMemoryCode};
+ghost use Rattle.kernel_core.specs.Touching.{TellsChange, Touches};
 ghost use Rattle.kernel_core.specs.Wanted.{Wanted, Spares, Performs};
 
-use crate::change::{Change, by_handing, by_losing_all, by_losing_one, by_moving};
 use crate::memory::{has_room_for, tell_memory_code};
 use crate::receive::{Buffer, receive, receive_again};
 use crate::send::send;
 use crate::{bound, choice};
 use copyin_base::{Code, World};
 use destroy::{is_idle, settle};
+use kernel_change::Change;
 use kernel_core_base::{
     allocate, allocate_name, create_task, deallocate, destroy, get_refs, list_names, mod_refs,
     move_member, name_type, receive_status, rename, set_mscount, set_qlimit, set_seqno, set_status,
@@ -74,7 +76,7 @@ impl Model for Kernel {
     ghost use Rattle.copyin_base.specs.Worlds.{world_code};
     ghost use Rattle.copyin_base.specs.Stands.{Stands};
     ghost use Rattle.mach_types.specs.contracts.touched.Touched as touched;
-    ghost use Rattle.kernel_core.specs.Changing.{touched_by};
+    ghost use Rattle.kernel_change.specs.Changing.{touched_by};
     ghost use Rattle.kernel_core.specs.Kernels.{KernelView, kernel_code};
 
     ghost Value = { KernelView };
@@ -241,7 +243,7 @@ impl Kernel {
     }
 
     /// Returns which ports and sets the last step may have changed: a queue, a limit, members, or where a
-    /// receive right lies. All others are for a task that waits as they were before the step (`specs/Changing`).
+    /// receive right lies. All others are for a task that waits as they were before the step (`specs/Touching`).
     ///
     /// None before the first step and after a refusal. None, or few, after calls that make or rename something,
     /// that ask, or that set a limit or a count. So it is after a port went to another set or a right to another
@@ -365,6 +367,18 @@ fn live_both(world: &World, task: TaskId, other: TaskId) -> bool
     world.has_task(task) && world.has_task(other)
 }
 
+/// Destroys a name. Not in line in a step: with this the step would be so large that the kit drops its own hint to
+/// inline, and each call of it would cost a frame more.
+#[inline(never)]
+fn destroy_name(world: &mut World, task: TaskId, name: Name) -> Result<Reply, Code>
+    requires there { HasTask world.old task }
+    requires stands { Stands world.old }
+    ensures serves { Serves world.old (AnyEvent.Destroy task name) result world.new }
+    ensures spares { UsesSpares world.old world.new }
+{
+    destroy(world, task, name)
+}
+
 /// Refuses a call that is for ports in several sets: here a port is in one set at most.
 fn refuse_several() -> Result<Reply, Code>
     ensures { result ≡ Err (Kern kern.InvalidArgument) }
@@ -386,12 +400,12 @@ fn serve(world: &mut World, alloc: Global, event: &Event, told: &mut Change) -> 
         Event::Allocate(task, right) => allocate(world, *task, *right),
         Event::AllocateName(task, right, name) => allocate_name(world, *task, *right, *name),
         Event::Deallocate(task, name) => {
-            *told = by_losing_one(world, *task, *name);
+            told.by_losing_one(world, *task, *name);
             deallocate(world, *task, *name)
         }
         Event::Destroy(task, name) => {
-            *told = by_losing_all(world, *task, *name);
-            destroy(world, *task, *name)
+            told.by_losing_all(world, *task, *name);
+            destroy_name(world, *task, *name)
         }
         Event::ModRefs(task, name, right, delta) => mod_refs(world, *task, *name, *right, *delta),
         Event::GetRefs(task, name, right) => get_refs(world, *task, *name, *right),
@@ -401,7 +415,7 @@ fn serve(world: &mut World, alloc: Global, event: &Event, told: &mut Change) -> 
         Event::ReceiveStatus(task, name) => receive_status(world, *task, *name),
         Event::SetStatus(task, name) => set_status(world, alloc, *task, *name),
         Event::MoveMember(task, member, after) => {
-            *told = by_moving(world, *task, *member);
+            told.by_moving(world, *task, *member);
             move_member(world, *task, *member, *after)
         }
         Event::InsertMember(..) | Event::ExtractMember(..) => refuse_several(),
@@ -409,13 +423,13 @@ fn serve(world: &mut World, alloc: Global, event: &Event, told: &mut Change) -> 
         Event::SetMscount(task, name, count) => set_mscount(world, *task, *name, *count),
         Event::SetSeqno(task, name, number) => set_seqno(world, *task, *name, *number),
         Event::InsertRight(task, name, from, poly, number) => {
-            *told = by_handing(world, *from, *poly, *number);
+            told.by_handing(world, *from, *poly, *number);
             let to = TaskName::new(*task, *name);
             let from = TaskName::new(*from, *poly);
             insert(world, &to, &from, *number)
         }
         Event::ExtractRight(task, name, number, to) => {
-            *told = by_handing(world, *task, *name, *number);
+            told.by_handing(world, *task, *name, *number);
             extract(world, &TaskName::new(*task, *name), *number, *to)
         }
         Event::RequestNotification(task, name, variant, sync, notify, disposition) => {

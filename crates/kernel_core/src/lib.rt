@@ -8,7 +8,6 @@
 #![tactic(auto)]
 
 mod bound;
-mod change;
 mod choice;
 mod kernel;
 mod memory;

@@ -139,6 +139,7 @@ fn known_name(waited: &Waited, name: Name) -> Option<Name>
 
 /// What a receive by the name takes from: a port that is in no set, whose receive right is under it, or
 /// a port set.
+#[inline(always)]
 pub(crate) fn find_source(world: &World, task: TaskId, name: Name) -> Result<Source, MsgReturn>
     requires { Stands world.now }
     ensures ok { IfOk result (λ source. Sources world.now task name source.waited) }

@@ -10,13 +10,13 @@ ghost use Rattle.copyin.specs.Wanted.{WantsToSend};
 ghost use Rattle.message_codec.specs.Parses.{Parses};
 ghost use Rattle.message_codec.specs.Plain.{parsed_lone, parsed_plain, parsed_request};
 ghost use Rattle.message_codec.specs.Words.{body_words};
-ghost use Rattle.kernel_core.specs.Changing.{TellsSend};
 ghost use Rattle.kernel_core.specs.Send.{GoesTo, MovesNoReceive, PlansText, SendsText, TellsSent, UsesSlot};
+ghost use Rattle.kernel_core.specs.Touching.{TellsSend};
 ghost use Rattle.copyin_base.specs.Worlds.{HasTask};
 
-use crate::change::{Change, by_send};
 use copyin::{Plan, check, check_lone, check_plain, check_request, commit};
 use copyin_base::{Code, World};
+use kernel_change::Change;
 use mach_types::{Bytes, MsgReturn, PortId, Reply, TaskId};
 use message_codec::{
     Lone, Plain, PortWord, Request, parse, parse_lone, parse_plain, parse_request,
@@ -34,6 +34,7 @@ use std::alloc::Global;
 /// along.
 ///
 /// Linear in the message, except for what [`copyin::check`] says of each right.
+#[inline(always)]
 pub(crate) fn send(
     world: &mut World,
     alloc: Global,
@@ -51,7 +52,7 @@ pub(crate) fn send(
     // Memory is wanted only where the message could be sent, or isn't short.
     ensures wanted { IfErr result (λ code. code_number code ≡ msg_number SendNoBuffer → WantsToSend world.old task bytes.now) }
 {
-    *told = by_send(send_text(world, alloc, task, bytes.as_slice())?);
+    *told = Change::by_send(send_text(world, alloc, task, bytes.as_slice())?);
     Ok(Reply::Code(MsgReturn::Success.number()))
 }
 

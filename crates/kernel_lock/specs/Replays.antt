@@ -5,7 +5,7 @@ use Rattle.atomic_table.specs.Seated.{TableId}
 use Rattle.mach_types.specs.declared.profiles.Profile.{Profile}
 use Rattle.mach_model.specs.State.{State}
 use Rattle.copyin_base.specs.Shows.{Shows}
-use Rattle.kernel_core.specs.Changing.{few}
+use Rattle.kernel_change.specs.Changing.{few}
 use Rattle.kernel_core.specs.Kernels.{KernelView}
 use Rattle.kernel_lock.specs.declared.entry.Entry.{Entry}
 use Rattle.kernel_lock.specs.History.{Known, LeadsTo}

@@ -24,7 +24,7 @@ pub returns-in-Deallocate-clause-performs : goal.returns-in-Deallocate-clause-pe
 returns-in-Deallocate-clause-performs c = rw c.in-Deallocate.is (lost _ _ _ _ c.deallocate.ensures.serves (takes_none _ _ _ c.requires.stands tt _ c.deallocate.ensures.serves) c.deallocate.ensures.spares (λ x. x) tt)
 
 pub returns-in-Destroy-clause-performs : goal.returns-in-Destroy-clause-performs
-returns-in-Destroy-clause-performs c = rw c.in-Destroy.is (lost _ _ _ _ c.destroy.ensures.serves (takes_none _ _ _ c.requires.stands tt _ c.destroy.ensures.serves) c.destroy.ensures.spares (λ x. x) tt)
+returns-in-Destroy-clause-performs c = rw c.in-Destroy.is (lost _ _ _ _ c.destroy_name.ensures.serves (takes_none _ _ _ c.requires.stands tt _ c.destroy_name.ensures.serves) c.destroy_name.ensures.spares (λ x. x) tt)
 
 pub returns-in-ModRefs-clause-performs : goal.returns-in-ModRefs-clause-performs
 returns-in-ModRefs-clause-performs c =

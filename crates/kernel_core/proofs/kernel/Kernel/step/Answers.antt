@@ -4,10 +4,11 @@ use Rattle.mach_types.specs.declared.calls.Reply.{Reply}
 use Rattle.copyin_base.specs.Serving.{code_number}
 use Rattle.copyin_base.specs.Worlds.{WorldView}
 use Rattle.copyin_base.specs.Shows.{Shows}
-use Rattle.kernel_core.specs.declared.change.Change.TheVariants.{Any}
-use Rattle.kernel_core.specs.Changing.{few, touched_by, change_of, Touches}
+use Rattle.kernel_change.specs.declared.change.Change.TheVariants.{Any}
+use Rattle.kernel_change.specs.Changing.{few, touched_by, change_of}
 use Rattle.kernel_core.specs.InTurn.{StepsInTurn}
 use Rattle.kernel_core.specs.Kernels.{KernelView, TakesTurns}
+use Rattle.kernel_core.specs.Touching.{Touches}
 use Rattle.kernel_core.specs.Wanted.{Wanted, Spares}
 use Rattle.kernel_core.proofs.Changed.{touched_after, none_touched}
 use Rattle.kernel_core.proofs.Ending.{acted_spares, declined_spares, is_midway}

@@ -1,7 +1,7 @@
 use Rattle.std.proofs.Common.{◌≡◌, [], ◌∷◌, ◌++◌, length, ℕ, ◌+◌, ◌<◌, List, refl, sym, ap, ◌∙◌, subst, arith, length-set, length-append, slice_index_or, slice_set}
 use Rattle.mach_types.specs.declared.touched.Touched.{Touched}
 use Rattle.copyin_base.specs.Worlds.{WorldView}
-use Rattle.kernel_core.specs.Changing.{Touches}
+use Rattle.kernel_core.specs.Touching.{Touches}
 use Rattle.mach_types.specs.declared.profiles.Profile.{Profile}
 use Rattle.mach_types.specs.declared.calls.Reply.{Reply}
 use Rattle.kernel_lock.specs.declared.entry.Entry.{Entry}

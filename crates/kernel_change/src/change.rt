@@ -1,7 +1,7 @@
-//! What a step changed of ports and port sets, for those that wait.
+//! What a step changed, as it is kept.
 ghost use Rattle.std.specs.Prelude.{◌≡◌, None, if◌then◌else◌};
-ghost use Rattle.kernel_core.specs.declared.change.Change.TheVariants.{Any};
-ghost use Rattle.kernel_core.specs.Changing.{few, named_left, port_under, set_of as set_at, with_set as touched_with_set, touched_by, gives_none, by_message as change_by_message, by_receipt as change_by_receipt, by_making as change_by_making, by_send as change_by_send, by_references as change_by_references, by_losing_one as change_by_losing_one, by_losing_all as change_by_losing_all, left_by as change_left_by, by_moving as change_by_moving, by_handing as change_by_handing, change_of};
+ghost use Rattle.kernel_change.specs.declared.change.Change.TheVariants.{Any};
+ghost use Rattle.kernel_change.specs.Changing.{few, named_left, port_under, set_of as set_at, with_set as touched_with_set, touched_by, gives_none, by_message as change_by_message, by_receipt as change_by_receipt, by_making as change_by_making, by_send as change_by_send, by_references as change_by_references, by_losing_one as change_by_losing_one, by_losing_all as change_by_losing_all, left_by as change_left_by, by_moving as change_by_moving, by_handing as change_by_handing, change_of};
 ghost use Rattle.copyin_base.specs.Worlds.{entry_at};
 
 use copyin_base::World;
@@ -12,7 +12,7 @@ use type_descriptor::read_word;
 /// What a step changed, in short: what stands under a name, and in which set a port is, is looked up once it
 /// is asked for.
 #[derive(Clone, Copy, Debug)]
-pub(crate) enum Change {
+pub enum Change {
     /// No port and no set.
     Nothing,
     /// The port under this name of the task, where one stands there; no queue.
@@ -31,7 +31,7 @@ impl Change {
     /// What a step of the call changed that was done, and whether its end had nothing to do. `told` is what was
     /// told of it while it was done. Constant time.
     #[inline(always)]
-    pub(crate) fn after(is_quiet: bool, event: &Event, reply: &Reply, told: Change) -> Change
+    pub fn after(is_quiet: bool, event: &Event, reply: &Reply, told: Change) -> Change
         ensures { result ≡ if is_quiet then change_of event.now reply.now told else Any }
     {
         if is_quiet {
@@ -72,9 +72,69 @@ impl Change {
         }
     }
 
+    /// One reference under the name is about to go, or the send-once right, whose port gets a notice. Leaves what
+    /// that changes. Constant time, and logarithmic for a name above 65,535, as each of the next three.
+    #[inline(never)]
+    pub fn by_losing_one(&mut self, world: &World, task: TaskId, name: Name)
+        ensures { self.new ≡ change_by_losing_one (entry_at world.now task name) }
+    {
+        *self = match world.lookup(task, name) {
+            Some(Entry::Send(..) | Entry::ReceiveAndSend(..) | Entry::DeadName(_)) =>
+                Change::Nothing,
+            _ => Change::Any,
+        };
+    }
+
+    /// All that is under the name is about to go. Leaves what that changes.
+    #[inline(never)]
+    pub fn by_losing_all(&mut self, world: &World, task: TaskId, name: Name)
+        ensures { self.new ≡ change_by_losing_all (entry_at world.now task name) }
+    {
+        *self = match world.lookup(task, name) {
+            Some(Entry::Send(..) | Entry::DeadName(_)) => Change::Nothing,
+            _ => Change::Any,
+        };
+    }
+
+    /// The port under the name is about to change its set, or its receive right goes to another place. Leaves what
+    /// that changes.
+    #[inline(never)]
+    pub fn by_moving(&mut self, world: &World, task: TaskId, name: Name)
+        ensures { self.new ≡ change_by_moving world.now task name }
+    {
+        *self = match named_port(world, task, name) {
+            Some(port) => left_by(port, set_of(world, port)),
+            None => Change::Any,
+        };
+    }
+
+    /// The right under the name is about to go to another task, by a disposition of this number. Leaves what that
+    /// changes.
+    #[inline(never)]
+    pub fn by_handing(&mut self, world: &World, task: TaskId, name: Name, number: u32)
+        ensures { self.new ≡ change_by_handing world.now task name number }
+    {
+        if number == 16 {
+            self.by_moving(world, task, name);
+        } else {
+            *self = Change::Nothing;
+        }
+    }
+
+    /// What a send changed: the queue of the port that it tells, if it tells one. Constant time.
+    #[inline(always)]
+    pub fn by_send(sent: Option<PortId>) -> Change
+        ensures { result ≡ change_by_send sent }
+    {
+        match sent {
+            Some(port) => Change::Queue(port),
+            None => Change::Any,
+        }
+    }
+
     /// The ports and sets that it names, by the tables after the step. Constant time, and logarithmic for a
     /// name above 65,535.
-    pub(crate) fn touched(self, world: &World) -> Touched
+    pub fn touched(self, world: &World) -> Touched
         ensures { result ≡ touched_by world.now self }
     {
         match self {
@@ -104,8 +164,8 @@ fn named_port(world: &World, task: TaskId, name: Name) -> Option<PortId>
     world.lookup(task, name)?.port()
 }
 
-/// The set that a port is in.
-pub(crate) fn set_of(world: &World, port: PortId) -> Option<SetId>
+/// The set that a port is in, if there is such a port and it is in one. Constant time.
+pub fn set_of(world: &World, port: PortId) -> Option<SetId>
     ensures { result ≡ set_at world.now port }
 {
     match world.ports.attributes(port) {
@@ -150,36 +210,6 @@ fn by_references(right: u32) -> Change
     }
 }
 
-/// One reference under the name is about to go, or the send-once right, whose port gets a notice.
-pub(crate) fn by_losing_one(world: &World, task: TaskId, name: Name) -> Change
-    ensures { result ≡ change_by_losing_one (entry_at world.now task name) }
-{
-    match world.lookup(task, name) {
-        Some(Entry::Send(..) | Entry::ReceiveAndSend(..) | Entry::DeadName(_)) => Change::Nothing,
-        _ => Change::Any,
-    }
-}
-
-/// All that is under the name is about to go.
-pub(crate) fn by_losing_all(world: &World, task: TaskId, name: Name) -> Change
-    ensures { result ≡ change_by_losing_all (entry_at world.now task name) }
-{
-    match world.lookup(task, name) {
-        Some(Entry::Send(..) | Entry::DeadName(_)) => Change::Nothing,
-        _ => Change::Any,
-    }
-}
-
-/// The port under the name is about to change its set, or its receive right goes to another place.
-pub(crate) fn by_moving(world: &World, task: TaskId, name: Name) -> Change
-    ensures { result ≡ change_by_moving world.now task name }
-{
-    match named_port(world, task, name) {
-        Some(port) => left_by(port, set_of(world, port)),
-        None => Change::Any,
-    }
-}
-
 /// The port is about to leave this set, if it is in one.
 fn left_by(port: PortId, set: Option<SetId>) -> Change
     ensures { result ≡ change_left_by port set }
@@ -187,17 +217,6 @@ fn left_by(port: PortId, set: Option<SetId>) -> Change
     match set {
         Some(set) => Change::Left(port, set),
         None => Change::Queue(port),
-    }
-}
-
-/// The right under the name is about to go to another task, by a disposition of this number.
-pub(crate) fn by_handing(world: &World, task: TaskId, name: Name, number: u32) -> Change
-    ensures { result ≡ change_by_handing world.now task name number }
-{
-    if number == 16 {
-        by_moving(world, task, name)
-    } else {
-        Change::Nothing
     }
 }
 
@@ -211,17 +230,8 @@ fn by_making(task: TaskId, reply: &Reply) -> Change
     }
 }
 
-/// A message was queued at the port, if that is told.
-pub(crate) fn by_send(sent: Option<PortId>) -> Change
-    ensures { result ≡ change_by_send sent }
-{
-    match sent {
-        Some(port) => Change::Queue(port),
-        None => Change::Any,
-    }
-}
-
 /// A message was received, was too long, or there was none.
+#[inline(always)]
 fn by_receipt(task: TaskId, large: bool, reply: &Reply) -> Change
     ensures { result ≡ change_by_receipt task large reply.now }
 {
@@ -234,6 +244,7 @@ fn by_receipt(task: TaskId, large: bool, reply: &Reply) -> Change
 }
 
 /// A message was received: its third word after the bits is the task's name for the port that it came by.
+#[inline(always)]
 fn by_message(task: TaskId, bytes: &[u8]) -> Change
     ensures { result ≡ change_by_message task bytes.now }
 {
@@ -245,6 +256,7 @@ fn by_message(task: TaskId, bytes: &[u8]) -> Change
 }
 
 /// Whether the message surely gives no receive right: its body is raw bytes, and its reply right is another.
+#[inline(always)]
 fn has_no_receive_right(bytes: &[u8]) -> bool
     ensures { result ≡ gives_none bytes.now }
 {

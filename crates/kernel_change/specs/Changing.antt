@@ -1,5 +1,5 @@
 -- What a step changed of ports and port sets, as the kernel keeps it, and what that is once it is asked for.
-use Rattle.std.specs.Prelude.{◌≡◌, ℕ, ◌^◌, ◌%◌, ◌||◌, Bool, List, [], ◌∷◌, length, Option, Some, None, if◌then◌else◌, ◌==◌, ◌&&◌, not, nat_lt}
+use Rattle.std.specs.Prelude.{ℕ, ◌^◌, ◌%◌, ◌||◌, Bool, List, [], ◌∷◌, length, Option, Some, None, if◌then◌else◌, ◌==◌, ◌&&◌, not, nat_lt}
 use Rattle.std.specs.Option.{option_and_then, option_map}
 use Rattle.mach_types.specs.declared.calls.Event.{Event}
 use Rattle.mach_types.specs.declared.calls.Reply.{Reply}
@@ -7,19 +7,14 @@ use Rattle.mach_types.specs.declared.calls.Waited.{Waited}
 use Rattle.mach_types.specs.declared.touched.Touched.{Touched}
 use Rattle.mach_types.specs.declared.touched.Touched.TheVariants.{Few, All}
 use Rattle.mach_types.specs.TextGuards.{word_at}
-use Rattle.mach_model.specs.State.{State}
-use Rattle.mach_model.specs.Machine.{Step}
-use Rattle.mach_laws.specs.Touching.{TouchesOnly}
 use Rattle.name_space.specs.declared.Entry.{Entry}
 use Rattle.name_space.specs.declared.Entry.TheVariants as entry
 use Rattle.name_space.specs.Entry.{port_named}
 use Rattle.port.specs.Ports.{PortView}
 use Rattle.copyin_base.specs.Kept.{Kept}
-use Rattle.copyin_base.specs.Shows.{Shows}
 use Rattle.copyin_base.specs.Worlds.{WorldView, entry_at, port_at}
-use Rattle.kernel_core.specs.declared.change.Change.{Change}
-use Rattle.kernel_core.specs.declared.change.Change.TheVariants.{Nothing, PortNamed, Queue, QueueNamed, Left, Any}
-use Rattle.kernel_core.specs.Send.{TellsSent}
+use Rattle.kernel_change.specs.declared.change.Change.{Change}
+use Rattle.kernel_change.specs.declared.change.Change.TheVariants.{Nothing, PortNamed, Queue, QueueNamed, Left, Any}
 
 -- ---- what it is
 
@@ -107,20 +102,6 @@ by_moving w task name = moved_from w (port_under w task name)
 abbrev pub by_handing : WorldView → (task name number : ℕ) → Change
 by_handing w task name number = if number == 16 then by_moving w task name else Nothing
 
--- A port is told that the message went to, where no receive right went along, or nothing is.
-abbrev pub TellsSend : WorldView → (task : ℕ) → (bytes : List ℕ) → (told : Change) → Type 0
-TellsSend w task bytes told = (sent : Option ℕ) × TellsSent w task bytes sent × (told ≡ by_send sent)
-
--- What is told of a call while it is done, by the tables before it.
-abbrev pub TellsChange : WorldView → Event → (told : Change) → Type 0
-TellsChange w (Event.Deallocate task name) told = told ≡ by_losing_one (entry_at w task name)
-TellsChange w (Event.Destroy task name) told = told ≡ by_losing_all (entry_at w task name)
-TellsChange w (Event.MoveMember task member after) told = told ≡ by_moving w task member
-TellsChange w (Event.InsertRight task name from poly number) told = told ≡ by_handing w from poly number
-TellsChange w (Event.ExtractRight task name number to) told = told ≡ by_handing w task name number
-TellsChange w (Event.Send task bytes) told = TellsSend w task bytes told
-TellsChange w event told = Unit {0}
-
 -- what the call changed, with what was told of it
 abbrev pub change_of : Event → Reply → (told : Change) → Change
 change_of Event.TaskCreate reply told = Nothing
@@ -145,10 +126,3 @@ change_of (Event.Send task bytes) reply told = told
 change_of (Event.Receive task name room large) reply told = by_receipt task large reply
 change_of (Event.ReceiveAgain task waited room large) reply told = by_receipt task large reply
 change_of event reply told = Any
-
--- ---- what a step promises of it
-
--- From each state that the tables show before, a step of the machine with this event and reply leads to one that they show after, and changes what is
--- covered alone.
-abbrev pub Touches : (old : WorldView) → Event → Reply → (new : WorldView) → Touched → Type 0
-Touches old event reply new touched = (now : ℕ) (s : State) → Shows old s → (t : State) × Step now s event reply t × Shows new t × TouchesOnly s t touched

@@ -1,0 +1,36 @@
+-- What is told of a step while it is done, and what it promises of the ports and sets that it may have changed.
+use Rattle.std.specs.Prelude.{◌≡◌, ℕ, List, Option}
+use Rattle.mach_types.specs.declared.calls.Event.{Event}
+use Rattle.mach_types.specs.declared.calls.Reply.{Reply}
+use Rattle.mach_types.specs.declared.touched.Touched.{Touched}
+use Rattle.mach_model.specs.State.{State}
+use Rattle.mach_model.specs.Machine.{Step}
+use Rattle.mach_laws.specs.Touching.{TouchesOnly}
+use Rattle.copyin_base.specs.Shows.{Shows}
+use Rattle.copyin_base.specs.Worlds.{WorldView, entry_at}
+use Rattle.kernel_change.specs.declared.change.Change.{Change}
+use Rattle.kernel_change.specs.Changing.{by_send, by_losing_one, by_losing_all, by_moving, by_handing}
+use Rattle.kernel_core.specs.Send.{TellsSent}
+
+-- ---- what is told
+
+-- A port is told that the message went to, where no receive right went along, or nothing is.
+abbrev pub TellsSend : WorldView → (task : ℕ) → (bytes : List ℕ) → (told : Change) → Type 0
+TellsSend w task bytes told = (sent : Option ℕ) × TellsSent w task bytes sent × (told ≡ by_send sent)
+
+-- What is told of a call while it is done, by the tables before it.
+abbrev pub TellsChange : WorldView → Event → (told : Change) → Type 0
+TellsChange w (Event.Deallocate task name) told = told ≡ by_losing_one (entry_at w task name)
+TellsChange w (Event.Destroy task name) told = told ≡ by_losing_all (entry_at w task name)
+TellsChange w (Event.MoveMember task member after) told = told ≡ by_moving w task member
+TellsChange w (Event.InsertRight task name from poly number) told = told ≡ by_handing w from poly number
+TellsChange w (Event.ExtractRight task name number to) told = told ≡ by_handing w task name number
+TellsChange w (Event.Send task bytes) told = TellsSend w task bytes told
+TellsChange w event told = Unit {0}
+
+-- ---- what a step promises of it
+
+-- From each state that the tables show before, a step of the machine with this event and reply leads to one that they show after, and changes what is
+-- covered alone.
+abbrev pub Touches : (old : WorldView) → Event → Reply → (new : WorldView) → Touched → Type 0
+Touches old event reply new touched = (now : ℕ) (s : State) → Shows old s → (t : State) × Step now s event reply t × Shows new t × TouchesOnly s t touched
