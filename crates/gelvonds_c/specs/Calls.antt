@@ -1,8 +1,8 @@
 -- A call by a handle: the kernel's own step, where there is a kernel; and the code that C gets for it.
-use Rattle.std.specs.Prelude.{◌≡◌, ℕ, ℤ, List, ◌++◌, Option, None, Some, length, drop, map, min, if◌then◌else◌, nat_lt}
+use Rattle.std.specs.Prelude.{◌≡◌, ◌⊎◌, ℕ, ℤ, List, ◌++◌, Option, None, Some, length, drop, map, min, if◌then◌else◌, nat_lt}
 use Rattle.mach_types.specs.declared.calls.Event.{Event}
 use Rattle.mach_types.specs.declared.calls.Reply.{Reply}
-use Rattle.mach_types.specs.declared.codes.MsgReturn.TheVariants.{ReceiveTimedOut, ReceiveTooLarge}
+use Rattle.mach_types.specs.declared.codes.MsgReturn.TheVariants.{ReceiveTimedOut, ReceiveTooLarge, SendNoBuffer}
 use Rattle.mach_types.specs.Codes.{msg_number}
 use Rattle.kernel_record.specs.Recording.{StepsRecorded, missed}
 use Rattle.gelvonds_c_base.specs.declared.status.PortStatus.{PortStatus}
@@ -117,7 +117,11 @@ pub record Asks (old : Kept) (event : Event) (code : ℤ) (new : Kept) : Type 0 
   pub calls : Calls old event reply new
   pub code_is : code ≡ signed (code_for reply)
 
--- It was, and the number that it answers stands in the place of the other one.
+-- The bytes were sent by such a call; or there was no memory for a copy of them, and no call was made.
+abbrev pub SendsBytes : (old : Kept) → (task : ℕ) → (bytes : List ℕ) → (code : ℤ) → (new : Kept) → Type 0
+SendsBytes old task bytes code new = Asks old (Event.Send task bytes) code new ⊎ (code ≡ signed (msg_number SendNoBuffer)) × (new ≡ unmade old)
+
+-- A call was made, and the number that it answers stands in the place of the other one.
 pub record Tells (old : Kept) (event : Event) (code : ℤ) (new : Kept) (before after : ℕ) : Type 0 where
   pub reply : Option Reply
   pub calls : Calls old event reply new

@@ -1,5 +1,5 @@
--- Mach's mach_msg, one try a call: what begin and next do, by the struct that C holds. The tries of a whole call, begin and then next until
--- it is done, are those of MessageCall in mach_msg_threads/specs/Tries.
+-- Mach's mach_msg, one try a call: what begin and next do, by the struct that C holds. A whole call is begin, and then next until it is done.
+-- MessageCall in mach_msg_threads/specs/Tries has the same tries. No law says so: one has to read both.
 use Rattle.std.specs.Prelude.{◌≡◌, ℕ, ℤ, ◌⊎◌, not, List, Option, None, Some, is_some, length, min, ◌==◌, ◌&&◌, if◌then◌else◌, nat_lt}
 use Rattle.mach_types.specs.Bits.{rcv_msg_option, send_timeout_option, rcv_timeout_option}
 use Rattle.mach_types.specs.Codes.{kern_number, msg_number}

@@ -1,5 +1,6 @@
 //! One call by a handle, and the answers that are a code or a number.
-ghost use Rattle.std.specs.Prelude.{◌≡◌, ℕ, None, Some, MatchOption};
+ghost use Rattle.std.specs.Prelude.{◌≡◌, ◌≢◌, ℕ, None, Some, MatchOption};
+ghost use Rattle.kernel_record.specs.declared.recorded.LastCall.TheVariants.{NotKept};
 ghost use Rattle.gelvonds_c_base.specs.Codes.{signed};
 ghost use Rattle.gelvonds_c.specs.Calls.{Calls, Asks, Tells, number_or, code_for, unmade};
 
@@ -26,16 +27,43 @@ pub fn call(alloc: Global, handle: &mut Handle, event: &Event) -> Option<Reply>
 /// The kit drops the hint to inline from a function that would grow very large. With this one in line in it, a function
 /// is as large as one can be: so it is called by functions that aren't inlined themselves.
 #[inline(always)]
-pub fn step(
+pub fn step(alloc: Global, handle: &mut Handle, kernel: Box<RecordedKernel>, event: &Event) -> Reply
+    requires empty { handle.old.kernel ≡ None }
+    ensures { Calls (Some kernel.value) event.now (Some result) handle.new.kernel }
+{
+    if kernel.keeps_calls() {
+        step_kept(alloc, handle, kernel, event)
+    } else {
+        step_unkept(handle, kernel, event)
+    }
+}
+
+/// The same, where the kernel doesn't keep its calls.
+#[inline(always)]
+pub fn step_unkept(handle: &mut Handle, mut kernel: Box<RecordedKernel>, event: &Event) -> Reply
+    requires empty { handle.old.kernel ≡ None }
+    requires not_kept { kernel.value.last ≡ NotKept }
+    ensures { Calls (Some kernel.value) event.now (Some result) handle.new.kernel }
+{
+    let reply = kernel.step(event);
+    handle.put(kernel);
+    reply
+}
+
+/// The same, where it does.
+#[cold]
+#[inline(never)]
+pub fn step_kept(
     alloc: Global,
     handle: &mut Handle,
     mut kernel: Box<RecordedKernel>,
     event: &Event,
 ) -> Reply
     requires empty { handle.old.kernel ≡ None }
+    requires keeps { kernel.value.last ≢ NotKept }
     ensures { Calls (Some kernel.value) event.now (Some result) handle.new.kernel }
 {
-    let reply = kernel.step(alloc, event);
+    let reply = kernel.step_kept(alloc, event);
     handle.put(kernel);
     reply
 }

@@ -1,38 +1,79 @@
 //! Calls that send and receive.
-ghost use Rattle.std.specs.Prelude.{◌≡◌, ◌⊎◌, ◌++◌, MatchOption, drop, length, min, if◌then◌else◌, nat_lt};
-ghost use Rattle.mach_types.specs.declared.calls.Event.TheVariants.{Send, Receive, ReceiveAgain};
+ghost use Rattle.std.specs.Prelude.{◌≡◌, ◌≢◌, ◌⊎◌, ◌++◌, MatchOption, None, Some, drop, length, min, if◌then◌else◌, nat_lt};
+ghost use Rattle.mach_types.specs.declared.calls.Event.TheVariants.{Receive, ReceiveAgain};
 ghost use Rattle.mach_types.specs.declared.calls.Waited.{Waited};
 ghost use Rattle.mach_types.specs.declared.codes.MsgReturn.TheVariants.{SendNoBuffer};
 ghost use Rattle.mach_types.specs.Codes.{msg_number};
 ghost use Rattle.gelvonds_c_base.specs.Answers.{IsWaited, IsNoKind, c_waited};
 ghost use Rattle.gelvonds_c_base.specs.Codes.{no_answer, no_waited, signed};
-ghost use Rattle.gelvonds_c.specs.Calls.{Asks, Receives, bytes_in, code_for, length_or, received_into, unmade, waited_or};
+ghost use Rattle.kernel_record.specs.declared.recorded.LastCall.TheVariants.{NotKept};
+ghost use Rattle.gelvonds_c.specs.Calls.{SendsBytes, Receives, bytes_in, code_for, length_or, received_into, unmade, waited_or};
 
-use crate::call::{code_of, miss, step};
+use crate::call::{code_of, miss, step_kept, step_unkept};
 use crate::handle::Handle;
 use gelvonds_c_base::codes::{NO_ANSWER, NO_KERNEL, NO_WAITED, SUCCESS};
 use gelvonds_c_base::{WaitedFor, waited_before, waited_for};
+use kernel_record::RecordedKernel;
 use mach_types::{Bytes, Event, MsgReturn, Name, Reply, TaskId};
 use std::alloc::Global;
 
 /// `mach_msg` with `MACH_SEND_MSG`, that doesn't wait.
 #[unsafe(no_mangle)]
 pub extern "C" fn gelvonds_send(alloc: Global, handle: &mut Handle, task: u32, bytes: &[u8]) -> i32
-    ensures { Asks handle.old.kernel (Send task bytes.now) result handle.new.kernel ⊎ (result ≡ signed (msg_number SendNoBuffer)) × (handle.new.kernel ≡ unmade handle.old.kernel) }
+    ensures { SendsBytes handle.old.kernel task bytes.now result handle.new.kernel }
+{
+    let Some(kernel) = handle.take(alloc) else {
+        return NO_KERNEL;
+    };
+    if kernel.keeps_calls() {
+        return send_kept(alloc, handle, kernel, task, bytes);
+    }
+    match Vec::from_slice(alloc, bytes) {
+        Ok(copy) => {
+            let event = Event::Send(TaskId::new(task), Bytes::from_vec(copy));
+            code_of(&Some(step_unkept(handle, kernel, &event)))
+        }
+        Err(_) => refuse_send(handle, kernel),
+    }
+}
+
+/// Sends by a kernel that keeps its calls.
+///
+/// The event is this function's own, so that the usual way, which lends its event to nobody, has it in registers. A
+/// receipt does the same.
+#[cold]
+#[inline(never)]
+fn send_kept(
+    alloc: Global,
+    handle: &mut Handle,
+    kernel: Box<RecordedKernel>,
+    task: u32,
+    bytes: &[u8],
+) -> i32
+    requires empty { handle.old.kernel ≡ None }
+    requires keeps { kernel.value.last ≢ NotKept }
+    ensures { SendsBytes (Some kernel.value) task bytes.now result handle.new.kernel }
 {
     match Vec::from_slice(alloc, bytes) {
         Ok(copy) => {
             let event = Event::Send(TaskId::new(task), Bytes::from_vec(copy));
-            match handle.take(alloc) {
-                Some(kernel) => code_of(&Some(step(alloc, handle, kernel, &event))),
-                None => NO_KERNEL,
-            }
+            code_of(&Some(step_kept(alloc, handle, kernel, &event)))
         }
-        Err(_) => {
-            miss(alloc, handle);
-            MsgReturn::SendNoBuffer.number().cast_signed()
-        }
+        Err(_) => refuse_send(handle, kernel),
     }
+}
+
+/// There is no memory for a copy of the bytes: the call isn't made.
+#[cold]
+#[inline(never)]
+fn refuse_send(handle: &mut Handle, mut kernel: Box<RecordedKernel>) -> i32
+    requires empty { handle.old.kernel ≡ None }
+    ensures code { result ≡ signed (msg_number SendNoBuffer) }
+    ensures kernel { handle.new.kernel ≡ unmade (Some kernel.value) }
+{
+    kernel.miss_call();
+    handle.put(kernel);
+    MsgReturn::SendNoBuffer.number().cast_signed()
 }
 
 /// `mach_msg` with `MACH_RCV_MSG`, that doesn't wait.
@@ -49,15 +90,18 @@ pub extern "C" fn gelvonds_receive(
 ) -> i32
     ensures { Receives handle.old.kernel (Receive task name (min (length buffer.old) 4294967295) large) result handle.new.kernel buffer.old buffer.new count.old count.new waited.old waited.new }
 {
+    let Some(kernel) = handle.take(alloc) else {
+        return NO_KERNEL;
+    };
     let room = room_of(buffer.len());
-    let event = Event::Receive(TaskId::new(task), Name::new(name), room, large);
-    match handle.take(alloc) {
-        Some(kernel) => {
-            let reply = Some(step(alloc, handle, kernel, &event));
-            received(&reply, buffer, count, waited)
-        }
-        None => NO_KERNEL,
+    if kernel.keeps_calls() {
+        let event = Event::Receive(TaskId::new(task), Name::new(name), room, large);
+        let reply = Some(step_kept(alloc, handle, kernel, &event));
+        return received(&reply, buffer, count, waited);
     }
+    let event = Event::Receive(TaskId::new(task), Name::new(name), room, large);
+    let reply = Some(step_unkept(handle, kernel, &event));
+    received(&reply, buffer, count, waited)
 }
 
 /// A later try of a receive that found no message.
@@ -77,15 +121,18 @@ pub extern "C" fn gelvonds_receive_again(
         miss(alloc, handle);
         return NO_WAITED;
     };
+    let Some(kernel) = handle.take(alloc) else {
+        return NO_KERNEL;
+    };
     let room = room_of(buffer.len());
-    let event = Event::ReceiveAgain(TaskId::new(task), before, room, large);
-    match handle.take(alloc) {
-        Some(kernel) => {
-            let reply = Some(step(alloc, handle, kernel, &event));
-            received(&reply, buffer, count, waited)
-        }
-        None => NO_KERNEL,
+    if kernel.keeps_calls() {
+        let event = Event::ReceiveAgain(TaskId::new(task), before, room, large);
+        let reply = Some(step_kept(alloc, handle, kernel, &event));
+        return received(&reply, buffer, count, waited);
     }
+    let event = Event::ReceiveAgain(TaskId::new(task), before, room, large);
+    let reply = Some(step_unkept(handle, kernel, &event));
+    received(&reply, buffer, count, waited)
 }
 
 /// The room, at most what 32 bits tell.

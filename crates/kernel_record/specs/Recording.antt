@@ -1,9 +1,10 @@
 -- A kernel that may keep its last call.
-use Rattle.std.specs.Prelude.{◌≡◌, ◌≢◌, ◌⊎◌, refl}
+use Rattle.std.specs.Prelude.{◌≡◌, ◌≢◌, ◌⊎◌, ◌<◌, ℕ, refl}
 use Rattle.std.specs.Coded.{Coded, code_by, coded×}
 use Rattle.mach_types.specs.declared.calls.Event.{Event}
 use Rattle.mach_types.specs.declared.calls.Reply.{Reply}
 use Rattle.kernel_core.specs.Answers.{Answers}
+use Rattle.kernel_core.specs.Bounds.{most_told}
 use Rattle.kernel_core.specs.Kernels.{KernelView}
 use Rattle.kernel_core.specs.Wanted.{memory_code}
 use Rattle.kernel_record.specs.declared.recorded.LastCall.{LastCall}
@@ -41,9 +42,18 @@ pub record IsMade (old : RecordedView) (event : Event) (reply : Reply) (new : Re
   pub answers : Answers old.kernel.tables event reply new.kernel.tables
   pub last : new.last ≡ made_after old.last event reply
 
--- Calls are kept, memory for this one was refused, and it was not made: the kernel is as it was.
+-- The copies of the call and of its reply take memory: for the bytes that it sends, or for what the reply may have at most.
+abbrev pub IsSend : Event → Type 0
+IsSend (Event.Send task bytes) = Unit {0}
+IsSend event = ⊥
+
+abbrev pub TakesCopies : Event → (most : ℕ) → Type 0
+TakesCopies event most = IsSend event ⊎ (0 < most)
+
+-- Calls are kept, memory for the copies of this one was refused, and it was not made: the kernel is as it was.
 pub record IsNotMade (old : RecordedView) (event : Event) (reply : Reply) (new : RecordedView) : Type 0 where
   pub keeps : old.last ≢ NotKept
+  pub copies : TakesCopies event (most_told old.kernel.tables event)
   pub code : reply ≡ Reply.Code (memory_code event)
   pub kernel : new.kernel ≡ old.kernel
   pub last : new.last ≡ NotMade

@@ -1,5 +1,5 @@
 //! A kernel with its last call.
-ghost use Rattle.std.specs.Prelude.{◌≡◌, ◌≢◌, IfOk};
+ghost use Rattle.std.specs.Prelude.{◌≡◌, ◌≢◌, IfOk, MatchBool, OnErr};
 ghost use Rattle.mach_types.specs.declared.calls.Reply.{Reply as AnyReply};
 ghost use Rattle.mach_types.specs.declared.profiles.Profile.TheVariants.{Three};
 ghost use Rattle.mach_model.specs.State.{opening_in};
@@ -8,8 +8,9 @@ ghost use Rattle.kernel_core.specs.Bounds.{IsWithin};
 ghost use Rattle.kernel_core.specs.Wanted.{memory_code};
 ghost use Rattle.kernel_record.specs.declared.recorded.LastCall.{LastCall as AnyLast};
 ghost use Rattle.kernel_record.specs.Room.{HasRoom, IsUnused};
-ghost use Rattle.kernel_record.specs.Recording.{StepsRecorded, kept_from, missed};
+ghost use Rattle.kernel_record.specs.Recording.{StepsRecorded, TakesCopies, kept_from, missed};
 
+use crate::calls::copy;
 use crate::room::Room;
 use copyin_base::World;
 use kernel_core::Kernel;
@@ -85,7 +86,7 @@ impl RecordedKernel {
         ensures kernel { self.new.kernel ≡ self.old.kernel }
         ensures last { self.new.last ≡ kept_from self.old.last }
     {
-        if matches!(self.last, LastCall::NotKept) {
+        if !self.keeps_calls() {
             self.last = LastCall::NotMade;
         }
     }
@@ -95,7 +96,7 @@ impl RecordedKernel {
         ensures kernel { self.new.kernel ≡ self.old.kernel }
         ensures last { self.new.last ≡ missed self.old.last }
     {
-        if !matches!(self.last, LastCall::NotKept) {
+        if self.keeps_calls() {
             self.last = LastCall::NotMade;
         }
     }
@@ -109,25 +110,32 @@ impl RecordedKernel {
         mem::replace(&mut self.last, last)
     }
 
-    /// Makes one call of a task, whole, as [`Kernel::step`] does. Where calls are kept, keeps the call and its reply.
+    /// Whether calls are kept. Constant time.
+    #[inline(always)]
+    pub fn keeps_calls(&self) -> bool
+        ensures { MatchBool result (self.now.last ≢ AnyLast.NotKept) (self.now.last ≡ AnyLast.NotKept) }
+    {
+        !matches!(self.last, LastCall::NotKept)
+    }
+
+    /// Makes one call of a task, whole, as [`Kernel::step`] does, where calls aren't kept.
+    #[inline(always)]
+    pub fn step(&mut self, event: &Event) -> Reply
+        requires not_kept { self.old.last ≡ AnyLast.NotKept }
+        ensures { StepsRecorded self.old event.now result self.new }
+    {
+        self.kernel.step(event)
+    }
+
+    /// Makes one call, where calls are kept, and keeps it with its reply.
     ///
     /// Their memory is taken before the step: for the bytes of a message that is sent, and for what the reply has
     /// at most ([`Kernel::reply_bound`]). Where it is refused the call isn't made. The reply is then the call's
-    /// code for out of memory, and nothing is kept of the call.
-    #[inline(always)]
-    pub fn step(&mut self, alloc: Global, event: &Event) -> Reply
-        ensures { StepsRecorded self.old event.now result self.new }
-    {
-        match self.last {
-            LastCall::NotKept => self.kernel.step(event),
-            _ => self.step_kept(alloc, event),
-        }
-    }
-
-    /// One step, of which the call and its reply are kept.
+    /// code for out of memory, and nothing is kept of the call. A call that sends no message, and whose reply has
+    /// no list and no message, takes none.
     #[cold]
     #[inline(never)]
-    fn step_kept(&mut self, alloc: Global, event: &Event) -> Reply
+    pub fn step_kept(&mut self, alloc: Global, event: &Event) -> Reply
         requires keeps { self.old.last ≢ AnyLast.NotKept }
         ensures { StepsRecorded self.old event.now result self.new }
     {
@@ -147,9 +155,10 @@ fn copy_of(alloc: Global, event: &Event, most: usize) -> Result<(Event, Room), A
     ensures copy { IfOk result (λ made. made.0 ≡ event.now) }
     ensures unused { IfOk result (λ made. IsUnused made.1) }
     ensures room { IfOk result (λ made. (reply : AnyReply) → IsWithin event.now most reply → HasRoom made.1 reply) }
+    ensures err { OnErr result (TakesCopies event.now most) }
 {
     let room = Room::of(alloc, event, most)?;
-    Ok((event.clone()?, room))
+    Ok((copy(event)?, room))
 }
 
 /// The code that tells of want of memory.

@@ -1,6 +1,7 @@
 //! Room for the copy of a reply, made before the step whose reply it is: as much as that reply may need
 //! by the kernel's tables. What the reply leaves of it is given back.
-ghost use Rattle.std.specs.Prelude.{◌≡◌, IfOk};
+ghost use Rattle.std.specs.Prelude.{◌≡◌, ◌<◌, ◌≤◌, [], IfOk, OnErr};
+ghost use Rattle.std.specs.Vec.{vec_capacity};
 ghost use Rattle.mach_types.specs.declared.calls.Reply.{Reply};
 ghost use Rattle.kernel_core.specs.Bounds.{as_bytes, as_names, as_members, IsWithin};
 ghost use Rattle.kernel_record.specs.Room.{HasRoom, IsUnused};
@@ -28,15 +29,17 @@ impl Room {
         }
     }
 
-    /// Room for a copy of each reply to the event that has no more than so many bytes, names or members.
+    /// Room for a copy of each reply to the event that has no more than so many bytes, names or members. Takes no
+    /// memory where that is 0.
     pub fn of(alloc: Global, event: &Event, most: usize) -> Result<Room, AllocError>
         ensures unused { IfOk result IsUnused }
         ensures room { IfOk result (λ room. (reply : Reply) → IsWithin event.now most reply → HasRoom room reply) }
+        ensures err { OnErr result (0 < most) }
     {
         Ok(Room {
-            bytes: Vec::with_capacity(alloc, as_bytes(event, most))?,
-            names: Vec::with_capacity(alloc, as_names(event, most))?,
-            members: Vec::with_capacity(alloc, as_members(event, most))?,
+            bytes: places(alloc, as_bytes(event, most))?,
+            names: places(alloc, as_names(event, most))?,
+            members: places(alloc, as_members(event, most))?,
         })
     }
 
@@ -88,9 +91,23 @@ impl Room {
     }
 }
 
+/// So many places; none take no memory.
+fn places<T>(alloc: Global, count: usize) -> Result<Vec<T>, AllocError>
+    ensures items { IfOk result (λ v. v.items ≡ []) }
+    ensures places { IfOk result (λ v. count ≤ vec_capacity v) }
+    ensures err { OnErr result (0 < count) }
+{
+    if count == 0 {
+        Ok(Vec::new(alloc))
+    } else {
+        Vec::with_capacity(alloc, count)
+    }
+}
+
 /// Of so many, those that are bytes.
 fn as_bytes(event: &Event, most: usize) -> usize
-    ensures { result ≡ as_bytes event.now most }
+    ensures part { result ≡ as_bytes event.now most }
+    ensures most { result ≤ most }
 {
     match event {
         Event::Receive(..) | Event::ReceiveAgain(..) => most,
@@ -100,7 +117,8 @@ fn as_bytes(event: &Event, most: usize) -> usize
 
 /// Those that are names.
 fn as_names(event: &Event, most: usize) -> usize
-    ensures { result ≡ as_names event.now most }
+    ensures part { result ≡ as_names event.now most }
+    ensures most { result ≤ most }
 {
     match event {
         Event::Names(_) => most,
@@ -110,7 +128,8 @@ fn as_names(event: &Event, most: usize) -> usize
 
 /// Those that are a set's members.
 fn as_members(event: &Event, most: usize) -> usize
-    ensures { result ≡ as_members event.now most }
+    ensures part { result ≡ as_members event.now most }
+    ensures most { result ≤ most }
 {
     match event {
         Event::SetStatus(..) => most,

@@ -1,4 +1,4 @@
-use Rattle.std.proofs.Common.{◌≡◌, ◌≢◌, ◌∙◌, inl, subst, sym, ap, refl}
+use Rattle.std.proofs.Common.{◌≢◌, ◌∙◌, inl, subst, sym, ap}
 use Rattle.kernel_record.specs.declared.recorded.LastCall.TheVariants.{NotKept, Made}
 use Rattle.kernel_record.specs.Recording.{RecordedView, StepsRecorded}
 use Rattle.kernel_record.proofs.Stepping.{stands, is_within, is_kept}
