@@ -6,8 +6,6 @@
 #[cfg(test)]
 mod checking;
 #[cfg(test)]
-mod memory_codes;
-#[cfg(test)]
 mod places;
 #[cfg(test)]
 mod tests;
