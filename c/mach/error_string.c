@@ -8,6 +8,7 @@ static const struct {
     const char *name;
 } others[] = {
     { KERN_FAILURE, "KERN_FAILURE" },
+    { MACH_RCV_BODY_ERROR | MACH_MSG_VM_SPACE, "MACH_RCV_BODY_ERROR|MACH_MSG_VM_SPACE" },
     { MIG_TYPE_ERROR, "MIG_TYPE_ERROR" },
     { MIG_REPLY_MISMATCH, "MIG_REPLY_MISMATCH" },
     { MIG_REMOTE_ERROR, "MIG_REMOTE_ERROR" },

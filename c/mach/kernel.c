@@ -62,8 +62,10 @@ static void prepare(void)
     if (refusal == KERN_SUCCESS && (pthread_key_create(&ending, thread_ends) != 0
                                     || pthread_atfork(before_fork, after_fork, in_child) != 0 || atexit(at_exit) != 0))
         refusal = KERN_RESOURCE_SHORTAGE;
-    if (refusal == KERN_SUCCESS)
-        gm_open_history();
+    if (refusal != KERN_SUCCESS)
+        return;
+    gm_open_history();
+    gm_read_out_of_line();
 }
 
 /* Gives the thread its number, and its task: the first one, unless it was started in another. */

@@ -20,6 +20,32 @@
 #include <stdio.h>
 #include <time.h>
 
+/* ---- items.c: the items of a message ---- */
+
+enum { GM_LONGEST = 65536 }; /* the most bytes of a message */
+
+typedef struct gm_item {
+    mach_msg_type_name_t type;
+    uint64_t bytes;   /* of its data */
+    size_t head;      /* bytes before its data, or before the address of that */
+    size_t whole;     /* bytes that it takes in the message */
+    bool is_inline, deallocates;
+} gm_item;
+
+/* Reads the head of the item at the front; false where the message ends before it does. */
+bool gm_read_item(const char *at, size_t left, gm_item *found);
+/* Its data, which may be out of line. */
+const char *gm_item_data(const char *at, const gm_item *item);
+/* Gives back its memory, where its data is out of line and its head says that the memory goes with it. */
+void gm_free_item(const char *at, const gm_item *item);
+/* Says in an item's head whether its data is inline. If it isn't, the memory goes with it. */
+void gm_set_inline(char *head, bool is_inline);
+
+/* The marker before an item that was sent out of line: two items without elements, which are plain data for the kernel,
+ * of a type that is the layer's. It takes as many bytes as the longest address. */
+enum { GM_MARKER_BYTES = 8 };
+void gm_write_marker(char *to);
+
 /* ---- tries.c: mach_msg, one try a call ---- */
 
 enum gm_next { GM_DONE, GM_WAITS_FOR_ROOM, GM_SENT, GM_WAITS_FOR_MESSAGE };
@@ -35,11 +61,39 @@ typedef struct gm_message_call {
     enum gm_next next;
     size_t length;            /* of the message received, or of one that is too long */
     gelvonds_waited on;       /* what it waits for */
+    /* .. and where data goes out of line, else none of these is set */
+    struct gm_copy *copy;     /* of a message with data out of line, while it is sent; else NULL */
+    mach_msg_header_t *given; /* the caller's buffer, while buffer is the copy */
+    bool takes_longer;        /* MACH_RCV_LARGE isn't the caller's */
+    mach_msg_header_t *lost;  /* a message that didn't fit, to be given up; or NULL */
 } gm_message_call;
+
+/* One call of the kernel to receive, with its entry in the history. */
+typedef mach_msg_return_t gm_receipt(gm_message_call *call);
 
 /* Makes the call's first try, or its next. Returns the code of the try, and says in `next` whether the call has ended. */
 mach_msg_return_t gm_first_try(gm_message_call *call);
 mach_msg_return_t gm_next_try(gm_message_call *call);
+
+/* ---- ool.c and outline.c: data out of line, where the program asks for it ---- */
+
+extern bool gm_out_of_line; /* it does */
+
+/* Reads GELVONDS_OUT_OF_LINE. */
+void gm_read_out_of_line(void);
+
+/* The rest is called where gm_out_of_line is true. */
+
+/* Makes a copy to send of a message that has data out of line.
+ * MACH_SEND_INVALID_DATA: it is too long; MACH_SEND_NO_BUFFER: out of memory. */
+mach_msg_return_t gm_prepare_out_of_line(gm_message_call *call);
+/* The message is queued: ends its copy, if there is one, and gives up the memory that went with it. */
+void gm_is_sent(gm_message_call *call);
+/* Receives. What came marked is out of line in the caller's buffer.
+ * MACH_RCV_BODY_ERROR | MACH_MSG_VM_SPACE: out of memory, and the message stays. */
+mach_msg_return_t gm_receive_outlined(gm_message_call *call, gm_receipt *receive);
+/* Ends the call, without the lock: gives up a message that didn't fit. */
+void gm_finish_out_of_line(gm_message_call *call);
 
 /* ---- waiting.c: the threads that wait ---- */
 

@@ -67,6 +67,28 @@ static void tell_length(const gm_message_call *call)
         call->buffer->msgh_size = (mach_msg_size_t)call->length;
 }
 
+/* With the lock held. */
+static inline mach_msg_return_t make_call(gm_message_call *call)
+{
+    mach_msg_return_t code = gm_first_try(call);
+    if (call->next != GM_DONE)
+        code = go_on(call, code);
+    if (code == MACH_RCV_TOO_LARGE)
+        tell_length(call);
+    return code;
+}
+
+/* The same, where data goes out of line. Gives up the lock. */
+static mach_msg_return_t make_call_out_of_line(gm_message_call *call)
+{
+    mach_msg_return_t code = gm_prepare_out_of_line(call);
+    if (code == MACH_MSG_SUCCESS)
+        code = make_call(call);
+    pthread_mutex_unlock(&gm_mutex);
+    gm_finish_out_of_line(call);
+    return code;
+}
+
 mach_msg_return_t mach_msg(mach_msg_header_t *msg, mach_msg_option_t option, mach_msg_size_t send_size,
                            mach_msg_size_t rcv_size, mach_port_name_t rcv_name, mach_msg_timeout_t timeout,
                            mach_port_name_t notify)
@@ -83,11 +105,9 @@ mach_msg_return_t mach_msg(mach_msg_header_t *msg, mach_msg_option_t option, mac
     code = gm_begin();
     if (code != KERN_SUCCESS)
         return code;
-    code = gm_first_try(&call);
-    if (call.next != GM_DONE)
-        code = go_on(&call, code);
-    if (code == MACH_RCV_TOO_LARGE)
-        tell_length(&call);
+    if (gm_out_of_line)
+        return make_call_out_of_line(&call);
+    code = make_call(&call);
     pthread_mutex_unlock(&gm_mutex);
     return code;
 }

@@ -1,4 +1,5 @@
-/* mach_msg as tries: each makes one call of the kernel, and tells what the next one is, if there is one. */
+/* mach_msg as tries: each makes one call of the kernel, and tells what the next one is, if there is one. (Where data
+ * goes out of line, a try to receive may make two.) */
 #include "layer.h"
 
 static bool has(const gm_message_call *call, mach_msg_option_t option)
@@ -31,6 +32,8 @@ static mach_msg_return_t try_to_send(gm_message_call *call)
         gm_wake(GM_SENDS);
         if (gm_counts.waiting_senders != 0 && moves_rights(call->buffer))
             gm_wake_senders_of(task);
+        if (gm_out_of_line)
+            gm_is_sent(call);
         if (has(call, MACH_RCV_MSG))
             call->next = GM_SENT;
     } else if (code == MACH_SEND_TIMED_OUT) {
@@ -44,29 +47,17 @@ static mach_msg_return_t try_to_send(gm_message_call *call)
     return code;
 }
 
-/* What follows a try to receive, whatever it was from. */
-static mach_msg_return_t tried_to_receive(gm_message_call *call, mach_msg_return_t code)
-{
-    call->next = GM_DONE;
-    if (code == MACH_RCV_TIMED_OUT && waits(call, MACH_RCV_TIMEOUT))
-        call->next = GM_WAITS_FOR_MESSAGE;
-    else if (code == MACH_MSG_SUCCESS || code == MACH_RCV_TOO_LARGE)
-        gm_wake(GM_RECEIVES);
-    gm_probe();
-    return code;
-}
-
-static mach_msg_return_t try_to_receive(gm_message_call *call)
+static inline mach_msg_return_t receive(gm_message_call *call)
 {
     const mach_msg_return_t code =
         gelvonds_receive(&gm_kernel, gm_self.task, call->name, (uint8_t *)call->buffer, call->room,
                          has(call, MACH_RCV_LARGE), &call->length, &call->on);
     if (gm_history != NULL)
         gm_record_receipt(code, call, gm_self.task, NULL);
-    return tried_to_receive(call, code);
+    return code;
 }
 
-static mach_msg_return_t try_again(gm_message_call *call)
+static inline mach_msg_return_t receive_again(gm_message_call *call)
 {
     const gelvonds_waited before = call->on;
     const mach_msg_return_t code =
@@ -74,7 +65,19 @@ static mach_msg_return_t try_again(gm_message_call *call)
                                has(call, MACH_RCV_LARGE), &call->length, &call->on);
     if (gm_history != NULL)
         gm_record_receipt(code, call, gm_self.task, &before);
-    return tried_to_receive(call, code);
+    return code;
+}
+
+static inline mach_msg_return_t try_to_receive(gm_message_call *call, gm_receipt *from)
+{
+    const mach_msg_return_t code = gm_out_of_line ? gm_receive_outlined(call, from) : from(call);
+    call->next = GM_DONE;
+    if (code == MACH_RCV_TIMED_OUT && waits(call, MACH_RCV_TIMEOUT))
+        call->next = GM_WAITS_FOR_MESSAGE;
+    else if (code == MACH_MSG_SUCCESS || code == MACH_RCV_TOO_LARGE)
+        gm_wake(GM_RECEIVES);
+    gm_probe();
+    return code;
 }
 
 mach_msg_return_t gm_first_try(gm_message_call *call)
@@ -87,7 +90,7 @@ mach_msg_return_t gm_first_try(gm_message_call *call)
     if (has(call, MACH_SEND_MSG))
         return try_to_send(call);
     if (has(call, MACH_RCV_MSG))
-        return try_to_receive(call);
+        return try_to_receive(call, receive);
     return MACH_MSG_SUCCESS;
 }
 
@@ -95,5 +98,5 @@ mach_msg_return_t gm_next_try(gm_message_call *call)
 {
     if (call->next == GM_WAITS_FOR_ROOM)
         return try_to_send(call);
-    return call->next == GM_SENT ? try_to_receive(call) : try_again(call);
+    return try_to_receive(call, call->next == GM_SENT ? receive : receive_again);
 }

@@ -6,6 +6,8 @@
  * was woken for wakes the next. A change of another kind wakes each that it may concern. */
 #include "layer.h"
 
+#include <stdlib.h>
+
 enum { LINES = 256 };
 
 /* Lines whose numbers are the same are one list. */
@@ -149,9 +151,12 @@ void gm_leave(gm_waiter *waiter, bool without)
 
 /* ---- asleep ---- */
 
-static void is_cancelled(void *waiter)
+static void is_cancelled(void *given)
 {
+    gm_waiter *const waiter = given;
     gm_leave(waiter, true);
+    if (gm_out_of_line)
+        free(waiter->call->copy);
     pthread_mutex_unlock(&gm_mutex);
 }
 

@@ -30,7 +30,8 @@ mach_msg_return_t mach_msg_server_timeout(boolean_t (*demux)(mach_msg_header_t *
                                           mach_msg_size_t max_size, mach_port_t rcv_name, mach_msg_option_t option,
                                           mach_msg_timeout_t timeout);
 
-/* Gives up each right that a message carries: of one that was received, and of one that wasn't sent. */
+/* Gives up each right that a message carries: of one that was received, and of one that wasn't sent. Gives back the
+ * memory of data out of line that was received, or was to be given up by sending it (msgt_deallocate). */
 void mach_msg_destroy(mach_msg_header_t *msg);
 
 #ifdef __cplusplus

@@ -41,7 +41,8 @@ typedef struct mach_msg_header {
     mach_msg_id_t msgh_id;
 } mach_msg_header_t;
 
-/* The head of an item: its type, the bits of one element, how many there are. */
+/* The head of an item: its type, the bits of one element, how many there are. Its data follows. If msgt_inline is FALSE,
+ * the address of its data does, of sizeof(void *) bytes: that needs GELVONDS_OUT_OF_LINE=inline. */
 typedef unsigned int mach_msg_type_name_t;
 typedef unsigned int mach_msg_type_size_t;
 typedef natural_t mach_msg_type_number_t;
