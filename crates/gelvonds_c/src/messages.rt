@@ -11,8 +11,8 @@ ghost use Rattle.gelvonds_c.specs.Calls.{SendsBytes, Receives, bytes_in, code_fo
 
 use crate::call::{code_of, miss, step_kept, step_unkept};
 use crate::handle::Handle;
-use gelvonds_c_base::codes::{NO_ANSWER, NO_KERNEL, NO_WAITED, SUCCESS};
-use gelvonds_c_base::{WaitedFor, waited_before, waited_for};
+use gelvonds_c_base::codes::{NO_KERNEL, NO_WAITED};
+use gelvonds_c_base::{WaitedFor, put_bytes, room_of, waited_before, waited_for};
 use kernel_record::RecordedKernel;
 use mach_types::{Bytes, Event, MsgReturn, Name, Reply, TaskId};
 use std::alloc::Global;
@@ -135,13 +135,6 @@ pub extern "C" fn gelvonds_receive_again(
     received(&reply, buffer, count, waited)
 }
 
-/// The room, at most what 32 bits tell.
-pub(crate) fn room_of(places: usize) -> u32
-    ensures { result ≡ min places 4294967295 }
-{
-    u32::try_from(places).unwrap_or(u32::MAX)
-}
-
 /// Writes what a receive answers, and returns its code.
 #[inline(always)]
 pub(crate) fn received(
@@ -167,18 +160,4 @@ pub(crate) fn received(
         }
         _ => code_of(reply),
     }
-}
-
-/// Writes a message, which the kernel gives only where there is room.
-fn put_bytes(bytes: &[u8], buffer: &mut [u8], count: &mut usize) -> i32
-    ensures code { result ≡ signed (if nat_lt (length buffer.old) (length bytes.now) then no_answer else 0) }
-    ensures bytes { buffer.new ≡ (if nat_lt (length buffer.old) (length bytes.now) then buffer.old else bytes.now ++ drop (length bytes.now) buffer.old) }
-    ensures length { count.new ≡ length bytes.now }
-{
-    *count = bytes.len();
-    if bytes.len() > buffer.len() {
-        return NO_ANSWER;
-    }
-    buffer[..bytes.len()].copy_from_slice(bytes);
-    SUCCESS
 }

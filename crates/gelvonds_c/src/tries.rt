@@ -11,9 +11,9 @@ ghost use Rattle.gelvonds_c.specs.Trying.{Begins, GoesOn, Sends, TriesToReceive,
 use crate::call::{call, miss};
 use crate::handle::Handle;
 use crate::identities::gelvonds_port_identity;
-use crate::messages::{received, room_of};
+use crate::messages::received;
 use gelvonds_c_base::codes::{NO_ANSWER, NO_KERNEL, NO_MSG, SUCCESS};
-use gelvonds_c_base::{MessageCall, NOWHERE, WaitedFor, waited_for};
+use gelvonds_c_base::{MessageCall, NOWHERE, WaitedFor, room_of, waited_for};
 use mach_types::{Bytes, Event, KernReturn, MsgReturn, Reply, TaskId};
 use std::alloc::Global;
 use type_descriptor::read_word;

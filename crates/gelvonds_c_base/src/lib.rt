@@ -4,12 +4,14 @@
 //! of its functions.
 #![tactic(auto)]
 
+mod buffer;
 pub mod codes;
 mod message_call;
 mod status;
 mod touched;
 mod waited;
 
+pub use buffer::{put_bytes, room_of};
 pub use message_call::MessageCall;
 pub use status::{PortStatus, port_status};
 pub use touched::{TouchedPlaces, places};
