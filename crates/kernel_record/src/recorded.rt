@@ -131,8 +131,8 @@ impl RecordedKernel {
     ///
     /// Their memory is taken before the step: for the bytes of a message that is sent, and for what the reply has
     /// at most ([`Kernel::reply_bound`]). Where it is refused the call isn't made. The reply is then the call's
-    /// code for out of memory, and nothing is kept of the call. A call that sends no message, and whose reply has
-    /// no list and no message, takes none.
+    /// code for out of memory, and nothing is kept of the call. A call that sends nothing takes none, if its reply
+    /// can have neither a message nor a list.
     #[cold]
     #[inline(never)]
     pub fn step_kept(&mut self, alloc: Global, event: &Event) -> Reply
