@@ -102,27 +102,26 @@ by_moving w task name = moved_from w (port_under w task name)
 abbrev pub by_handing : WorldView → (task name number : ℕ) → Change
 by_handing w task name number = if number == 16 then by_moving w task name else Nothing
 
--- what the call changed, with what was told of it
-abbrev pub change_of : Event → Reply → (told : Change) → Change
-change_of Event.TaskCreate reply told = Nothing
-change_of (Event.GetRefs task name right) reply told = Nothing
-change_of (Event.NameType task name) reply told = Nothing
-change_of (Event.Names task) reply told = Nothing
-change_of (Event.Rename task from to) reply told = Nothing
-change_of (Event.ReceiveStatus task name) reply told = Nothing
-change_of (Event.SetStatus task name) reply told = Nothing
-change_of (Event.SetMscount task name n) reply told = Nothing
-change_of (Event.SetSeqno task name n) reply told = Nothing
-change_of (Event.SetQlimit task name n) reply told = PortNamed task name
-change_of (Event.Allocate task right) reply told = by_making task reply
-change_of (Event.AllocateName task right name) reply told = by_making task reply
-change_of (Event.Deallocate task name) reply told = told
-change_of (Event.Destroy task name) reply told = told
-change_of (Event.ModRefs task name right delta) reply told = by_references right
-change_of (Event.MoveMember task member after) reply told = told
-change_of (Event.InsertRight task name from poly number) reply told = told
-change_of (Event.ExtractRight task name number to) reply told = told
-change_of (Event.Send task bytes) reply told = told
-change_of (Event.Receive task name room large) reply told = by_receipt task large reply
-change_of (Event.ReceiveAgain task waited room large) reply told = by_receipt task large reply
-change_of event reply told = Any
+-- what the call changes, by the tables before it and by its reply; a send, that names no receive right, by the port that it tells
+abbrev pub change_of : WorldView → Event → Reply → Change
+change_of w Event.TaskCreate reply = Nothing
+change_of w (Event.GetRefs task name right) reply = Nothing
+change_of w (Event.NameType task name) reply = Nothing
+change_of w (Event.Names task) reply = Nothing
+change_of w (Event.Rename task from to) reply = Nothing
+change_of w (Event.ReceiveStatus task name) reply = Nothing
+change_of w (Event.SetStatus task name) reply = Nothing
+change_of w (Event.SetMscount task name n) reply = Nothing
+change_of w (Event.SetSeqno task name n) reply = Nothing
+change_of w (Event.SetQlimit task name n) reply = PortNamed task name
+change_of w (Event.Allocate task right) reply = by_making task reply
+change_of w (Event.AllocateName task right name) reply = by_making task reply
+change_of w (Event.Deallocate task name) reply = by_losing_one (entry_at w task name)
+change_of w (Event.Destroy task name) reply = by_losing_all (entry_at w task name)
+change_of w (Event.ModRefs task name right delta) reply = by_references right
+change_of w (Event.MoveMember task member after) reply = by_moving w task member
+change_of w (Event.InsertRight task name from poly number) reply = by_handing w from poly number
+change_of w (Event.ExtractRight task name number to) reply = by_handing w task name number
+change_of w (Event.Receive task name room large) reply = by_receipt task large reply
+change_of w (Event.ReceiveAgain task waited room large) reply = by_receipt task large reply
+change_of w event reply = Any

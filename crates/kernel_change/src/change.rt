@@ -1,11 +1,10 @@
 //! What a step changed, as it is kept.
-ghost use Rattle.std.specs.Prelude.{◌≡◌, None, if◌then◌else◌};
+ghost use Rattle.std.specs.Prelude.{◌≡◌, Some, None, IfOk, if◌then◌else◌};
 ghost use Rattle.kernel_change.specs.declared.change.Change.TheVariants.{Any};
-ghost use Rattle.kernel_change.specs.Changing.{few, named_left, port_under, set_of as set_at, with_set as touched_with_set, touched_by, gives_none, by_message as change_by_message, by_receipt as change_by_receipt, by_making as change_by_making, by_send as change_by_send, by_references as change_by_references, by_losing_one as change_by_losing_one, by_losing_all as change_by_losing_all, left_by as change_left_by, by_moving as change_by_moving, by_handing as change_by_handing, change_of};
-ghost use Rattle.copyin_base.specs.Worlds.{entry_at};
+ghost use Rattle.kernel_change.specs.Changing.{few, named_left, port_under, set_of as set_at, with_set as touched_with_set, touched_by, gives_none, by_message as change_by_message, by_receipt as change_by_receipt, by_making as change_by_making, by_send as change_by_send, by_references as change_by_references, by_losing_one as change_by_losing_one, by_losing_all as change_by_losing_all, left_by as change_left_by, by_moving as change_by_moving, by_handing as change_by_handing};
 
-use copyin_base::World;
-use mach_types::{Event, Name, PortId, Reply, SetId, TaskId, Touched, Waited};
+use copyin_base::{Code, World};
+use mach_types::{Name, PortId, Reply, SetId, TaskId, Touched, Waited};
 use name_space::Entry;
 use type_descriptor::read_word;
 
@@ -28,96 +27,94 @@ pub enum Change {
 }
 
 impl Change {
-    /// What a step of the call changed that was done, and whether its end had nothing to do. `told` is what was
-    /// told of it while it was done. Constant time.
+    /// What a step changed whose call changed this: any port and any set, where its end had something to do.
     #[inline(always)]
-    pub fn after(is_quiet: bool, event: &Event, reply: &Reply, told: Change) -> Change
-        ensures { result ≡ if is_quiet then change_of event.now reply.now told else Any }
+    pub fn after(self, is_quiet: bool) -> Change
+        ensures { result ≡ if is_quiet then self else Any }
     {
-        if is_quiet {
-            Change::of(event, reply, told)
+        if is_quiet { self } else { Change::Any }
+    }
+
+    /// One reference under a name with this entry goes, or the send-once right, whose port gets a notice.
+    #[inline(always)]
+    pub fn by_losing_one(entry: &Entry) -> Change
+        ensures { result ≡ change_by_losing_one (Some entry.now) }
+    {
+        match entry {
+            Entry::Send(..) | Entry::ReceiveAndSend(..) | Entry::DeadName(_) => Change::Nothing,
+            _ => Change::Any,
+        }
+    }
+
+    /// All that is under a name with this entry goes.
+    #[inline(always)]
+    pub fn by_losing_all(entry: &Entry) -> Change
+        ensures { result ≡ change_by_losing_all (Some entry.now) }
+    {
+        match entry {
+            Entry::Send(..) | Entry::DeadName(_) => Change::Nothing,
+            _ => Change::Any,
+        }
+    }
+
+    /// References changed of a right of this number: a send right, a dead name, or another right that went.
+    #[inline(always)]
+    pub fn by_references(right: u32) -> Change
+        ensures { result ≡ change_by_references right }
+    {
+        if right == 0 || right == 4 {
+            Change::Nothing
         } else {
             Change::Any
         }
     }
 
-    /// What the call changed, where it is done and the end of its step had nothing to do.
+    /// The port goes to another set or place, from this set, if it is in one.
     #[inline(always)]
-    fn of(event: &Event, reply: &Reply, told: Change) -> Change
-        ensures { result ≡ change_of event.now reply.now told }
+    pub fn by_leaving(port: PortId, set: Option<SetId>) -> Change
+        ensures { result ≡ change_left_by port set }
     {
-        match event {
-            Event::TaskCreate
-            | Event::GetRefs(..)
-            | Event::NameType(..)
-            | Event::Names(..)
-            | Event::Rename(..)
-            | Event::ReceiveStatus(..)
-            | Event::SetStatus(..)
-            | Event::SetMscount(..)
-            | Event::SetSeqno(..) => Change::Nothing,
-            Event::SetQlimit(task, name, _) => Change::PortNamed(*task, *name),
-            Event::Allocate(task, _) | Event::AllocateName(task, _, _) => by_making(*task, reply),
-            Event::ModRefs(_, _, right, _) => by_references(*right),
-            Event::Send(..)
-            | Event::Deallocate(..)
-            | Event::Destroy(..)
-            | Event::MoveMember(..)
-            | Event::InsertRight(..)
-            | Event::ExtractRight(..) => told,
-            Event::Receive(task, _, _, large) | Event::ReceiveAgain(task, _, _, large) => {
-                by_receipt(*task, *large, reply)
-            }
+        match set {
+            Some(set) => Change::Left(port, set),
+            None => Change::Queue(port),
+        }
+    }
+
+    /// The right under the name is about to go to another task, by a disposition of this number. Constant time, and
+    /// logarithmic for a name above 65,535.
+    #[inline(always)]
+    pub fn by_handing(world: &World, task: TaskId, name: Name, number: u32) -> Change
+        ensures { result ≡ change_by_handing world.now task name number }
+    {
+        if number == 16 {
+            by_moving(world, task, name)
+        } else {
+            Change::Nothing
+        }
+    }
+
+    /// What a call made that was answered so: a port under the name that the reply tells, or something else that nobody
+    /// waits for. Of no use after a refusal.
+    #[inline(always)]
+    pub fn by_making(task: TaskId, made: &Result<Reply, Code>) -> Change
+        ensures { IfOk made.now (λ reply. result ≡ change_by_making task reply) }
+    {
+        match made {
+            Ok(Reply::Name(name)) => Change::PortNamed(task, *name),
             _ => Change::Any,
         }
     }
 
-    /// One reference under the name is about to go, or the send-once right, whose port gets a notice. Leaves what
-    /// that changes. Constant time, and logarithmic for a name above 65,535, as each of the next three.
-    #[inline(never)]
-    pub fn by_losing_one(&mut self, world: &World, task: TaskId, name: Name)
-        ensures { self.new ≡ change_by_losing_one (entry_at world.now task name) }
+    /// What a receipt changed that was answered so. Of no use after a refusal.
+    #[inline(always)]
+    pub fn by_receipt(task: TaskId, large: bool, received: &Result<Reply, Code>) -> Change
+        ensures { IfOk received.now (λ reply. result ≡ change_by_receipt task large reply) }
     {
-        *self = match world.lookup(task, name) {
-            Some(Entry::Send(..) | Entry::ReceiveAndSend(..) | Entry::DeadName(_)) =>
-                Change::Nothing,
+        match received {
+            Ok(Reply::Message(bytes)) => by_message(task, bytes.as_slice()),
+            Ok(Reply::Empty(_)) => Change::Nothing,
+            Ok(Reply::TooLarge(_)) if large => Change::Nothing,
             _ => Change::Any,
-        };
-    }
-
-    /// All that is under the name is about to go. Leaves what that changes.
-    #[inline(never)]
-    pub fn by_losing_all(&mut self, world: &World, task: TaskId, name: Name)
-        ensures { self.new ≡ change_by_losing_all (entry_at world.now task name) }
-    {
-        *self = match world.lookup(task, name) {
-            Some(Entry::Send(..) | Entry::DeadName(_)) => Change::Nothing,
-            _ => Change::Any,
-        };
-    }
-
-    /// The port under the name is about to change its set, or its receive right goes to another place. Leaves what
-    /// that changes.
-    #[inline(never)]
-    pub fn by_moving(&mut self, world: &World, task: TaskId, name: Name)
-        ensures { self.new ≡ change_by_moving world.now task name }
-    {
-        *self = match named_port(world, task, name) {
-            Some(port) => left_by(port, set_of(world, port)),
-            None => Change::Any,
-        };
-    }
-
-    /// The right under the name is about to go to another task, by a disposition of this number. Leaves what that
-    /// changes.
-    #[inline(never)]
-    pub fn by_handing(&mut self, world: &World, task: TaskId, name: Name, number: u32)
-        ensures { self.new ≡ change_by_handing world.now task name number }
-    {
-        if number == 16 {
-            self.by_moving(world, task, name);
-        } else {
-            *self = Change::Nothing;
         }
     }
 
@@ -199,47 +196,14 @@ fn name_left(world: &World, port: PortId, left: SetId) -> Touched
     ])
 }
 
-/// References changed of a right of this number: a send right, a dead name, or another right that went.
-fn by_references(right: u32) -> Change
-    ensures { result ≡ change_by_references right }
+/// The port under the name is about to change its set, or its receive right goes to another place.
+#[inline(never)]
+fn by_moving(world: &World, task: TaskId, name: Name) -> Change
+    ensures { result ≡ change_by_moving world.now task name }
 {
-    if right == 0 || right == 4 {
-        Change::Nothing
-    } else {
-        Change::Any
-    }
-}
-
-/// The port is about to leave this set, if it is in one.
-fn left_by(port: PortId, set: Option<SetId>) -> Change
-    ensures { result ≡ change_left_by port set }
-{
-    match set {
-        Some(set) => Change::Left(port, set),
-        None => Change::Queue(port),
-    }
-}
-
-/// A port was made under the name that the reply tells, or something else that nobody waits for.
-fn by_making(task: TaskId, reply: &Reply) -> Change
-    ensures { result ≡ change_by_making task reply.now }
-{
-    match reply {
-        Reply::Name(name) => Change::PortNamed(task, *name),
-        _ => Change::Any,
-    }
-}
-
-/// A message was received, was too long, or there was none.
-#[inline(always)]
-fn by_receipt(task: TaskId, large: bool, reply: &Reply) -> Change
-    ensures { result ≡ change_by_receipt task large reply.now }
-{
-    match reply {
-        Reply::Message(bytes) => by_message(task, bytes.as_slice()),
-        Reply::Empty(_) => Change::Nothing,
-        Reply::TooLarge(_) if large => Change::Nothing,
-        _ => Change::Any,
+    match named_port(world, task, name) {
+        Some(port) => Change::by_leaving(port, set_of(world, port)),
+        None => Change::Any,
     }
 }
 

@@ -1,6 +1,6 @@
 -- What a kernel keeps of a step covers all that the machine's step changes of ports and sets.
 use Rattle.std.proofs.Common.{◌≡◌, ℕ, ◌<◌, ◌^◌, ◌%◌, List, [], ◌∷◌, Option, Some, None, refl, sym, ap, subst, ◌∙◌, arith, true, false, Bool, inl, inr, ◌⊎◌, length, is_some}
-use Rattle.std.specs.Prelude.{◌≢◌, ◌==◌, ◌||◌, ℤ, not, if◌then◌else◌, Contains, nat_lt, All, Result, Ok, Err, OnOk}
+use Rattle.std.specs.Prelude.{◌≢◌, ◌==◌, ◌||◌, ℤ, not, if◌then◌else◌, Contains, nat_lt, All, Result, Ok, Err, IfOk}
 use Rattle.std.specs.FinMap as map
 use Rattle.std.specs.Option.{option_map, option_and_then, option_to_list}
 use Rattle.std.proofs.lemmas.List.Elements.{All-head, All-tail, All-cons, All-nil}
@@ -57,7 +57,7 @@ use Rattle.copyin.proofs.Planning.{message, third, copied, none_receives}
 use Rattle.destroy.specs.Stages.{SettlesIn}
 use Rattle.kernel_change.specs.declared.change.Change.TheVariants as change
 use Rattle.kernel_change.specs.declared.change.Change.{Change}
-use Rattle.kernel_change.specs.Changing.{few, port_under, set_of, with_set, named_left, touched_by, gives_none, by_message, by_receipt, by_send, by_references, by_losing_one, by_losing_all, left_by, moved_from, by_moving, by_handing, change_of}
+use Rattle.kernel_change.specs.Changing.{few, port_under, set_of, with_set, named_left, touched_by, gives_none, by_message, by_receipt, by_send, by_references, by_losing_one, by_losing_all, left_by, moved_from, by_moving, by_handing}
 use Rattle.kernel_core.specs.Send.{MovesNoReceive, SendsTo, TellsSent}
 use Rattle.kernel_core.specs.Touching.{TellsChange, Touches}
 
@@ -388,7 +388,10 @@ module _ (now : ℕ) (old w : WorldView) (s mid : State) (owed : Owed) (sh : Sho
 
   -- ---- each call
 
-  pub own : (event : Event) (reply : Reply) (told : Change) → Does now s event reply mid owed → TellsChange old event told → OwnTouches s mid owed (touched_by w (change_of event reply told))
+  as_told : {told change : Change} → told ≡ change → OwnTouches s mid owed (touched_by w change) → OwnTouches s mid owed (touched_by w told)
+  as_told is own = subst (λ (c : Change). OwnTouches s mid owed (touched_by w c)) (sym is) own
+
+  pub own : (event : Event) (reply : Reply) (told : Change) → Does now s event reply mid owed → TellsChange old event reply told → OwnTouches s mid owed (touched_by w told)
   own Event.TaskCreate (Reply.Task task) told d tells = kept_all s mid owed _ (creates_keep s task mid d.0) d.1
   own (Event.GetRefs task name right) (Reply.Refs n) told d tells = kept_all s mid owed _ (keeps_same s mid d.0) d.1
   own (Event.NameType task name) (Reply.NameType n) told d tells = kept_all s mid owed _ (keeps_same s mid d.0) d.1
@@ -401,25 +404,25 @@ module _ (now : ℕ) (old w : WorldView) (s mid : State) (owed : Owed) (sh : Sho
   own (Event.SetSeqno task name n) (Reply.Code code) told d tells =
       kept_all s mid owed _ (keeps_by s mid _ d.2.3 (λ p. refl) (λ p. refl) (λ p. refl) (λ p. refl) (λ p. refl) (λ set. refl) (λ test is. ap (λ (x : State). count test x.ledger) d.2.3)) d.3
   own (Event.SetQlimit task name n) (Reply.Code code) told d tells =
-      limit_changed w mid (agree d.2) s owed task name d.1.0 (limit_changes s mid d.1.0 n d.1.3) (ap (λ (x : State). lookup x task name) d.1.3 ∙ d.1.1) d.2
-  own (Event.Allocate task right) (Reply.Name name) told d tells = made_own task right name (gives task name s) (gives_keeps task name s) (gives-lawful task name s sh.lawful) d.1 d.2
+      as_told tells (limit_changed w mid (agree d.2) s owed task name d.1.0 (limit_changes s mid d.1.0 n d.1.3) (ap (λ (x : State). lookup x task name) d.1.3 ∙ d.1.1) d.2)
+  own (Event.Allocate task right) (Reply.Name name) told d tells = as_told tells (made_own task right name (gives task name s) (gives_keeps task name s) (gives-lawful task name s sh.lawful) d.1 d.2)
   own (Event.AllocateName task right name) (Reply.Name to) told d tells =
-      made_own task right to s (keeps_same s s refl) sh.lawful (subst (λ (n : ℕ). Makes task right n s mid) (sym d.0) d.1) d.2
-  own (Event.Send task bytes) (Reply.Code code) told d (sent, tells, is) = subst (λ (c : Change). OwnTouches s mid owed (touched_by w c)) (sym is) (sent_own task bytes sent d.1 d.2 tells)
-  own (Event.Receive task name room large) reply told (waited, waits, receipt) tells = receipt_own task waited room large reply receipt
-  own (Event.ReceiveAgain task waited room large) reply told receipt tells = receipt_own task waited room large reply receipt
-  own (Event.TaskTerminate task) reply told d tells = inl refl
+      as_told tells (made_own task right to s (keeps_same s s refl) sh.lawful (subst (λ (n : ℕ). Makes task right n s mid) (sym d.0) d.1) d.2)
+  own (Event.Send task bytes) (Reply.Code code) told d (sent, tells, is) = as_told is (sent_own task bytes sent d.1 d.2 tells)
+  own (Event.Receive task name room large) reply told (waited, waits, receipt) tells = as_told tells (receipt_own task waited room large reply receipt)
+  own (Event.ReceiveAgain task waited room large) reply told receipt tells = as_told tells (receipt_own task waited room large reply receipt)
+  own (Event.TaskTerminate task) reply told d tells = inl (any_all told tells)
   own (Event.Deallocate task name) (Reply.Code code) told d tells = one_own task name told d.1 tells
   own (Event.Destroy task name) (Reply.Code code) told d tells = all_own task name told d.1 tells
-  own (Event.ModRefs task name right delta) (Reply.Code code) told d tells = counts_own task name right delta d.1
+  own (Event.ModRefs task name right delta) (Reply.Code code) told d tells = as_told tells (counts_own task name right delta d.1)
   own (Event.MoveMember task member after) (Reply.Code code) told d tells = moving_own task member d.1.0 told d.1.1 (joins_others task member after s mid d.1) d.2 tells
-  own (Event.InsertMember task member set) reply told d tells = inl refl
-  own (Event.ExtractMember task member set) reply told d tells = inl refl
+  own (Event.InsertMember task member set) reply told d tells = inl (any_all told tells)
+  own (Event.ExtractMember task member set) reply told d tells = inl (any_all told tells)
   own (Event.InsertRight task name from poly number) (Reply.Code code) told (is, i, none) tells =
       handing_own from poly number told i.copied (to_port i.p) (in_task task) i.copy (insert_ends task name from poly number s mid i) (λ not. inserts_keep task name from poly number s mid not i) none tells
   own (Event.ExtractRight task name number to) (Reply.Right new_name kind) told (e, none) tells =
       handing_own task name number told e.copied (to_port e.p) (in_task to) e.copy (extract_ends task name number to new_name kind s mid e) (λ not. extracts_keep task name number to new_name kind s mid not e) none tells
-  own (Event.RequestNotification task name variant sync notify number) reply told d tells = inl refl
+  own (Event.RequestNotification task name variant sync notify number) reply told d tells = inl (any_all told tells)
   own event reply told d tells = absurd d
 
 -- ---- the step
@@ -431,7 +434,7 @@ module _ (old w new : WorldView) (event : Event) (reply : Reply) (turns : ℕ) (
       let e = settles now old s d.mid d.owed sh d.shows in
       (e.0, inr (record { performed = record { mid = d.mid; owed = d.owed; does = d.does; settles = e.1 }; unrefused = d.unrefused; judged = d.judged }), e.2, touches_all s e.0)
 
-  pub few_touched : (told : Change) → TellsChange old event told → IsIdle w → new ≡ w → Touches old event reply new (touched_by new (change_of event reply told))
+  pub few_touched : (told : Change) → TellsChange old event reply told → IsIdle w → new ≡ w → Touches old event reply new (touched_by new told)
   few_touched told tells idle same = λ now s sh.
       let d = acts.acts now s sh in
       let e = settles now old s d.mid d.owed sh d.shows in
@@ -439,19 +442,19 @@ module _ (old w new : WorldView) (event : Event) (reply : Reply) (turns : ℕ) (
       let ends : (none : d.owed ≡ []) → Keeps d.mid e.0 = λ none.
       let l = law now old w s d.mid d.owed sh d.shows none in
       ends_quietly now s d.mid e.0 l (quiet_end w d.mid e.0 (agree now old w s d.mid d.owed sh d.shows none) here l idle) (subst (λ (o : Owed). Settles now s d.mid o e.0) none e.1) in
-      let only : TouchesOnly s e.0 (touched_by w (change_of event reply told)) = by (own now old w s d.mid d.owed sh d.shows event reply told d.does tells) ends in (
+      let only : TouchesOnly s e.0 (touched_by w told) = by (own now old w s d.mid d.owed sh d.shows event reply told d.does tells) ends in (
         e.0,
         inr (record { performed = record { mid = d.mid; owed = d.owed; does = d.does; settles = e.1 }; unrefused = d.unrefused; judged = d.judged }),
         e.2,
-        subst (λ (x : WorldView). TouchesOnly s e.0 (touched_by x (change_of event reply told))) (sym same) only,
+        subst (λ (x : WorldView). TouchesOnly s e.0 (touched_by x told)) (sym same) only,
       )
     where
       by : {s mid t : State} {owed : Owed} {touched : Touched} → OwnTouches s mid owed touched → ((none : owed ≡ []) → Keeps mid t) → TouchesOnly s t touched
       by {s} {mid} {t} {owed} {touched} (inl all) ends = subst (TouchesOnly s t) (sym all) (touches_all s t)
       by {s} {mid} {t} {owed} {touched} (inr (none, only)) ends = only t (ends none)
 
-  pub touched_after : (told : Change) → TellsChange old event told → (is_quiet : Bool) → (is_quiet ≡ true → IsIdle w × (new ≡ w)) →
-      Touches old event reply new (touched_by new (if is_quiet then change_of event reply told else change.Any))
+  pub touched_after : (told : Change) → TellsChange old event reply told → (is_quiet : Bool) → (is_quiet ≡ true → IsIdle w × (new ≡ w)) →
+      Touches old event reply new (touched_by new (if is_quiet then told else change.Any))
   touched_after told tells false quiet = all_touched
   touched_after told tells true quiet = let q = quiet refl in few_touched told tells q.0 q.1
 
@@ -465,6 +468,6 @@ none_touched old new event code d = λ now s sh. (
 )
 
 -- what holds however a call is answered
-pub on_ok : {T E : Type 0} (r : Result T E) {P : Type 0} → P → OnOk r P
-on_ok (Ok x) p = p
+pub on_ok : {T E : Type 0} (r : Result T E) {P : T → Type 0} → ((x : T) → P x) → IfOk r P
+on_ok (Ok x) p = p x
 on_ok (Err e) p = tt

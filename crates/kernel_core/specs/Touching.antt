@@ -7,9 +7,9 @@ use Rattle.mach_model.specs.State.{State}
 use Rattle.mach_model.specs.Machine.{Step}
 use Rattle.mach_laws.specs.Touching.{TouchesOnly}
 use Rattle.copyin_base.specs.Shows.{Shows}
-use Rattle.copyin_base.specs.Worlds.{WorldView, entry_at}
+use Rattle.copyin_base.specs.Worlds.{WorldView}
 use Rattle.kernel_change.specs.declared.change.Change.{Change}
-use Rattle.kernel_change.specs.Changing.{by_send, by_losing_one, by_losing_all, by_moving, by_handing}
+use Rattle.kernel_change.specs.Changing.{by_send, change_of}
 use Rattle.kernel_core.specs.Send.{TellsSent}
 
 -- ---- what is told
@@ -18,15 +18,10 @@ use Rattle.kernel_core.specs.Send.{TellsSent}
 abbrev pub TellsSend : WorldView → (task : ℕ) → (bytes : List ℕ) → (told : Change) → Type 0
 TellsSend w task bytes told = (sent : Option ℕ) × TellsSent w task bytes sent × (told ≡ by_send sent)
 
--- What is told of a call while it is done, by the tables before it.
-abbrev pub TellsChange : WorldView → Event → (told : Change) → Type 0
-TellsChange w (Event.Deallocate task name) told = told ≡ by_losing_one (entry_at w task name)
-TellsChange w (Event.Destroy task name) told = told ≡ by_losing_all (entry_at w task name)
-TellsChange w (Event.MoveMember task member after) told = told ≡ by_moving w task member
-TellsChange w (Event.InsertRight task name from poly number) told = told ≡ by_handing w from poly number
-TellsChange w (Event.ExtractRight task name number to) told = told ≡ by_handing w task name number
-TellsChange w (Event.Send task bytes) told = TellsSend w task bytes told
-TellsChange w event told = Unit {0}
+-- What is told of a call that is answered so: of a send by where it went, of each other call by the tables before it and by its reply.
+abbrev pub TellsChange : WorldView → Event → Reply → (told : Change) → Type 0
+TellsChange w (Event.Send task bytes) reply told = TellsSend w task bytes told
+TellsChange w event reply told = told ≡ change_of w event reply
 
 -- ---- what a step promises of it
 

@@ -15,12 +15,13 @@ ghost use Rattle.copyin_base.specs.Serving.{HasTasks, Declines, Serves};
 ghost use Rattle.rights.specs.Unused.{IsUnusedOfAll};
 ghost use Rattle.copyin_base.specs.Shows.{Shows, SlotsSuffice};
 ghost use Rattle.copyin_base.specs.Stands.{Stands};
-ghost use Rattle.copyin_base.specs.Wanted.{UsesSpares};
-ghost use Rattle.copyin_base.specs.Worlds.{HasTask, IsIdle};
+ghost use Rattle.copyin_base.specs.Wanted.{KeepsSpares, UsesSpares};
+ghost use Rattle.copyin_base.specs.Worlds.{entry_at, HasTask, IsIdle};
 ghost use Rattle.destroy.specs.Stages.{IsMidway, KeepsRooms, SettlesIn};
 ghost use Rattle.kernel_core.specs.Answers.{Answers};
 ghost use Rattle.kernel_core.specs.Bounds.{most_told, IsWithin};
-ghost use Rattle.kernel_change.specs.Changing.{few};
+ghost use Rattle.kernel_change.specs.declared.change.Change.TheVariants.{Nothing};
+ghost use Rattle.kernel_change.specs.Changing.{few, by_losing_one, by_losing_all, by_moving};
 ghost use Rattle.kernel_core.specs.Choices.{SameButTurns};
 ghost use Rattle.kernel_core.specs.InTurn.{StepsInTurn};
 ghost use Rattle.kernel_core.specs.Kernels.{TakesTurns};
@@ -162,13 +163,13 @@ impl Kernel {
         ensures touches { Touches self.old.tables event.now result self.new.tables self.new.touched }
     {
         check_slots(&self.world);
-        let mut told = Change::Any;
+        let mut told = Change::Nothing;
         match act(&mut self.world, self.alloc, event, &mut told) {
             Ok(reply) => {
                 check_slots(&self.world);
                 let Ending { turns, is_quiet } = end_step(&mut self.world);
                 self.turns = turns;
-                self.change = Change::after(is_quiet, event, &reply, told);
+                self.change = told.after(is_quiet);
                 check_slots(&self.world);
                 reply
             }
@@ -293,13 +294,14 @@ fn check_slots(world: &World)
 
 /// Does the call's own part of a step, up to what [`settle`] ends, or refuses it.
 ///
-/// `KERN_INVALID_TASK` where a task that it names doesn't live; then as the call. In `told` it leaves what
-/// only the tables before it tell of what it changes, for [`Change::after`].
+/// `KERN_INVALID_TASK` where a task that it names doesn't live; then as the call. In `told`, which says
+/// nothing, it leaves what the call changes, if the end of its step has nothing to do.
 #[inline(always)]
 fn act(world: &mut World, alloc: Global, event: &Event, told: &mut Change) -> Result<Reply, Code>
-    requires { Stands world.old }
+    requires stands { Stands world.old }
+    requires nothing { told.old ≡ Nothing }
     ensures performs { Performs world.old event.now result world.new }
-    ensures tells { OnOk result (TellsChange world.old event.now told.new) }
+    ensures tells { IfOk result (λ reply. TellsChange world.old event.now reply told.new) }
 {
     check_tasks(world, event)?;
     serve(world, alloc, event, told)
@@ -367,16 +369,54 @@ fn live_both(world: &World, task: TaskId, other: TaskId) -> bool
     world.has_task(task) && world.has_task(other)
 }
 
-/// Destroys a name. Not in line in a step: with this the step would be so large that the kit drops its own hint to
-/// inline, and each call of it would cost a frame more.
-#[inline(never)]
-fn destroy_name(world: &mut World, task: TaskId, name: Name) -> Result<Reply, Code>
+/// Drops one reference under a name, or its send-once right: `KERN_INVALID_NAME` for a name that isn't in use, then as
+/// [`deallocate`]. In `told` it leaves what that changes.
+#[inline(always)]
+fn lose_one(world: &mut World, task: TaskId, name: Name, told: &mut Change) -> Result<Reply, Code>
+    requires there { HasTask world.old task }
+    requires stands { Stands world.old }
+    ensures serves { Serves world.old (AnyEvent.Deallocate task name) result world.new }
+    ensures spares { UsesSpares world.old world.new }
+    ensures tells { OnOk result (told.new ≡ by_losing_one (entry_at world.old task name)) }
+{
+    let entry = world.find(task, name)?;
+    *told = Change::by_losing_one(&entry);
+    deallocate(world, task, name, &entry)
+}
+
+/// Destroys a name: `KERN_INVALID_NAME` for one that isn't in use. In `told` it leaves what that changes.
+#[inline(always)]
+fn lose_all(world: &mut World, task: TaskId, name: Name, told: &mut Change) -> Result<Reply, Code>
     requires there { HasTask world.old task }
     requires stands { Stands world.old }
     ensures serves { Serves world.old (AnyEvent.Destroy task name) result world.new }
     ensures spares { UsesSpares world.old world.new }
+    ensures tells { OnOk result (told.new ≡ by_losing_all (entry_at world.old task name)) }
 {
-    destroy(world, task, name)
+    let entry = world.find(task, name)?;
+    *told = Change::by_losing_all(&entry);
+    destroy(world, task, name, &entry);
+    Ok(Reply::Code(0))
+}
+
+/// Moves a port to another set, or out of its set, as [`move_member`]. In `told` it leaves what that changes.
+#[inline(always)]
+fn put_in_set(
+    world: &mut World,
+    task: TaskId,
+    member: Name,
+    after: Name,
+    told: &mut Change,
+) -> Result<Reply, Code>
+    requires there { HasTask world.old task }
+    requires stands { Stands world.old }
+    ensures serves { Serves world.old (AnyEvent.MoveMember task member after) result world.new }
+    ensures spares { KeepsSpares world.old world.new }
+    ensures tells { OnOk result (told.new ≡ by_moving world.old task member) }
+{
+    let moved = move_member(world, task, member, after)?;
+    *told = Change::by_leaving(moved.port, moved.left);
+    Ok(Reply::Code(0))
 }
 
 /// Refuses a call that is for ports in several sets: here a port is in one set at most.
@@ -391,48 +431,58 @@ fn refuse_several() -> Result<Reply, Code>
 fn serve(world: &mut World, alloc: Global, event: &Event, told: &mut Change) -> Result<Reply, Code>
     requires there { HasTasks world.old event.now }
     requires stands { Stands world.old }
+    requires nothing { told.old ≡ Nothing }
     ensures performs { Performs world.old event.now result world.new }
-    ensures tells { OnOk result (TellsChange world.old event.now told.new) }
+    ensures tells { IfOk result (λ reply. TellsChange world.old event.now reply told.new) }
 {
     match event {
         Event::TaskCreate => create_task(world, alloc),
-        Event::TaskTerminate(task) => terminate_task(world, *task),
-        Event::Allocate(task, right) => allocate(world, *task, *right),
-        Event::AllocateName(task, right, name) => allocate_name(world, *task, *right, *name),
-        Event::Deallocate(task, name) => {
-            told.by_losing_one(world, *task, *name);
-            deallocate(world, *task, *name)
+        Event::TaskTerminate(task) => {
+            *told = Change::Any;
+            terminate_task(world, *task)
         }
-        Event::Destroy(task, name) => {
-            told.by_losing_all(world, *task, *name);
-            destroy_name(world, *task, *name)
+        Event::Allocate(task, right) => {
+            let made = allocate(world, *task, *right);
+            *told = Change::by_making(*task, &made);
+            made
         }
-        Event::ModRefs(task, name, right, delta) => mod_refs(world, *task, *name, *right, *delta),
+        Event::AllocateName(task, right, name) => {
+            let made = allocate_name(world, *task, *right, *name);
+            *told = Change::by_making(*task, &made);
+            made
+        }
+        Event::Deallocate(task, name) => lose_one(world, *task, *name, told),
+        Event::Destroy(task, name) => lose_all(world, *task, *name, told),
+        Event::ModRefs(task, name, right, delta) => {
+            *told = Change::by_references(*right);
+            mod_refs(world, *task, *name, *right, *delta)
+        }
         Event::GetRefs(task, name, right) => get_refs(world, *task, *name, *right),
         Event::NameType(task, name) => name_type(world, *task, *name),
         Event::Names(task) => list_names(world, alloc, *task),
         Event::Rename(task, from, to) => rename(world, *task, *from, *to),
         Event::ReceiveStatus(task, name) => receive_status(world, *task, *name),
         Event::SetStatus(task, name) => set_status(world, alloc, *task, *name),
-        Event::MoveMember(task, member, after) => {
-            told.by_moving(world, *task, *member);
-            move_member(world, *task, *member, *after)
-        }
+        Event::MoveMember(task, member, after) => put_in_set(world, *task, *member, *after, told),
         Event::InsertMember(..) | Event::ExtractMember(..) => refuse_several(),
-        Event::SetQlimit(task, name, limit) => set_qlimit(world, *task, *name, *limit),
+        Event::SetQlimit(task, name, limit) => {
+            *told = Change::PortNamed(*task, *name);
+            set_qlimit(world, *task, *name, *limit)
+        }
         Event::SetMscount(task, name, count) => set_mscount(world, *task, *name, *count),
         Event::SetSeqno(task, name, number) => set_seqno(world, *task, *name, *number),
         Event::InsertRight(task, name, from, poly, number) => {
-            told.by_handing(world, *from, *poly, *number);
+            *told = Change::by_handing(world, *from, *poly, *number);
             let to = TaskName::new(*task, *name);
             let from = TaskName::new(*from, *poly);
             insert(world, &to, &from, *number)
         }
         Event::ExtractRight(task, name, number, to) => {
-            told.by_handing(world, *task, *name, *number);
+            *told = Change::by_handing(world, *task, *name, *number);
             extract(world, &TaskName::new(*task, *name), *number, *to)
         }
         Event::RequestNotification(task, name, variant, sync, notify, disposition) => {
+            *told = Change::Any;
             let asked = Asked {
                 variant: *variant,
                 sync: *sync,
@@ -443,10 +493,14 @@ fn serve(world: &mut World, alloc: Global, event: &Event, told: &mut Change) -> 
         }
         Event::Send(task, bytes) => send(world, alloc, *task, bytes, told),
         Event::Receive(task, name, room, large) => {
-            receive(world, alloc, *task, *name, Buffer::new(*room, *large))
+            let received = receive(world, alloc, *task, *name, Buffer::new(*room, *large));
+            *told = Change::by_receipt(*task, *large, &received);
+            received
         }
         Event::ReceiveAgain(task, waited, room, large) => {
-            receive_again(world, alloc, *task, *waited, Buffer::new(*room, *large))
+            let received = receive_again(world, alloc, *task, *waited, Buffer::new(*room, *large));
+            *told = Change::by_receipt(*task, *large, &received);
+            received
         }
     }
 }

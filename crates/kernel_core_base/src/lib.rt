@@ -18,5 +18,5 @@ pub use names::{
 };
 pub use receive_right::{receive_status, set_mscount, set_qlimit, set_seqno};
 pub use references::{deallocate, destroy, get_refs, mod_refs};
-pub use sets::{check_set_status, move_member, set_status};
+pub use sets::{Moved, check_set_status, move_member, set_status};
 pub use tasks::{check_create_task, create_task, terminate_task};

@@ -1,6 +1,7 @@
 //! The references of a right under a name: asked for, taken by one, taken whole, changed by a number.
-ghost use Rattle.std.specs.Prelude.{◌≡◌, ℤ, ◌+◌, ◌<◌, ◌≤◌, Some, IfOk, IfErr, MatchBool};
+ghost use Rattle.std.specs.Prelude.{◌≡◌, ℤ, ◌+◌, ◌<◌, ◌≤◌, Some, Ok, IfOk, IfErr, MatchBool};
 ghost use Rattle.mach_types.specs.declared.calls.Event.{Event};
+ghost use Rattle.mach_types.specs.declared.calls.Reply.{Reply as AnyReply};
 ghost use Rattle.mach_types.specs.declared.rights.Right.TheVariants as right;
 ghost use Rattle.mach_types.specs.Numbers.{most_references, most_rights};
 ghost use Rattle.mach_types.specs.Codes.{kern_number};
@@ -293,17 +294,17 @@ fn whole_loss(port: PortId, held: u32) -> Loss
 /// its last right or reference. Under a name with a receive right and send references, one of these goes. The
 /// task lives.
 ///
-/// `KERN_INVALID_NAME` for a name that isn't in use; `KERN_INVALID_RIGHT` for a receive right alone and a
-/// set. A refusal changes nothing. Takes no memory. Constant time, and logarithmic for a name above 65,535.
+/// `entry` is what was found under the name. `KERN_INVALID_RIGHT` for a receive right alone and a set. A refusal
+/// changes nothing. Takes no memory. Constant time, and logarithmic for a name above 65,535.
 #[inline(always)]
-pub fn deallocate(world: &mut World, task: TaskId, name: Name) -> Result<Reply, Code>
+pub fn deallocate(world: &mut World, task: TaskId, name: Name, entry: &Entry) -> Result<Reply, Code>
     requires there { HasTask world.old task }
     requires stands { Stands world.old }
+    requires found { entry_at world.old task name ≡ Some entry.now }
     ensures serves { Serves world.old (Event.Deallocate task name) result world.new }
     ensures spares { UsesSpares world.old world.new }
 {
-    let entry = world.find(task, name)?;
-    let Some(due) = deallocate_entry(&entry) else {
+    let Some(due) = deallocate_entry(entry) else {
         return Err(Code::Kern(KernReturn::InvalidRight));
     };
     carry_out(world, task, name, due);
@@ -315,18 +316,17 @@ pub fn deallocate(world: &mut World, task: TaskId, name: Name) -> Result<Reply, 
 /// port of a send-once right is told that it was lost. With a set's name the set goes, and its members
 /// are in none. The task lives.
 ///
-/// `KERN_INVALID_NAME` for a name that isn't in use. A refusal changes nothing. Takes no memory.
-/// Constant time, and logarithmic for a name above 65,535; for a set linear in its members.
+/// `entry` is what was found under the name. Takes no memory. Constant time, and logarithmic for a name above
+/// 65,535; for a set linear in its members.
 #[inline(always)]
-pub fn destroy(world: &mut World, task: TaskId, name: Name) -> Result<Reply, Code>
+pub fn destroy(world: &mut World, task: TaskId, name: Name, entry: &Entry)
     requires there { HasTask world.old task }
     requires stands { Stands world.old }
-    ensures serves { Serves world.old (Event.Destroy task name) result world.new }
+    requires found { entry_at world.old task name ≡ Some entry.now }
+    ensures serves { Serves world.old (Event.Destroy task name) (Ok (AnyReply.Code 0)) world.new }
     ensures spares { UsesSpares world.old world.new }
 {
-    let entry = world.find(task, name)?;
-    carry_out(world, task, name, destroy_entry(&entry));
-    Ok(Reply::Code(0))
+    carry_out(world, task, name, destroy_entry(entry));
 }
 
 // ---- ModRefs

@@ -11,7 +11,7 @@ ghost use Rattle.copyin_base.specs.Stands.{Stands};
 ghost use Rattle.copyin_base.specs.Wanted.{KeepsSpares};
 ghost use Rattle.name_space.specs.Names.{port_at};
 ghost use Rattle.kernel_core_base.specs.Gathered.{IsNoted, AreGathered};
-ghost use Rattle.kernel_core_base.specs.Sets.{set_of_port, is_member, members_in, MayMove};
+ghost use Rattle.kernel_core_base.specs.Sets.{set_of_port, is_member, members_in, MayMove, moved_reply, TellsMoved};
 ghost use Rattle.copyin_base.specs.Worlds.{HasTask};
 
 use copyin_base::{Code, TaskNames, World};
@@ -147,6 +147,15 @@ struct Moving {
     set: Option<SetId>,
 }
 
+/// A port that changed its set: which one, and the set that it was in.
+#[derive(Clone, Copy, Debug)]
+pub struct Moved {
+    /// The port.
+    pub port: PortId,
+    /// The set that it was in before, if any.
+    pub left: Option<SetId>,
+}
+
 /// `MoveMember` (Port Manipulation Interface, `mach_port_move_member`): moves the port whose receive right is
 /// under the first name. The port leaves the set that it is in. It goes into the set under the second name,
 /// unless that is 0. A move into the set that it is in changes nothing. The task lives.
@@ -159,11 +168,12 @@ pub fn move_member(
     task: TaskId,
     member: Name,
     after: Name,
-) -> Result<Reply, Code>
+) -> Result<Moved, Code>
     requires there { HasTask world.old task }
     requires stands { Stands world.old }
-    ensures serves { Serves world.old (Event.MoveMember task member after) result world.new }
+    ensures serves { Serves world.old (Event.MoveMember task member after) (moved_reply result) world.new }
     ensures spares { KeepsSpares world.old world.new }
+    ensures tells { IfOk result (λ moved. TellsMoved world.old task member moved) }
 {
     let moving = judge_move(world, task, member, after)?;
     let attributes = world.attributes(moving.port);
@@ -174,7 +184,10 @@ pub fn move_member(
             ..attributes
         },
     );
-    Ok(Reply::Code(0))
+    Ok(Moved {
+        port: moving.port,
+        left: attributes.set,
+    })
 }
 
 // Which port goes where.

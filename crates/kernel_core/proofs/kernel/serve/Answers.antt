@@ -15,16 +15,16 @@ returns-in-TaskTerminate-clause-performs c =
     rw c.in-TaskTerminate.is (lost _ _ _ _ c.terminate_task.ensures.serves (takes_none _ _ _ c.requires.stands tt _ c.terminate_task.ensures.serves) c.terminate_task.ensures.spares (λ x. x) tt)
 
 pub returns-in-Allocate-clause-performs : goal.returns-in-Allocate-clause-performs
-returns-in-Allocate-clause-performs c = rw c.in-Allocate.is (carried _ _ _ _ c.allocate.ensures.serves c.allocate.ensures.wanted c.allocate.ensures.spares tt (λ reply. refl) tt)
+returns-in-Allocate-clause-performs c = rw c.in-Allocate.is (carried _ _ _ _ c.allocate-made.ensures.serves c.allocate-made.ensures.wanted c.allocate-made.ensures.spares tt (λ reply. refl) tt)
 
 pub returns-in-AllocateName-clause-performs : goal.returns-in-AllocateName-clause-performs
-returns-in-AllocateName-clause-performs c = rw c.in-AllocateName.is (carried _ _ _ _ c.allocate_name.ensures.serves c.allocate_name.ensures.wanted c.allocate_name.ensures.spares tt (λ reply. refl) tt)
+returns-in-AllocateName-clause-performs c = rw c.in-AllocateName.is (carried _ _ _ _ c.allocate_name-made.ensures.serves c.allocate_name-made.ensures.wanted c.allocate_name-made.ensures.spares tt (λ reply. refl) tt)
 
 pub returns-in-Deallocate-clause-performs : goal.returns-in-Deallocate-clause-performs
-returns-in-Deallocate-clause-performs c = rw c.in-Deallocate.is (lost _ _ _ _ c.deallocate.ensures.serves (takes_none _ _ _ c.requires.stands tt _ c.deallocate.ensures.serves) c.deallocate.ensures.spares (λ x. x) tt)
+returns-in-Deallocate-clause-performs c = rw c.in-Deallocate.is (lost _ _ _ _ c.lose_one.ensures.serves (takes_none _ _ _ c.requires.stands tt _ c.lose_one.ensures.serves) c.lose_one.ensures.spares (λ x. x) tt)
 
 pub returns-in-Destroy-clause-performs : goal.returns-in-Destroy-clause-performs
-returns-in-Destroy-clause-performs c = rw c.in-Destroy.is (lost _ _ _ _ c.destroy_name.ensures.serves (takes_none _ _ _ c.requires.stands tt _ c.destroy_name.ensures.serves) c.destroy_name.ensures.spares (λ x. x) tt)
+returns-in-Destroy-clause-performs c = rw c.in-Destroy.is (lost _ _ _ _ c.lose_all.ensures.serves (takes_none _ _ _ c.requires.stands tt _ c.lose_all.ensures.serves) c.lose_all.ensures.spares (λ x. x) tt)
 
 pub returns-in-ModRefs-clause-performs : goal.returns-in-ModRefs-clause-performs
 returns-in-ModRefs-clause-performs c =
@@ -50,7 +50,7 @@ pub returns-in-SetStatus-clause-performs : goal.returns-in-SetStatus-clause-perf
 returns-in-SetStatus-clause-performs c = rw c.in-SetStatus.is (carried _ _ _ _ c.set_status.ensures (always_wants _ _) (keeps_refl _) tt (λ reply. refl) tt)
 
 pub returns-in-MoveMember-clause-performs : goal.returns-in-MoveMember-clause-performs
-returns-in-MoveMember-clause-performs c = rw c.in-MoveMember.is (carried _ _ _ _ c.move_member.ensures.serves (takes_none _ _ _ c.requires.stands tt _ c.move_member.ensures.serves) c.move_member.ensures.spares tt (λ reply. refl) tt)
+returns-in-MoveMember-clause-performs c = rw c.in-MoveMember.is (carried _ _ _ _ c.put_in_set.ensures.serves (takes_none _ _ _ c.requires.stands tt _ c.put_in_set.ensures.serves) c.put_in_set.ensures.spares tt (λ reply. refl) tt)
 
 pub returns-in-SetQlimit-clause-performs : goal.returns-in-SetQlimit-clause-performs
 returns-in-SetQlimit-clause-performs c = rw c.in-SetQlimit.is (carried _ _ _ _ c.set_qlimit.ensures.serves (takes_none _ _ _ c.requires.stands tt _ c.set_qlimit.ensures.serves) c.set_qlimit.ensures.spares tt (λ reply. refl) tt)
@@ -83,79 +83,79 @@ returns-in-Send-clause-performs c =
 
 pub returns-in-Receive-clause-performs : goal.returns-in-Receive-clause-performs
 returns-in-Receive-clause-performs c =
-    let x = rw c.new-in-Receive.ensures at c.receive.ensures in
+    let x = rw c.new-in-Receive.ensures at c.receive-received.ensures in
     rw c.in-Receive.is (record { serves = x.serves; wanted = x.wanted; spares = x.spares; turns = x.turns })
 
 pub returns-in-ReceiveAgain-clause-performs : goal.returns-in-ReceiveAgain-clause-performs
 returns-in-ReceiveAgain-clause-performs c =
-    let x = rw c.new-in-ReceiveAgain.ensures at c.receive_again.ensures in
+    let x = rw c.new-in-ReceiveAgain.ensures at c.receive_again-received.ensures in
     rw c.in-ReceiveAgain.is (record { serves = x.serves; wanted = x.wanted; spares = x.spares; turns = x.turns })
 
 pub returns-in-TaskCreate-clause-tells : goal.returns-in-TaskCreate-clause-tells
-returns-in-TaskCreate-clause-tells c = rw c.in-TaskCreate.is (on_ok _ tt)
+returns-in-TaskCreate-clause-tells c = rw c.in-TaskCreate.is (on_ok _ (λ reply. c.requires.nothing))
 
 pub returns-in-TaskTerminate-clause-tells : goal.returns-in-TaskTerminate-clause-tells
-returns-in-TaskTerminate-clause-tells c = rw c.in-TaskTerminate.is (on_ok _ tt)
+returns-in-TaskTerminate-clause-tells c = rw c.in-TaskTerminate.is (on_ok _ (λ reply. refl))
 
 pub returns-in-Allocate-clause-tells : goal.returns-in-Allocate-clause-tells
-returns-in-Allocate-clause-tells c = rw c.in-Allocate.is (on_ok _ tt)
+returns-in-Allocate-clause-tells c = rw c.in-Allocate.is c.by_making.ensures
 
 pub returns-in-AllocateName-clause-tells : goal.returns-in-AllocateName-clause-tells
-returns-in-AllocateName-clause-tells c = rw c.in-AllocateName.is (on_ok _ tt)
+returns-in-AllocateName-clause-tells c = rw c.in-AllocateName.is c.by_making-in-AllocateName.ensures
 
 pub returns-in-Deallocate-clause-tells : goal.returns-in-Deallocate-clause-tells
-returns-in-Deallocate-clause-tells c = rw c.in-Deallocate.is (on_ok _ c.by_losing_one.ensures)
+returns-in-Deallocate-clause-tells c = rw c.in-Deallocate.is c.lose_one.ensures.tells
 
 pub returns-in-Destroy-clause-tells : goal.returns-in-Destroy-clause-tells
-returns-in-Destroy-clause-tells c = rw c.in-Destroy.is (on_ok _ c.by_losing_all.ensures)
+returns-in-Destroy-clause-tells c = rw c.in-Destroy.is c.lose_all.ensures.tells
 
 pub returns-in-ModRefs-clause-tells : goal.returns-in-ModRefs-clause-tells
-returns-in-ModRefs-clause-tells c = rw c.in-ModRefs.is (on_ok _ tt)
+returns-in-ModRefs-clause-tells c = rw c.in-ModRefs.is (on_ok _ (λ reply. c.by_references.ensures))
 
 pub returns-in-GetRefs-clause-tells : goal.returns-in-GetRefs-clause-tells
-returns-in-GetRefs-clause-tells c = rw c.in-GetRefs.is (on_ok _ tt)
+returns-in-GetRefs-clause-tells c = rw c.in-GetRefs.is (on_ok _ (λ reply. c.requires.nothing))
 
 pub returns-in-NameType-clause-tells : goal.returns-in-NameType-clause-tells
-returns-in-NameType-clause-tells c = rw c.in-NameType.is (on_ok _ tt)
+returns-in-NameType-clause-tells c = rw c.in-NameType.is (on_ok _ (λ reply. c.requires.nothing))
 
 pub returns-in-Names-clause-tells : goal.returns-in-Names-clause-tells
-returns-in-Names-clause-tells c = rw c.in-Names.is (on_ok _ tt)
+returns-in-Names-clause-tells c = rw c.in-Names.is (on_ok _ (λ reply. c.requires.nothing))
 
 pub returns-in-Rename-clause-tells : goal.returns-in-Rename-clause-tells
-returns-in-Rename-clause-tells c = rw c.in-Rename.is (on_ok _ tt)
+returns-in-Rename-clause-tells c = rw c.in-Rename.is (on_ok _ (λ reply. c.requires.nothing))
 
 pub returns-in-ReceiveStatus-clause-tells : goal.returns-in-ReceiveStatus-clause-tells
-returns-in-ReceiveStatus-clause-tells c = rw c.in-ReceiveStatus.is (on_ok _ tt)
+returns-in-ReceiveStatus-clause-tells c = rw c.in-ReceiveStatus.is (on_ok _ (λ reply. c.requires.nothing))
 
 pub returns-in-SetStatus-clause-tells : goal.returns-in-SetStatus-clause-tells
-returns-in-SetStatus-clause-tells c = rw c.in-SetStatus.is (on_ok _ tt)
+returns-in-SetStatus-clause-tells c = rw c.in-SetStatus.is (on_ok _ (λ reply. c.requires.nothing))
 
 pub returns-in-MoveMember-clause-tells : goal.returns-in-MoveMember-clause-tells
-returns-in-MoveMember-clause-tells c = rw c.in-MoveMember.is (on_ok _ c.by_moving.ensures)
+returns-in-MoveMember-clause-tells c = rw c.in-MoveMember.is c.put_in_set.ensures.tells
 
 pub returns-in-SetQlimit-clause-tells : goal.returns-in-SetQlimit-clause-tells
-returns-in-SetQlimit-clause-tells c = rw c.in-SetQlimit.is (on_ok _ tt)
+returns-in-SetQlimit-clause-tells c = rw c.in-SetQlimit.is (on_ok _ (λ reply. refl))
 
 pub returns-in-SetMscount-clause-tells : goal.returns-in-SetMscount-clause-tells
-returns-in-SetMscount-clause-tells c = rw c.in-SetMscount.is (on_ok _ tt)
+returns-in-SetMscount-clause-tells c = rw c.in-SetMscount.is (on_ok _ (λ reply. c.requires.nothing))
 
 pub returns-in-SetSeqno-clause-tells : goal.returns-in-SetSeqno-clause-tells
-returns-in-SetSeqno-clause-tells c = rw c.in-SetSeqno.is (on_ok _ tt)
+returns-in-SetSeqno-clause-tells c = rw c.in-SetSeqno.is (on_ok _ (λ reply. c.requires.nothing))
 
 pub returns-in-InsertRight-clause-tells : goal.returns-in-InsertRight-clause-tells
-returns-in-InsertRight-clause-tells c = rw c.in-InsertRight.is (on_ok _ c.by_handing.ensures)
+returns-in-InsertRight-clause-tells c = rw c.in-InsertRight.is (on_ok _ (λ reply. c.by_handing.ensures))
 
 pub returns-in-ExtractRight-clause-tells : goal.returns-in-ExtractRight-clause-tells
-returns-in-ExtractRight-clause-tells c = rw c.in-ExtractRight.is (on_ok _ c.by_handing-in-ExtractRight.ensures)
+returns-in-ExtractRight-clause-tells c = rw c.in-ExtractRight.is (on_ok _ (λ reply. c.by_handing-in-ExtractRight.ensures))
 
 pub returns-in-RequestNotification-clause-tells : goal.returns-in-RequestNotification-clause-tells
-returns-in-RequestNotification-clause-tells c = rw c.in-RequestNotification.is (on_ok _ tt)
+returns-in-RequestNotification-clause-tells c = rw c.in-RequestNotification.is (on_ok _ (λ reply. refl))
 
 pub returns-in-Receive-clause-tells : goal.returns-in-Receive-clause-tells
-returns-in-Receive-clause-tells c = rw c.in-Receive.is (on_ok _ tt)
+returns-in-Receive-clause-tells c = rw c.in-Receive.is c.by_receipt.ensures
 
 pub returns-in-ReceiveAgain-clause-tells : goal.returns-in-ReceiveAgain-clause-tells
-returns-in-ReceiveAgain-clause-tells c = rw c.in-ReceiveAgain.is (on_ok _ tt)
+returns-in-ReceiveAgain-clause-tells c = rw c.in-ReceiveAgain.is c.by_receipt-in-ReceiveAgain.ensures
 
 pub returns-in-Send-clause-tells : goal.returns-in-Send-clause-tells
 returns-in-Send-clause-tells c = rw c.in-Send.is c.send.ensures.tells

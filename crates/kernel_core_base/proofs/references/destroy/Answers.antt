@@ -7,10 +7,10 @@ use Rattle.kernel_core_base.proofs.references.destroy.Goals as goal
 
 pub carry_out-requires-clause-can : goal.carry_out-requires-clause-can
 carry_out-requires-clause-can c = subst (λ (d : Due). CanCarry c.args.world.now c.args.task c.args.name d) (sym c.destroy_entry.ensures)
-    (can_destroy c.args.world.now c.requires.stands c.args.task c.args.name c.in_ok-entry.entry c.in_ok-entry.ensures.ok)
+    (can_destroy c.args.world.now c.requires.stands c.args.task c.args.name c.args.entry.now c.requires.found)
 
 pub returns-clause-serves : goal.returns-clause-serves
-returns-clause-serves c = destroys c.args.world.now c.args.task c.args.name c.requires.there c.carry_out.new.world c.in_ok-entry.entry c.in_ok-entry.ensures.ok
+returns-clause-serves c = destroys c.args.world.now c.args.task c.args.name c.requires.there c.carry_out.new.world c.args.entry.now c.requires.found
     (subst (λ (d : Due). Carries c.args.world.now c.args.task c.args.name d c.carry_out.new.world) c.destroy_entry.ensures c.carry_out.ensures)
 
 pub returns-clause-spares : goal.returns-clause-spares
