@@ -78,12 +78,14 @@ abbrev pub by_losing_one : Option Entry → Change
 by_losing_one (Some (entry.Send port references)) = Nothing
 by_losing_one (Some (entry.ReceiveAndSend port references)) = Nothing
 by_losing_one (Some (entry.DeadName references)) = Nothing
+by_losing_one (Some (entry.SendOnce port)) = Queue port
 by_losing_one e = Any
 
--- all under a name goes
+-- all under a name goes; the port of a send-once right gets a notice
 abbrev pub by_losing_all : Option Entry → Change
 by_losing_all (Some (entry.Send port references)) = Nothing
 by_losing_all (Some (entry.DeadName references)) = Nothing
+by_losing_all (Some (entry.SendOnce port)) = Queue port
 by_losing_all e = Any
 
 -- a port goes to another set or place, from this set, if it is in one

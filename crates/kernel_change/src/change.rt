@@ -42,18 +42,20 @@ impl Change {
     {
         match entry {
             Entry::Send(..) | Entry::ReceiveAndSend(..) | Entry::DeadName(_) => Change::Nothing,
-            _ => Change::Any,
+            Entry::SendOnce(port) => Change::Queue(*port),
+            Entry::Receive(_) | Entry::Set(_) => Change::Any,
         }
     }
 
-    /// All that is under a name with this entry goes.
+    /// All that is under a name with this entry goes; the port of a send-once right gets a notice.
     #[inline(always)]
     pub fn by_losing_all(entry: &Entry) -> Change
         ensures { result ≡ change_by_losing_all (Some entry.now) }
     {
         match entry {
             Entry::Send(..) | Entry::DeadName(_) => Change::Nothing,
-            _ => Change::Any,
+            Entry::SendOnce(port) => Change::Queue(*port),
+            Entry::Receive(_) | Entry::ReceiveAndSend(..) | Entry::Set(_) => Change::Any,
         }
     }
 

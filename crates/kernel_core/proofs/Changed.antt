@@ -12,8 +12,8 @@ use Rattle.mach_types.specs.declared.calls.Waited.{Waited}
 use Rattle.mach_types.specs.declared.touched.Touched.{Touched}
 use Rattle.mach_types.specs.declared.touched.Touched.TheVariants.{All as Any}
 use Rattle.mach_types.specs.Touching.{Covers}
-use Rattle.mach_types.specs.declared.rights.Disposition.TheVariants.{MoveSend}
-use Rattle.mach_types.specs.Tokens.{Kind, receive, Place, in_task, Request, in_request, count}
+use Rattle.mach_types.specs.declared.rights.Disposition.TheVariants.{MoveSend, MoveSendOnce}
+use Rattle.mach_types.specs.Tokens.{Kind, receive, send_once, token, Place, in_task, Request, in_request, count}
 use Rattle.mach_types.specs.Messages.{Mark, to_port}
 use Rattle.mach_types.specs.Grammar.{Header, WireBody, text, Spells}
 use Rattle.mach_types.specs.TextGuards.{word_at}
@@ -23,9 +23,9 @@ use Rattle.mach_model.specs.Lawful.{IsLawful}
 use Rattle.mach_model.specs.Midway.{MidLawful}
 use Rattle.mach_model.specs.Acts.{Does}
 use Rattle.mach_model.specs.Names.{Makes}
-use Rattle.mach_model.specs.Notices.{Owed}
+use Rattle.mach_model.specs.Notices.{Owed, right_unused}
 use Rattle.mach_model.specs.CopyIn.{CopyRight}
-use Rattle.mach_model.specs.References.{Deallocates, Destroys, Modifies, LosesAll, is_either}
+use Rattle.mach_model.specs.References.{LosesOne, unused_once, Deallocates, Destroys, Modifies, LosesAll, is_either}
 use Rattle.mach_model.specs.Receive.{Receipt, Receives}
 use Rattle.mach_model.specs.Send.{Sends}
 use Rattle.mach_model.specs.Settles.{Settles}
@@ -36,7 +36,7 @@ use Rattle.mach_model.proofs.NamesLawful.{gives-lawful}
 use Rattle.mach_laws.specs.Touching.{TouchesOnly}
 use Rattle.mach_laws.proofs.Losing.{one_keeps, all_keeps, IsCounted, counts_keep, insert_ends, extract_ends, inserts_keep, extracts_keep}
 use Rattle.mach_laws.proofs.Moving.{KeepsOthers, others_end, moved_touches, joins_others, receive_moves}
-use Rattle.mach_laws.proofs.QuietEnd.{IsQuietEnd, ends_quietly}
+use Rattle.mach_laws.proofs.QuietEnd.{IsQuietEnd, ends_quietly, ends_telling_loss}
 use Rattle.mach_laws.proofs.Touching.{Keeps, Changes, keeps_same, keeps_by, changes_none, changes_end, touches, touches_before, gives_keeps, made_touches, set_changes, dead_keeps, IsOtherWord, SendsOthers, keeps_trans, sends_change, sends_alike, ReceivesOthers, receives_change, creates_keep, renames_keep, limit_changes}
 use Rattle.name_space.specs.declared.Entry.{Entry as Named}
 use Rattle.name_space.specs.declared.Entry.TheVariants as named
@@ -44,7 +44,7 @@ use Rattle.name_space.specs.Entry.{port_named}
 use Rattle.port.specs.Ports.{PortView}
 use Rattle.message_codec.specs.declared.words.PortWord.{PortWord}
 use Rattle.copyin_base.specs.Kept.{Kept}
-use Rattle.copyin_base.specs.Posted.{with_posted}
+use Rattle.copyin_base.specs.Posted.{with_notice, with_posted}
 use Rattle.copyin_base.specs.Requests.{notify_of, rights_kept, rights_went}
 use Rattle.copyin_base.specs.Serving.{Completes, Declines}
 use Rattle.copyin_base.specs.Shows.{Agrees, Shows, target_of}
@@ -63,12 +63,12 @@ use Rattle.kernel_core.specs.Touching.{TellsChange, Touches}
 
 -- ---- where nothing is left to do, the state midway and the one after are shown by the same tables
 
-module _ (w : WorldView) (mid t : State) (a : Agrees w mid) (b : Shows w t) (l : MidLawful mid []) (idle : IsIdle w) where
+module _ (w : WorldView) (mid t : State) (a : Agrees w mid) (b : Shows w t) (no_sets : (p : ℕ) → mid.live_port p ≡ false → mid.sets_of p ≡ []) (idle : IsIdle w) where
   same_sets : (p : ℕ) (o : Option (PortView Kept)) → port_at w p ≡ o → t.sets_of p ≡ mid.sets_of p
   same_sets p None is =
       let c : mid.live_port p ≡ false = sym (a.live_port p) ∙ ap is_some is in
       let d : t.live_port p ≡ false = sym (b.agrees.live_port p) ∙ ap is_some is in
-      b.lawful.no_sets p d ∙ sym (l.no_sets p c)
+      b.lawful.no_sets p d ∙ sym (no_sets p c)
   same_sets p (Some v) is = sym (b.agrees.ports p v is).sets ∙ (a.ports p v is).sets
 
   none_by : (live : ℕ → Bool) (o : Option ℕ) (kind : Kind) (q : ℕ) → is_some o ≡ false → rights_kept live o kind q ≡ 0
@@ -90,11 +90,21 @@ module _ (w : WorldView) (mid t : State) (a : Agrees w mid) (b : Shows w t) (l :
     kept = none_kept;
   }
 
+-- So it is where the notice of a lost send-once right was posted.
+quiet_loss : (w : WorldView) (now : ℕ) (mid t : State) (p : ℕ) (place : Place) → Agrees w (with_notice now mid (token send_once p place, right_unused)) → Shows w t → ((q : ℕ) → mid.live_port q ≡ false → mid.sets_of q ≡ []) → IsIdle w → IsQuietEnd mid t
+quiet_loss w now mid t p place a b no_sets idle =
+    let e = quiet_end w (with_notice now mid (token send_once p place, right_unused)) t a b no_sets idle in
+    record { live = e.live; sets = e.sets; stands = e.stands; kept = λ r gone kind q. let none = e.kept r gone kind q in omega (arith, none) }
+
 -- ---- what is covered
 
--- After a quiet end this is all that the step changed; it owed nothing.
+-- The step's own part owed a notice to the port of a send-once right that went unused.
+abbrev OwesLoss : (s mid : State) → Owed → Touched → Type 0
+OwesLoss s mid owed touched = (p : ℕ) × (place : Place) × (owed ≡ (token send_once p place, right_unused) ∷ []) × ((t : State) → Changes mid t (Some p) None → TouchesOnly s t touched)
+
+-- After a quiet end this is all that the step changed; it owed nothing, or one such notice.
 abbrev OwnTouches : (s mid : State) → Owed → Touched → Type 0
-OwnTouches s mid owed touched = (touched ≡ Any) ⊎ (owed ≡ []) × ((t : State) → Keeps mid t → TouchesOnly s t touched)
+OwnTouches s mid owed touched = (touched ≡ Any) ⊎ ((owed ≡ []) × ((t : State) → Keeps mid t → TouchesOnly s t touched)) ⊎ OwesLoss s mid owed touched
 
 pub touches_all : (s t : State) → TouchesOnly s t Any
 touches_all s t = record { ports = λ p not. absurd (not tt); sets = λ set there not. absurd (not tt) }
@@ -107,11 +117,11 @@ one_some x y e = cc
 
 -- nothing that is waited for has changed
 unchanged : (s mid : State) (owed : Owed) (touched : Touched) → Changes s mid None None → owed ≡ [] → OwnTouches s mid owed touched
-unchanged s mid owed touched c none = inr (
+unchanged s mid owed touched c none = inr (inl (
   none,
   λ t k.
       touches s t None None touched (changes_end s mid t None None c k) (λ p e. absurd (none_some p e)) (λ p e. absurd (none_some p e)) (λ p set e. absurd (none_some p e)),
-)
+))
 
 kept_all : (s mid : State) (owed : Owed) (touched : Touched) → Keeps s mid → owed ≡ [] → OwnTouches s mid owed touched
 kept_all s mid owed touched k none = unchanged s mid owed touched (changes_none s mid None None k) none
@@ -154,12 +164,12 @@ module _ (w : WorldView) (mid : State) (a : Agrees w mid) where
   covers_alone : (o : Option ℕ) (p : ℕ) → o ≡ Some p → Covers (few (option_map Waited.Port o) None) (Waited.Port p)
   covers_alone o p e = rw e (0, omega arith, refl)
 
-  covers_set : (l : MidLawful mid []) (p set : ℕ) → Contains (mid.sets_of p) set → Covers (with_set w (Some p)) (Waited.Set set)
-  covers_set l p set in_it = let f = set_is w mid a p (l.no_sets p) set in_it in rw f (1, omega arith, refl)
+  covers_set : (p set : ℕ) → (mid.live_port p ≡ false → mid.sets_of p ≡ []) → Contains (mid.sets_of p) set → Covers (with_set w (Some p)) (Waited.Set set)
+  covers_set p set no_sets in_it = let f = set_is w mid a p no_sets set in_it in rw f (1, omega arith, refl)
 
   -- the queue of one port has changed
   queue_changed : (s : State) (owed : Owed) (p : ℕ) → MidLawful mid [] → Changes s mid (Some p) None → owed ≡ [] → OwnTouches s mid owed (with_set w (Some p))
-  queue_changed s owed p l c none = inr (
+  queue_changed s owed p l c none = inr (inl (
     none,
     λ t k.
         touches s t (Some p) None (with_set w (Some p)) (changes_end s mid t (Some p) None c k)
@@ -167,19 +177,19 @@ module _ (w : WorldView) (mid : State) (a : Agrees w mid) where
         (λ q e. absurd (none_some q e))
         (λ q set e in_it.
         let own : Contains (s.sets_of p) set = subst (λ (x : ℕ). Contains (s.sets_of x) set) (sym (one_some p q e)) in_it in
-        covers_set l p set (subst (λ (xs : List ℕ). Contains xs set) (sym (c.sets p)) own)),
-  )
+        covers_set p set (l.no_sets p) (subst (λ (xs : List ℕ). Contains xs set) (sym (c.sets p)) own)),
+  ))
 
   -- the limit of one port has
   limit_changed : (s : State) (owed : Owed) (task name p : ℕ) → Changes s mid None (Some p) → lookup mid task name ≡ Some (Target.port p) → owed ≡ [] → OwnTouches s mid owed (touched_by w (change.PortNamed task name))
-  limit_changed s owed task name p c found none = inr (
+  limit_changed s owed task name p c found none = inr (inl (
     none,
     λ t k.
         touches s t None (Some p) (touched_by w (change.PortNamed task name)) (changes_end s mid t None (Some p) c k)
         (λ q e. absurd (none_some q e))
         (λ q e. covers_alone (port_under w task name) q (under task name p found ∙ e))
         (λ q set e. absurd (none_some q e)),
-  )
+  ))
 
   -- ---- a receipt
 
@@ -257,14 +267,35 @@ module _ (now : ℕ) (old w : WorldView) (s mid : State) (owed : Owed) (sh : Sho
 
   -- ---- references
 
-  once_any : (o : Option Named) (p : ℕ) → Some (Target.once p) ≡ option_map target_of o → (by_losing_one o ≡ change.Any) × (by_losing_all o ≡ change.Any)
-  once_any None p e = cc
-  once_any (Some (named.Receive q)) p e = cc
-  once_any (Some (named.Send q n)) p e = cc
-  once_any (Some (named.ReceiveAndSend q n)) p e = cc
-  once_any (Some (named.SendOnce q)) p e = (refl, refl)
-  once_any (Some (named.DeadName n)) p e = cc
-  once_any (Some (named.Set set)) p e = cc
+  once_queue : (o : Option Named) (p : ℕ) → Some (Target.once p) ≡ option_map target_of o → (by_losing_one o ≡ change.Queue p) × (by_losing_all o ≡ change.Queue p)
+  once_queue None p e = cc
+  once_queue (Some (named.Receive q)) p e = cc
+  once_queue (Some (named.Send q n)) p e = cc
+  once_queue (Some (named.ReceiveAndSend q n)) p e = cc
+  once_queue (Some (named.SendOnce q)) p e = let f : q ≡ p = (let g = e in cc) in (ap change.Queue f, ap change.Queue f)
+  once_queue (Some (named.DeadName n)) p e = cc
+  once_queue (Some (named.Set set)) p e = cc
+
+  -- a send-once right went, and its port is owed a notice
+  loss_own : (task name p : ℕ) (told : Change) → LosesOne task name MoveSendOnce (Target.once p) s mid → owed ≡ unused_once p task → told ≡ change.Queue p → OwnTouches s mid owed (touched_by w told)
+  loss_own task name p told l is tells = inr (inr (
+    p,
+    in_task task,
+    is,
+    λ t c.
+        touches_before s mid t (touched_by w told) (one_keeps task name MoveSendOnce (Target.once p) s mid refl l)
+        (subst (λ (x : Change). TouchesOnly mid t (touched_by w x)) (sym tells)
+        (touches mid t (Some p) None (with_set w (Some p)) c
+        (λ q e. subst (λ (x : ℕ). Covers (with_set w (Some p)) (Waited.Port x)) (one_some p q e) (covers_port w told_mid posted p))
+        (λ q e. absurd (none_some q e))
+        (λ q set e in_it. covers_set w told_mid posted p set (shown.lawful.no_sets p) (subst (λ (x : ℕ). Contains (mid.sets_of x) set) (sym (one_some p q e)) in_it)))),
+  ))
+    where
+      told_mid : State
+      told_mid = with_notice now mid (token send_once p (in_task task), right_unused)
+
+      posted : Agrees w told_mid
+      posted = subst (λ (o : Owed). Agrees w (with_posted now mid o)) is shown.agrees
 
   set_any : (o : Option Named) (set : ℕ) → Some (Target.set set) ≡ option_map target_of o → by_losing_all o ≡ change.Any
   set_any None set e = cc
@@ -280,7 +311,7 @@ module _ (now : ℕ) (old w : WorldView) (s mid : State) (owed : Owed) (sh : Sho
 
   one_own : (task name : ℕ) (told : Change) → Deallocates task name s mid owed → told ≡ by_losing_one (entry_at old task name) → OwnTouches s mid owed (touched_by w told)
   one_own task name told (inl (p, l, none)) tells = kept_all s mid owed _ (one_keeps task name MoveSend (Target.port p) s mid refl l) none
-  one_own task name told (inr (inl (p, l, is))) tells = inl (any_all told (tells ∙ (once_any (entry_at old task name) p (sym l.found ∙ sh.agrees.naming task name)).0))
+  one_own task name told (inr (inl (p, l, is))) tells = loss_own task name p told l is (tells ∙ (once_queue (entry_at old task name) p (sym l.found ∙ sh.agrees.naming task name)).0)
   one_own task name told (inr (inr (n, l, none))) tells = kept_all s mid owed _ (one_keeps task name MoveSend (Target.dead n) s mid refl l) none
 
   -- all under a port's name goes: send rights, or the receive right too
@@ -303,7 +334,7 @@ module _ (now : ℕ) (old w : WorldView) (s mid : State) (owed : Owed) (sh : Sho
 
   all_own : (task name : ℕ) (told : Change) → Destroys task name s mid owed → told ≡ by_losing_all (entry_at old task name) → OwnTouches s mid owed (touched_by w told)
   all_own task name told (Target.port p, found, d) tells = port_own task name p told found d.0 d.1 d.2 tells
-  all_own task name told (Target.once p, found, d) tells = inl (any_all told (tells ∙ (once_any (entry_at old task name) p (sym found ∙ sh.agrees.naming task name)).1))
+  all_own task name told (Target.once p, found, d) tells = loss_own task name p told d.0 d.1 (tells ∙ (once_queue (entry_at old task name) p (sym found ∙ sh.agrees.naming task name)).1)
   all_own task name told (Target.dead n, found, d) tells =
       kept_all s mid owed _ (keeps_by s mid _ d.0 (λ p. refl) (λ p. refl) (λ p. refl) (λ p. refl) (λ p. refl) (λ set. refl) (λ test is. ap (λ (x : State). count test x.ledger) d.0)) d.1
   all_own task name told (Target.set set, found, d) tells = inl (any_all told (tells ∙ set_any (entry_at old task name) set (sym found ∙ sh.agrees.naming task name)))
@@ -333,12 +364,12 @@ module _ (now : ℕ) (old w : WorldView) (s mid : State) (owed : Owed) (sh : Sho
       was set in_it = set_is old s sh.agrees p (sh.lawful.no_sets p) set in_it
 
       covered : (touched : Touched) → Covers touched (Waited.Port p) → ((set : ℕ) → set_of old p ≡ Some set → Covers touched (Waited.Set set)) → ((set : ℕ) → set_of w p ≡ Some set → Covers touched (Waited.Set set)) → OwnTouches s mid owed touched
-      covered touched port before after = inr (
+      covered touched port before after = inr (inl (
         none,
         λ t k.
             moved_touches p s t (others_end p s mid t others k) touched port (λ set in_it. before set (was set in_it))
             (λ set in_it. after set (set_is w mid (agree none) p ((law none).no_sets p) set (subst (λ (xs : List ℕ). Contains xs set) (k.sets p) in_it))),
-      )
+      ))
 
       go : (o : Option ℕ) → set_of old p ≡ o → OwnTouches s mid owed (touched_by w (left_by p o))
       go None is = covered (with_set w (Some p)) (0, omega arith, refl) (λ set e. absurd (none_some set (sym is ∙ e))) (λ set e. rw e (1, omega arith, refl))
@@ -377,13 +408,13 @@ module _ (now : ℕ) (old w : WorldView) (s mid : State) (owed : Owed) (sh : Sho
       let found : lookup mid task name ≡ Some (Target.port x.ports_made) =
       ap (λ (y : State). lookup y task name) a.rest
       ∙ ap (λ (m : Names). map.get m name) (at_own x.naming task (map.insert (x.naming task) name (Target.port x.ports_made))) ∙ get_own (x.naming task) name (Target.port x.ports_made) in
-      inr (none, λ t e. touches_before s x t _ k (made_touches task name x mid t _ l a e (covers_alone w mid (agree none) (port_under w task name) x.ports_made (under w mid (agree none) task name x.ports_made found))))
+      inr (inl (none, λ t e. touches_before s x t _ k (made_touches task name x mid t _ l a e (covers_alone w mid (agree none) (port_under w task name) x.ports_made (under w mid (agree none) task name x.ports_made found)))))
   made_own task right name x k l (inr (inl (is, e))) none =
-      inr (
+      inr (inl (
         none,
         λ t end. touches_before s x t _ k
             (touches x t None None _ (changes_end x mid t None None (set_changes task name x mid l e) end) (λ p f. absurd (none_some p f)) (λ p f. absurd (none_some p f)) (λ p set f. absurd (none_some p f))),
-      )
+      ))
   made_own task right name x k l (inr (inr (is, e))) none = kept_all s mid owed _ (keeps_trans s x mid k (dead_keeps task name 1 x mid e)) none
 
   -- ---- each call
@@ -441,17 +472,22 @@ module _ (old w new : WorldView) (event : Event) (reply : Reply) (turns : ℕ) (
       let here : Shows w e.0 = subst (λ (x : WorldView). Shows x e.0) same e.2 in
       let ends : (none : d.owed ≡ []) → Keeps d.mid e.0 = λ none.
       let l = law now old w s d.mid d.owed sh d.shows none in
-      ends_quietly now s d.mid e.0 l (quiet_end w d.mid e.0 (agree now old w s d.mid d.owed sh d.shows none) here l idle) (subst (λ (o : Owed). Settles now s d.mid o e.0) none e.1) in
-      let only : TouchesOnly s e.0 (touched_by w told) = by (own now old w s d.mid d.owed sh d.shows event reply told d.does tells) ends in (
+      ends_quietly now s d.mid e.0 l (quiet_end w d.mid e.0 (agree now old w s d.mid d.owed sh d.shows none) here l.no_sets idle) (subst (λ (o : Owed). Settles now s d.mid o e.0) none e.1) in
+      let loses : (p : ℕ) (place : Place) → d.owed ≡ (token send_once p place, right_unused) ∷ [] → Changes d.mid e.0 (Some p) None = λ p place is.
+      ends_telling_loss now s d.mid e.0 p place (subst (MidLawful d.mid) is d.shows.lawful)
+      (quiet_loss w now d.mid e.0 p place (subst (λ (o : Owed). Agrees w (with_posted now d.mid o)) is d.shows.agrees) here d.shows.lawful.no_sets idle) (subst (λ (o : Owed). Settles now s d.mid o e.0) is e.1) in
+      let only : TouchesOnly s e.0 (touched_by w told) = by (own now old w s d.mid d.owed sh d.shows event reply told d.does tells) ends loses in (
         e.0,
         inr (record { performed = record { mid = d.mid; owed = d.owed; does = d.does; settles = e.1 }; unrefused = d.unrefused; judged = d.judged }),
         e.2,
         subst (λ (x : WorldView). TouchesOnly s e.0 (touched_by x told)) (sym same) only,
       )
     where
-      by : {s mid t : State} {owed : Owed} {touched : Touched} → OwnTouches s mid owed touched → ((none : owed ≡ []) → Keeps mid t) → TouchesOnly s t touched
-      by {s} {mid} {t} {owed} {touched} (inl all) ends = subst (TouchesOnly s t) (sym all) (touches_all s t)
-      by {s} {mid} {t} {owed} {touched} (inr (none, only)) ends = only t (ends none)
+      by : {s mid t : State} {owed : Owed} {touched : Touched} → OwnTouches s mid owed touched → ((none : owed ≡ []) → Keeps mid t) →
+          ((p : ℕ) (place : Place) → owed ≡ (token send_once p place, right_unused) ∷ [] → Changes mid t (Some p) None) → TouchesOnly s t touched
+      by {s} {mid} {t} {owed} {touched} (inl all) ends loses = subst (TouchesOnly s t) (sym all) (touches_all s t)
+      by {s} {mid} {t} {owed} {touched} (inr (inl (none, only))) ends loses = only t (ends none)
+      by {s} {mid} {t} {owed} {touched} (inr (inr (p, place, is, only))) ends loses = only t (loses p place is)
 
   pub touched_after : (told : Change) → TellsChange old event reply told → (is_quiet : Bool) → (is_quiet ≡ true → IsIdle w × (new ≡ w)) →
       Touches old event reply new (touched_by new (if is_quiet then told else change.Any))

@@ -1,19 +1,19 @@
 -- A step's end that has nothing to do leaves each port and each set as the step's own part left it.
-use Rattle.std.proofs.Common.{◌≡◌, ℕ, ◌<◌, ◌≤◌, List, [], ◌∷◌, ◌++◌, refl, sym, ap, ◌∙◌, arith, false, Bool, inl, inr, length, All}
-use Rattle.std.specs.Prelude.{if◌then◌else◌, ◌==◌, map as list_map, filter}
+use Rattle.std.proofs.Common.{◌≡◌, ℕ, ◌+◌, ◌<◌, ◌≤◌, ◌⊎◌, List, [], ◌∷◌, ◌++◌, Some, None, refl, sym, ap, ◌∙◌, arith, true, false, Bool, inl, inr, length, All}
+use Rattle.std.specs.Prelude.{◌≢◌, if◌then◌else◌, ◌==◌, map as list_map, filter}
 use Rattle.std.proofs.lemmas.List.{append-nil}
 use Rattle.std.proofs.lemmas.List.Elements.{All-head}
-use Rattle.std.proofs.lemmas.Bool.{true_from_ne_false}
-use Rattle.mach_types.specs.Tokens.{Kind, Request, Place, in_task, in_message, in_request, Token, count}
+use Rattle.std.proofs.lemmas.Bool.{true_from_ne_false, ne_eqb}
+use Rattle.mach_types.specs.Tokens.{Kind, send_once, token, Request, Place, in_task, in_message, in_request, Token, count}
 use Rattle.mach_types.specs.Messages.{Entry}
 use Rattle.mach_model.specs.State.{State}
 use Rattle.mach_model.specs.Carried.{lying}
 use Rattle.mach_model.specs.Midway.{MidLawful}
-use Rattle.mach_model.specs.Notices.{Notice, Posted, all_posted_tokens}
-use Rattle.mach_model.specs.Settles.{PlaceStays, PaysFor, GoesFrom, tokens_of, Settles}
+use Rattle.mach_model.specs.Notices.{Notice, right_unused, Owed, Posted, all_posted_tokens}
+use Rattle.mach_model.specs.Settles.{PlaceStays, PaysFor, GoesFrom, due_notices, tokens_of, Settles}
 use Rattle.mach_model.proofs.Names.{lying_le_of}
 use Rattle.mach_model.proofs.Settling.{own_test}
-use Rattle.mach_laws.proofs.Touching.{Keeps}
+use Rattle.mach_laws.proofs.Touching.{Keeps, Changes, IsOfReceives}
 
 none_mapped : {A B : Type 0} (f : A → B) (xs : List A) → list_map f xs ≡ [] → xs ≡ []
 none_mapped f [] e = refl
@@ -30,7 +30,7 @@ pub record IsQuietEnd (mid new : State) : Type 0 where
   pub stands : (r : Request) → new.stands r ≡ mid.stands r
   pub kept : (r : Request) → mid.stands r ≡ false → (kind : Kind) (q : ℕ) → lying mid kind q (in_request r) ≡ 0
 
-module _ (now : ℕ) (old mid new : State) (l : MidLawful mid []) (quiet : IsQuietEnd mid new) (s : Settles now old mid [] new) where
+module _ (now : ℕ) (old mid new : State) (owed : Owed) (l : MidLawful mid owed) (quiet : IsQuietEnd mid new) (s : Settles now old mid owed new) where
   stays : (kind : Kind) (q : ℕ) (place : Place) → 0 < lying mid kind q place → PlaceStays new place
   stays kind q (in_task t) some = tt
   stays kind q (in_message p k) some = quiet.live p ∙ true_from_ne_false (mid.live_port p) (λ e. let z = l.gone p k (inr e) kind q in omega (arith, some, z))
@@ -64,31 +64,99 @@ module _ (now : ℕ) (old mid new : State) (l : MidLawful mid []) (quiet : IsQui
   none_going : s.rights.going ≡ []
   none_going = none_goes s.rights.going s.rights.go (λ test. let e = s.rights.parts (λ x. if test x then 1 else 0) in omega (arith, e))
 
-  none_posted : s.notices.posted ≡ []
-  none_posted = grind (arith, none_mapped, none_paying)
+  -- notices of what was owed are posted, and no others
+  posted_owed : list_map (λ (x : Posted). (x.port, x.notice)) s.notices.posted ≡ due_notices (filter (λ (x : Token × Notice). new.live_port x.0.port) owed)
+  posted_owed = s.notices.due ∙ ap (λ (xs : Owed). due_notices (xs ++ filter (λ (x : Token × Notice). new.live_port x.0.port) owed)) none_paying
 
-  same_log : (p : ℕ) → new.log p ≡ mid.log p
-  same_log p =
+  -- a port to which none was posted has the log that it had
+  log_stays : (p : ℕ) → length (filter (λ (x : Posted). x.port == p) s.notices.posted) ≡ 0 → new.log p ≡ mid.log p
+  log_stays p none =
       let h = s.notices.logs p in
-      let e : h.0 ≡ [] = none_long h.0 (h.2 ∙ ap (λ (xs : List Posted). length (filter (λ (x : Posted). x.port == p) xs)) none_posted) in
+      let e : h.0 ≡ [] = none_long h.0 (h.2 ∙ none) in
       h.1 ∙ ap (λ (xs : List Entry). mid.log p ++ xs) e ∙ append-nil (mid.log p)
 
-  same_rights : (test : Token → Bool) → count test new.ledger ≡ count test mid.ledger
-  same_rights test =
+  -- the rights are those that were there, and those that the notices brought
+  rights_stay : (test : Token → Bool) → count test new.ledger ≡ count test mid.ledger + count test (all_posted_tokens s.notices.posted)
+  rights_stay test =
       let parts = s.rights.parts (λ x. if test x then 1 else 0) in
       let kept = s.notices.ledger (λ x. if test x then 1 else 0) in
       let a = ap (λ (xs : List (Token × Notice)). count test (tokens_of xs)) none_paying in
       let b = ap (count test) none_going in
-      let c = ap (λ (xs : List Posted). count test (all_posted_tokens xs)) none_posted in
-      omega (arith, parts, kept, a, b, c)
+      omega (arith, parts, kept, a, b)
+
+-- What was owed nothing: all stays.
+module _ (now : ℕ) (old mid new : State) (l : MidLawful mid []) (quiet : IsQuietEnd mid new) (s : Settles now old mid [] new) where
+  none_posted : s.notices.posted ≡ []
+  none_posted = none_mapped (λ (x : Posted). (x.port, x.notice)) s.notices.posted (posted_owed now old mid new [] l quiet s)
 
   pub ends_quietly : Keeps mid new
   ends_quietly = record {
     live = quiet.live;
-    log = same_log;
+    log = λ p. log_stays now old mid new [] l quiet s p (ap (λ (xs : List Posted). length (filter (λ (x : Posted). x.port == p) xs)) none_posted);
     taken = λ p. ap (λ (x : State). x.taken p) s.rest;
     limit = λ p. ap (λ (x : State). x.limit p) s.rest;
     sets = quiet.sets;
     owner = λ set. ap (λ (x : State). x.set_owner set) s.rest;
-    receives = λ test is. same_rights test;
+    receives = λ test is. let a = rights_stay now old mid new [] l quiet s test in let b = ap (λ (xs : List Posted). count test (all_posted_tokens xs)) none_posted in omega (arith, a, b);
+  }
+
+-- One send-once right went unused: the queue of its port alone changes.
+module _ (now : ℕ) (old mid new : State) (p : ℕ) (place : Place) (l : MidLawful mid ((token send_once p place, right_unused) ∷ [])) (quiet : IsQuietEnd mid new) (s : Settles now old mid ((token send_once p place, right_unused) ∷ []) new) where
+  abbrev lost : Owed
+  lost = (token send_once p place, right_unused) ∷ []
+
+  abbrev due : List (ℕ × Notice) → Type 0
+  due xs = (xs ≡ []) ⊎ (xs ≡ (p, right_unused) ∷ [])
+
+  is_due : due (due_notices (filter (λ (x : Token × Notice). new.live_port x.0.port) lost))
+  is_due = go (new.live_port p) refl
+    where
+      go : (b : Bool) → new.live_port p ≡ b → due (due_notices (filter (λ (x : Token × Notice). new.live_port x.0.port) lost))
+      go true e = rw e (inr refl)
+      go false e = rw e (inl refl)
+
+  abbrev One : List Posted → Type 0
+  One posted = (x : Posted) × (posted ≡ x ∷ []) × (x.port ≡ p) × (x.notice ≡ right_unused)
+
+  at_most_one : (posted : List Posted) (xs : List (ℕ × Notice)) → list_map (λ (x : Posted). (x.port, x.notice)) posted ≡ xs → due xs → (posted ≡ []) ⊎ One posted
+  at_most_one [] xs e d = inl refl
+  at_most_one (x ∷ []) xs e (inl none) = absurd (let f = e ∙ none in cc)
+  at_most_one (x ∷ []) xs e (inr one) = inr (let f = e ∙ one in (x, refl, ap (λ (ys : List (ℕ × Notice)). port_of ys) f, ap (λ (ys : List (ℕ × Notice)). notice_of ys) f))
+    where
+      port_of : List (ℕ × Notice) → ℕ
+      port_of [] = 0
+      port_of (y ∷ ys) = y.0
+
+      notice_of : List (ℕ × Notice) → Notice
+      notice_of [] = right_unused
+      notice_of (y ∷ ys) = y.1
+  at_most_one (x ∷ y ∷ ys) xs e (inl none) = absurd (let f = e ∙ none in cc)
+  at_most_one (x ∷ y ∷ ys) xs e (inr one) = absurd (let f = e ∙ one in cc)
+
+  was_posted : (s.notices.posted ≡ []) ⊎ One s.notices.posted
+  was_posted = at_most_one s.notices.posted _ (posted_owed now old mid new lost l quiet s) is_due
+
+  none_elsewhere : (q : ℕ) → q ≢ p → length (filter (λ (x : Posted). x.port == q) s.notices.posted) ≡ 0
+  none_elsewhere q other = elim was_posted [
+    | inl none ↦ rw none refl
+    | inr (x, one, port, notice) ↦ let e : (x.port == q) ≡ false = ne_eqb x.port q (λ f. other (sym f ∙ port)) in rw (one, e) refl
+  ]
+
+  no_receive : (test : Token → Bool) → IsOfReceives test → count test (all_posted_tokens s.notices.posted) ≡ 0
+  no_receive test is = elim was_posted [
+    | inl none ↦ rw none refl
+    | inr (x, one, port, notice) ↦ let e = is.kind (token send_once x.port (in_message x.port x.entry)) refl in rw (one, notice, e) refl
+  ]
+
+  pub ends_telling_loss : Changes mid new (Some p) None
+  ends_telling_loss = record {
+    live = quiet.live;
+    waiting = λ q not.
+        let a = log_stays now old mid new lost l quiet s q (none_elsewhere q (λ e. not (ap Some (sym e)))) in
+        let b : new.taken q ≡ mid.taken q = ap (λ (x : State). x.taken q) s.rest in
+        rw (a, b) refl;
+    limit = λ q not. ap (λ (x : State). x.limit q) s.rest;
+    sets = quiet.sets;
+    owner = λ set there. ap (λ (x : State). x.set_owner set) s.rest;
+    receives = λ test is. let a = rights_stay now old mid new lost l quiet s test in let b = no_receive test is in omega (arith, a, b);
   }
