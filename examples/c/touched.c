@@ -8,8 +8,8 @@
 
 enum { HEADER = 24, WITH_RIGHT = 32, ROOM = 64 };
 
-/* Names that the tasks choose: of the server a port and a set, of the client a send right for that port. */
-enum { PORT = 10, SET = 20, OTHER_SET = 21, SERVICE = 30, SPARE = 40 };
+/* Names that the tasks choose: of the server ports and sets, of the client a send right for the first port. */
+enum { PORT = 10, NOTICES = 11, WATCHED = 12, SET = 20, OTHER_SET = 21, SERVICE = 30, SPARE = 40 };
 
 static gelvonds kernel = GELVONDS_NONE;
 static gelvonds_task server, client;
@@ -107,6 +107,22 @@ static void hand(void) {
          gelvonds_port_extract_right(&kernel, client, SERVICE, MACH_MSG_TYPE_MOVE_RECEIVE, server, &poly, &kind));
 }
 
+/* Notices of one port are asked for, which come to another. */
+static void ask(void) {
+    gelvonds_name previous;
+    gelvonds_port_allocate_name(&kernel, server, MACH_PORT_RIGHT_RECEIVE, NOTICES);
+    gelvonds_port_allocate_name(&kernel, server, MACH_PORT_RIGHT_RECEIVE, WATCHED);
+    tell("request_notification that is told later",
+         gelvonds_port_request_notification(&kernel, server, WATCHED, MACH_NOTIFY_DEAD_NAME, 0, NOTICES,
+                                            MACH_MSG_TYPE_MAKE_SEND_ONCE, &previous));
+    tell("request_notification that is told at once",
+         gelvonds_port_request_notification(&kernel, server, WATCHED, MACH_NOTIFY_NO_SENDERS, 0, NOTICES,
+                                            MACH_MSG_TYPE_MAKE_SEND_ONCE, &previous));
+    tell("a request is taken away",
+         gelvonds_port_request_notification(&kernel, server, WATCHED, MACH_NOTIFY_DEAD_NAME, 0, MACH_PORT_NULL,
+                                            MACH_MSG_TYPE_MAKE_SEND_ONCE, &previous));
+}
+
 /* What dies, and what is lost with it. */
 static void end(void) {
     gelvonds_port_insert_right(&kernel, client, SERVICE, server, PORT, MACH_MSG_TYPE_MAKE_SEND_ONCE);
@@ -126,6 +142,7 @@ int main(void) {
     move();
     talk();
     hand();
+    ask();
     end();
     gelvonds_free(&kernel);
     return 0;

@@ -164,7 +164,8 @@ impl Kernel {
     /// one is. After [`Kernel::move_member`], and where a receive right went to another task, the port with the set
     /// that it was in and the one that it is in. A message names its port and the port's set: one that was sent
     /// without a receive right, one that was received with a body of raw bytes, and the notice for a send-once right
-    /// that was deallocated or destroyed. After each other call, and where
+    /// that was deallocated or destroyed. [`Kernel::request_notification`] names the port of the right that pays,
+    /// whether it tells at once or not, and its set. After each other call, and where
     /// ports died or notices were sent at the end of the step, it is `All`. Takes no memory. Constant time, and
     /// logarithmic for a name above 65,535.
     pub fn touched(&self) -> Touched

@@ -104,6 +104,17 @@ by_moving w task name = moved_from w (port_under w task name)
 abbrev pub by_handing : WorldView → (task name number : ℕ) → Change
 by_handing w task name number = if number == 16 then by_moving w task name else Nothing
 
+-- a notice may be sent to the port of the right that pays for it: the send-once right under the name, or one made of the receive right there
+abbrev pub by_paying : Option Entry → Change
+by_paying (Some (entry.SendOnce port)) = Queue port
+by_paying (Some (entry.Receive port)) = Queue port
+by_paying (Some (entry.ReceiveAndSend port references)) = Queue port
+by_paying e = Any
+
+-- a notice is asked for, to be paid by the right under the name, or no more where that is 0
+abbrev pub by_request : WorldView → (task name number : ℕ) → Change
+by_request w task name number = if name == 0 then Nothing else (if number == 16 then Any else by_paying (entry_at w task name))
+
 -- what the call changes, by the tables before it and by its reply; a send, that names no receive right, by the port that it tells
 abbrev pub change_of : WorldView → Event → Reply → Change
 change_of w Event.TaskCreate reply = Nothing
@@ -126,4 +137,5 @@ change_of w (Event.InsertRight task name from poly number) reply = by_handing w 
 change_of w (Event.ExtractRight task name number to) reply = by_handing w task name number
 change_of w (Event.Receive task name room large) reply = by_receipt task large reply
 change_of w (Event.ReceiveAgain task waited room large) reply = by_receipt task large reply
+change_of w (Event.RequestNotification task name variant sync notify number) reply = by_request w task notify number
 change_of w event reply = Any

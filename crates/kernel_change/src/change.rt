@@ -1,7 +1,7 @@
 //! What a step changed, as it is kept.
 ghost use Rattle.std.specs.Prelude.{◌≡◌, Some, None, IfOk, if◌then◌else◌};
 ghost use Rattle.kernel_change.specs.declared.change.Change.TheVariants.{Any};
-ghost use Rattle.kernel_change.specs.Changing.{few, named_left, port_under, set_of as set_at, with_set as touched_with_set, touched_by, gives_none, by_message as change_by_message, by_receipt as change_by_receipt, by_making as change_by_making, by_send as change_by_send, by_references as change_by_references, by_losing_one as change_by_losing_one, by_losing_all as change_by_losing_all, left_by as change_left_by, by_moving as change_by_moving, by_handing as change_by_handing};
+ghost use Rattle.kernel_change.specs.Changing.{few, named_left, port_under, set_of as set_at, with_set as touched_with_set, touched_by, gives_none, by_message as change_by_message, by_receipt as change_by_receipt, by_making as change_by_making, by_send as change_by_send, by_references as change_by_references, by_losing_one as change_by_losing_one, by_losing_all as change_by_losing_all, left_by as change_left_by, by_moving as change_by_moving, by_handing as change_by_handing, by_paying as change_by_paying, by_request as change_by_request};
 
 use copyin_base::{Code, World};
 use mach_types::{Name, PortId, Reply, SetId, TaskId, Touched, Waited};
@@ -92,6 +92,25 @@ impl Change {
             by_moving(world, task, name)
         } else {
             Change::Nothing
+        }
+    }
+
+    /// A notice is about to be asked for, which the right under the name pays for by a disposition of this number, or
+    /// no more, where the name is 0. The right's port may get the notice at once. Constant time, and logarithmic for a
+    /// name above 65,535.
+    #[inline(never)]
+    pub fn by_request(world: &World, task: TaskId, name: Name, number: u32) -> Change
+        ensures { result ≡ change_by_request world.now task name number }
+    {
+        if name.number() == 0 {
+            return Change::Nothing;
+        }
+        if number == 16 {
+            return Change::Any;
+        }
+        match world.lookup(task, name) {
+            Some(entry) => by_paying(&entry),
+            None => Change::Any,
         }
     }
 
@@ -196,6 +215,19 @@ fn name_left(world: &World, port: PortId, left: SetId) -> Touched
         Some(Waited::Set(left)),
         None,
     ])
+}
+
+/// A notice may be sent to the port of the right that pays for it: this send-once right, or one made of this receive
+/// right.
+fn by_paying(entry: &Entry) -> Change
+    ensures { result ≡ change_by_paying (Some entry.now) }
+{
+    match entry {
+        Entry::SendOnce(port) | Entry::Receive(port) | Entry::ReceiveAndSend(port, _) => {
+            Change::Queue(*port)
+        }
+        Entry::Send(..) | Entry::DeadName(_) | Entry::Set(_) => Change::Any,
+    }
 }
 
 /// The port under the name is about to change its set, or its receive right goes to another place.

@@ -1,6 +1,6 @@
 -- What a kernel keeps of a step covers all that the machine's step changes of ports and sets.
-use Rattle.std.proofs.Common.{◌≡◌, ℕ, ◌<◌, ◌^◌, ◌%◌, List, [], ◌∷◌, Option, Some, None, refl, sym, ap, subst, ◌∙◌, arith, true, false, Bool, inl, inr, ◌⊎◌, length, is_some}
-use Rattle.std.specs.Prelude.{◌≢◌, ◌==◌, ◌||◌, ℤ, not, if◌then◌else◌, Contains, nat_lt, All, Result, Ok, Err, IfOk}
+use Rattle.std.proofs.Common.{◌≡◌, ℕ, ◌<◌, ◌^◌, ◌%◌, List, [], ◌∷◌, ◌++◌, Option, Some, None, refl, sym, ap, subst, ◌∙◌, arith, true, false, Bool, inl, inr, ◌⊎◌, length, is_some}
+use Rattle.std.specs.Prelude.{◌≢◌, ◌==◌, ◌&&◌, ◌||◌, ℤ, not, if◌then◌else◌, Contains, nat_lt, All, Result, Ok, Err, IfOk}
 use Rattle.std.specs.FinMap as map
 use Rattle.std.specs.Option.{option_map, option_and_then, option_to_list}
 use Rattle.std.proofs.lemmas.List.Elements.{All-head, All-tail, All-cons, All-nil}
@@ -12,18 +12,22 @@ use Rattle.mach_types.specs.declared.calls.Waited.{Waited}
 use Rattle.mach_types.specs.declared.touched.Touched.{Touched}
 use Rattle.mach_types.specs.declared.touched.Touched.TheVariants.{All as Any}
 use Rattle.mach_types.specs.Touching.{Covers}
+use Rattle.mach_types.specs.declared.rights.Disposition.{Disposition}
 use Rattle.mach_types.specs.declared.rights.Disposition.TheVariants.{MoveSend, MoveSendOnce}
-use Rattle.mach_types.specs.Tokens.{Kind, receive, send_once, token, Place, in_task, Request, in_request, count}
+use Rattle.mach_types.specs.Tokens.{Kind, receive, send_once, Token, token, Place, in_task, in_message, Request, in_request, count, is_of}
 use Rattle.mach_types.specs.Messages.{Mark, to_port}
 use Rattle.mach_types.specs.Grammar.{Header, WireBody, text, Spells}
 use Rattle.mach_types.specs.TextGuards.{word_at}
 use Rattle.mach_model.specs.State.{State, Names, Target, lookup, held, gives, without_name}
 use Rattle.mach_model.specs.Carried.{lying}
+use Rattle.mach_model.specs.Death.{same_place}
 use Rattle.mach_model.specs.Lawful.{IsLawful}
 use Rattle.mach_model.specs.Midway.{MidLawful}
 use Rattle.mach_model.specs.Acts.{Does}
 use Rattle.mach_model.specs.Names.{Makes}
-use Rattle.mach_model.specs.Notices.{Owed, right_unused}
+use Rattle.mach_model.specs.Notices.{Notice, carried_by, Owed, right_unused}
+use Rattle.mach_model.specs.Requests.{Requests}
+use Rattle.mach_model.specs.SentMeans.{target_mark}
 use Rattle.mach_model.specs.CopyIn.{CopyRight}
 use Rattle.mach_model.specs.References.{LosesOne, unused_once, Deallocates, Destroys, Modifies, LosesAll, is_either}
 use Rattle.mach_model.specs.Receive.{Receipt, Receives}
@@ -36,7 +40,8 @@ use Rattle.mach_model.proofs.NamesLawful.{gives-lawful}
 use Rattle.mach_laws.specs.Touching.{TouchesOnly}
 use Rattle.mach_laws.proofs.Losing.{one_keeps, all_keeps, IsCounted, counts_keep, insert_ends, extract_ends, inserts_keep, extracts_keep}
 use Rattle.mach_laws.proofs.Moving.{KeepsOthers, others_end, moved_touches, joins_others, receive_moves}
-use Rattle.mach_laws.proofs.QuietEnd.{IsQuietEnd, ends_quietly, ends_telling_loss}
+use Rattle.mach_laws.proofs.QuietEnd.{IsQuietEnd, ends_quietly, ends_telling}
+use Rattle.mach_laws.proofs.Requesting.{OwesOne, OwesNone, request_keeps, taken_away_keeps}
 use Rattle.mach_laws.proofs.Touching.{Keeps, Changes, keeps_same, keeps_by, changes_none, changes_end, touches, touches_before, gives_keeps, made_touches, set_changes, dead_keeps, IsOtherWord, SendsOthers, keeps_trans, sends_change, sends_alike, ReceivesOthers, receives_change, creates_keep, renames_keep, limit_changes}
 use Rattle.name_space.specs.declared.Entry.{Entry as Named}
 use Rattle.name_space.specs.declared.Entry.TheVariants as named
@@ -57,7 +62,7 @@ use Rattle.copyin.proofs.Planning.{message, third, copied, none_receives}
 use Rattle.destroy.specs.Stages.{SettlesIn}
 use Rattle.kernel_change.specs.declared.change.Change.TheVariants as change
 use Rattle.kernel_change.specs.declared.change.Change.{Change}
-use Rattle.kernel_change.specs.Changing.{few, port_under, set_of, with_set, named_left, touched_by, gives_none, by_message, by_receipt, by_send, by_references, by_losing_one, by_losing_all, left_by, moved_from, by_moving, by_handing}
+use Rattle.kernel_change.specs.Changing.{few, port_under, set_of, with_set, named_left, touched_by, gives_none, by_message, by_receipt, by_send, by_references, by_paying, by_request, by_losing_one, by_losing_all, left_by, moved_from, by_moving, by_handing}
 use Rattle.kernel_core.specs.Send.{MovesNoReceive, SendsTo, TellsSent}
 use Rattle.kernel_core.specs.Touching.{TellsChange, Touches}
 
@@ -90,21 +95,26 @@ module _ (w : WorldView) (mid t : State) (a : Agrees w mid) (b : Shows w t) (no_
     kept = none_kept;
   }
 
--- So it is where the notice of a lost send-once right was posted.
-quiet_loss : (w : WorldView) (now : ℕ) (mid t : State) (p : ℕ) (place : Place) → Agrees w (with_notice now mid (token send_once p place, right_unused)) → Shows w t → ((q : ℕ) → mid.live_port q ≡ false → mid.sets_of q ≡ []) → IsIdle w → IsQuietEnd mid t
-quiet_loss w now mid t p place a b no_sets idle =
-    let e = quiet_end w (with_notice now mid (token send_once p place, right_unused)) t a b no_sets idle in
-    record { live = e.live; sets = e.sets; stands = e.stands; kept = λ r gone kind q. let none = e.kept r gone kind q in omega (arith, none) }
+-- So it is where one notice was posted, which brings no right.
+quiet_notice : (w : WorldView) (now : ℕ) (mid t : State) (p : ℕ) (place : Place) (notice : Notice) (bare : (at : Place) → carried_by notice at ≡ []) → Agrees w (with_notice now mid (token send_once p place, notice)) → Shows w t →
+    ((q : ℕ) → mid.live_port q ≡ false → mid.sets_of q ≡ []) → IsIdle w → IsQuietEnd mid t
+quiet_notice w now mid t p place notice bare a b no_sets idle =
+    let e = quiet_end w (with_notice now mid (token send_once p place, notice)) t a b no_sets idle in
+    record { live = e.live; sets = e.sets; stands = e.stands; kept = λ r gone kind q. let none = e.kept r gone kind q in let brings = bare (in_message p (length (mid.log p))) in kept_so r kind q (carried_by notice (in_message p (length (mid.log p)))) brings none }
+  where
+    kept_so : (r : Request) (kind : Kind) (q : ℕ) (xs : List Token) → xs ≡ [] → count (λ x. is_of kind q x && same_place (in_request r) x.place) ((token send_once p (in_message p (length (mid.log p))) ∷ xs) ++ mid.ledger) ≡ 0 → lying mid kind q (in_request r) ≡ 0
+    kept_so r kind q [] e none = omega (arith, none)
+    kept_so r kind q (x ∷ xs) e none = absurd (cc)
 
 -- ---- what is covered
 
--- The step's own part owed a notice to the port of a send-once right that went unused.
-abbrev OwesLoss : (s mid : State) → Owed → Touched → Type 0
-OwesLoss s mid owed touched = (p : ℕ) × (place : Place) × (owed ≡ (token send_once p place, right_unused) ∷ []) × ((t : State) → Changes mid t (Some p) None → TouchesOnly s t touched)
+-- The step's own part owed one notice, to this port.
+abbrev OwesNotice : (s mid : State) → Owed → Touched → Type 0
+OwesNotice s mid owed touched = (p : ℕ) × OwesOne p owed × ((t : State) → Changes mid t (Some p) None → TouchesOnly s t touched)
 
 -- After a quiet end this is all that the step changed; it owed nothing, or one such notice.
 abbrev OwnTouches : (s mid : State) → Owed → Touched → Type 0
-OwnTouches s mid owed touched = (touched ≡ Any) ⊎ ((owed ≡ []) × ((t : State) → Keeps mid t → TouchesOnly s t touched)) ⊎ OwesLoss s mid owed touched
+OwnTouches s mid owed touched = (touched ≡ Any) ⊎ ((owed ≡ []) × ((t : State) → Keeps mid t → TouchesOnly s t touched)) ⊎ OwesNotice s mid owed touched
 
 pub touches_all : (s t : State) → TouchesOnly s t Any
 touches_all s t = record { ports = λ p not. absurd (not tt); sets = λ set there not. absurd (not tt) }
@@ -276,14 +286,13 @@ module _ (now : ℕ) (old w : WorldView) (s mid : State) (owed : Owed) (sh : Sho
   once_queue (Some (named.DeadName n)) p e = cc
   once_queue (Some (named.Set set)) p e = cc
 
-  -- a send-once right went, and its port is owed a notice
-  loss_own : (task name p : ℕ) (told : Change) → LosesOne task name MoveSendOnce (Target.once p) s mid → owed ≡ unused_once p task → told ≡ change.Queue p → OwnTouches s mid owed (touched_by w told)
-  loss_own task name p told l is tells = inr (inr (
+  -- a port is owed a notice, and nothing else changed for those that wait
+  notice_own : (p : ℕ) (told : Change) → Keeps s mid → OwesOne p owed → told ≡ change.Queue p → OwnTouches s mid owed (touched_by w told)
+  notice_own p told keeps one tells = inr (inr (
     p,
-    in_task task,
-    is,
+    one,
     λ t c.
-        touches_before s mid t (touched_by w told) (one_keeps task name MoveSendOnce (Target.once p) s mid refl l)
+        touches_before s mid t (touched_by w told) keeps
         (subst (λ (x : Change). TouchesOnly mid t (touched_by w x)) (sym tells)
         (touches mid t (Some p) None (with_set w (Some p)) c
         (λ q e. subst (λ (x : ℕ). Covers (with_set w (Some p)) (Waited.Port x)) (one_some p q e) (covers_port w told_mid posted p))
@@ -292,10 +301,14 @@ module _ (now : ℕ) (old w : WorldView) (s mid : State) (owed : Owed) (sh : Sho
   ))
     where
       told_mid : State
-      told_mid = with_notice now mid (token send_once p (in_task task), right_unused)
+      told_mid = with_notice now mid (token send_once p one.place, one.notice)
 
       posted : Agrees w told_mid
-      posted = subst (λ (o : Owed). Agrees w (with_posted now mid o)) is shown.agrees
+      posted = subst (λ (o : Owed). Agrees w (with_posted now mid o)) one.is shown.agrees
+
+  -- a send-once right went, and its port is owed a notice
+  loss_own : (task name p : ℕ) (told : Change) → LosesOne task name MoveSendOnce (Target.once p) s mid → owed ≡ unused_once p task → told ≡ change.Queue p → OwnTouches s mid owed (touched_by w told)
+  loss_own task name p told l is = notice_own p told (one_keeps task name MoveSendOnce (Target.once p) s mid refl l) (record { place = in_task task; notice = right_unused; bare = λ at. refl; is = is })
 
   set_any : (o : Option Named) (set : ℕ) → Some (Target.set set) ≡ option_map target_of o → by_losing_all o ≡ change.Any
   set_any None set e = cc
@@ -392,6 +405,43 @@ module _ (now : ℕ) (old w : WorldView) (s mid : State) (owed : Owed) (sh : Sho
     | inr e ↦ kept_all s mid owed _ (keeps e.1) none
   ]
 
+  -- ---- a request for a notice
+
+  -- what pays is a right for this port, or one of which nothing is told
+  pays_from : (o : Option Named) (target : Target) (p : ℕ) (d : Disposition) → Some target ≡ option_map target_of o → target_mark d target ≡ Some (to_port p) → (by_paying o ≡ change.Any) ⊎ (by_paying o ≡ change.Queue p)
+  pays_from None target p d e m = absurd (cc)
+  pays_from (Some (named.Send q n)) target p d e m = inl refl
+  pays_from (Some (named.DeadName n)) target p d e m = inl refl
+  pays_from (Some (named.Set set)) target p d e m = inl refl
+  pays_from (Some (named.Receive q)) (Target.port x) p d e m = inr (let f : x ≡ q = (let g = e in cc) in let h : x ≡ p = (let g = m in cc) in ap change.Queue (sym f ∙ h))
+  pays_from (Some (named.ReceiveAndSend q n)) (Target.port x) p d e m = inr (let f : x ≡ q = (let g = e in cc) in let h : x ≡ p = (let g = m in cc) in ap change.Queue (sym f ∙ h))
+  pays_from (Some (named.SendOnce q)) (Target.once x) p d e m = inr (let f : x ≡ q = (let g = e in cc) in let h : x ≡ p = (let g = m in cc) in ap change.Queue (sym f ∙ h))
+  pays_from (Some (named.Receive q)) target p d e m = absurd (let f = e in cc)
+  pays_from (Some (named.ReceiveAndSend q n)) target p d e m = absurd (let f = e in cc)
+  pays_from (Some (named.SendOnce q)) target p d e m = absurd (let f = e in cc)
+
+  paid_own : (task name number p : ℕ) (told : Change) → Keeps s mid → OwesNone p owed → (by_paying (entry_at old task name) ≡ change.Any) ⊎ (by_paying (entry_at old task name) ≡ change.Queue p) → told ≡ by_paying (entry_at old task name) → OwnTouches s mid owed (touched_by w told)
+  paid_own task name number p told keeps (inl none) is tells = kept_all s mid owed _ keeps none
+  paid_own task name number p told keeps (inr one) (inl is) tells = inl (any_all told (tells ∙ is))
+  paid_own task name number p told keeps (inr one) (inr is) tells = notice_own p told keeps one (tells ∙ is)
+
+  request_own : (task name variant sync notify number previous : ℕ) (told : Change) → Requests task name variant sync notify number previous s mid owed → told ≡ by_request old task notify number → OwnTouches s mid owed (touched_by w told)
+  request_own task name variant sync notify number previous told r tells = elim (eqb_tells notify 0) [
+    | inl a ↦ let k = taken_away_keeps task name variant sync notify number previous s mid owed a.1 r in kept_all s mid owed _ k.0 k.1
+    | inr a ↦ elim (eqb_tells number 16) [
+      | inl b ↦ inl (any_all told (tells ∙ (let e = a.0 in let f = b.0 in rw (e, f) refl)))
+      | inr b ↦
+          let k = request_keeps task name variant sync notify number previous s mid owed b.1 r in
+          elim k.1 [
+            | inl none ↦ kept_all s mid owed _ k.0 none.0
+            | inr pays ↦
+                paid_own task notify number pays.port told k.0 pays.owes
+                (pays_from (entry_at old task notify) pays.copy.target pays.port pays.copy.given (sym pays.copy.found ∙ sh.agrees.naming task notify) pays.copy.mark_is)
+                (tells ∙ (let e = a.0 in let f = b.0 in rw (e, f) refl))
+          ]
+    ]
+  ]
+
   -- ---- a receipt
 
   receipt_own : (task : ℕ) (waited : Waited) (room : ℕ) (large : Bool) (reply : Reply) → Receipt s task waited room large reply mid owed → OwnTouches s mid owed (touched_by w (by_receipt task large reply))
@@ -453,7 +503,7 @@ module _ (now : ℕ) (old w : WorldView) (s mid : State) (owed : Owed) (sh : Sho
       handing_own from poly number told i.copied (to_port i.p) (in_task task) i.copy (insert_ends task name from poly number s mid i) (λ not. inserts_keep task name from poly number s mid not i) none tells
   own (Event.ExtractRight task name number to) (Reply.Right new_name kind) told (e, none) tells =
       handing_own task name number told e.copied (to_port e.p) (in_task to) e.copy (extract_ends task name number to new_name kind s mid e) (λ not. extracts_keep task name number to new_name kind s mid not e) none tells
-  own (Event.RequestNotification task name variant sync notify number) reply told d tells = inl (any_all told tells)
+  own (Event.RequestNotification task name variant sync notify number) (Reply.Previous previous) told d tells = request_own task name variant sync notify number previous told d tells
   own event reply told d tells = absurd d
 
 -- ---- the step
@@ -473,10 +523,10 @@ module _ (old w new : WorldView) (event : Event) (reply : Reply) (turns : ℕ) (
       let ends : (none : d.owed ≡ []) → Keeps d.mid e.0 = λ none.
       let l = law now old w s d.mid d.owed sh d.shows none in
       ends_quietly now s d.mid e.0 l (quiet_end w d.mid e.0 (agree now old w s d.mid d.owed sh d.shows none) here l.no_sets idle) (subst (λ (o : Owed). Settles now s d.mid o e.0) none e.1) in
-      let loses : (p : ℕ) (place : Place) → d.owed ≡ (token send_once p place, right_unused) ∷ [] → Changes d.mid e.0 (Some p) None = λ p place is.
-      ends_telling_loss now s d.mid e.0 p place (subst (MidLawful d.mid) is d.shows.lawful)
-      (quiet_loss w now d.mid e.0 p place (subst (λ (o : Owed). Agrees w (with_posted now d.mid o)) is d.shows.agrees) here d.shows.lawful.no_sets idle) (subst (λ (o : Owed). Settles now s d.mid o e.0) is e.1) in
-      let only : TouchesOnly s e.0 (touched_by w told) = by (own now old w s d.mid d.owed sh d.shows event reply told d.does tells) ends loses in (
+      let tells_one : (p : ℕ) → OwesOne p d.owed → Changes d.mid e.0 (Some p) None = λ p one.
+      ends_telling now s d.mid e.0 p one.place one.notice one.bare (subst (MidLawful d.mid) one.is d.shows.lawful)
+      (quiet_notice w now d.mid e.0 p one.place one.notice one.bare (subst (λ (o : Owed). Agrees w (with_posted now d.mid o)) one.is d.shows.agrees) here d.shows.lawful.no_sets idle) (subst (λ (o : Owed). Settles now s d.mid o e.0) one.is e.1) in
+      let only : TouchesOnly s e.0 (touched_by w told) = by (own now old w s d.mid d.owed sh d.shows event reply told d.does tells) ends tells_one in (
         e.0,
         inr (record { performed = record { mid = d.mid; owed = d.owed; does = d.does; settles = e.1 }; unrefused = d.unrefused; judged = d.judged }),
         e.2,
@@ -484,10 +534,10 @@ module _ (old w new : WorldView) (event : Event) (reply : Reply) (turns : ℕ) (
       )
     where
       by : {s mid t : State} {owed : Owed} {touched : Touched} → OwnTouches s mid owed touched → ((none : owed ≡ []) → Keeps mid t) →
-          ((p : ℕ) (place : Place) → owed ≡ (token send_once p place, right_unused) ∷ [] → Changes mid t (Some p) None) → TouchesOnly s t touched
-      by {s} {mid} {t} {owed} {touched} (inl all) ends loses = subst (TouchesOnly s t) (sym all) (touches_all s t)
-      by {s} {mid} {t} {owed} {touched} (inr (inl (none, only))) ends loses = only t (ends none)
-      by {s} {mid} {t} {owed} {touched} (inr (inr (p, place, is, only))) ends loses = only t (loses p place is)
+          ((p : ℕ) → OwesOne p owed → Changes mid t (Some p) None) → TouchesOnly s t touched
+      by {s} {mid} {t} {owed} {touched} (inl all) ends tells_one = subst (TouchesOnly s t) (sym all) (touches_all s t)
+      by {s} {mid} {t} {owed} {touched} (inr (inl (none, only))) ends tells_one = only t (ends none)
+      by {s} {mid} {t} {owed} {touched} (inr (inr (p, one, only))) ends tells_one = only t (tells_one p one)
 
   pub touched_after : (told : Change) → TellsChange old event reply told → (is_quiet : Bool) → (is_quiet ≡ true → IsIdle w × (new ≡ w)) →
       Touches old event reply new (touched_by new (if is_quiet then told else change.Any))

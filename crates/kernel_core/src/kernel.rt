@@ -248,9 +248,9 @@ impl Kernel {
     ///
     /// None before the first step and after a refusal. None, or few, after calls that make or rename something,
     /// that ask, or that set a limit or a count. So it is after a port went to another set or a right to another
-    /// task, where send rights or dead names lost references, and where a send-once right was deallocated or
-    /// destroyed. It is so too after a message that carried no receive right was sent, or was received with a body
-    /// of raw bytes, or none was there.
+    /// task, where send rights or dead names lost references, where a send-once right was deallocated or destroyed,
+    /// and where a notice was asked for. It is so too after a message that carried no receive right was sent, or was
+    /// received with a body of raw bytes, or none was there.
     ///
     /// `All` after every other call, and where ports died or notices were sent at the end of the step. Takes no
     /// memory. Constant time, and logarithmic for a name above 65,535.
@@ -483,7 +483,7 @@ fn serve(world: &mut World, alloc: Global, event: &Event, told: &mut Change) -> 
             extract(world, &TaskName::new(*task, *name), *number, *to)
         }
         Event::RequestNotification(task, name, variant, sync, notify, disposition) => {
-            *told = Change::Any;
+            *told = Change::by_request(world, *task, *notify, *disposition);
             let asked = Asked {
                 variant: *variant,
                 sync: *sync,

@@ -21,6 +21,7 @@ mod Handed
 mod Naming
 mod Tagged
 pub mod Refusals
+pub mod Requesting
 pub mod Deciding
 mod Rising
 mod MemoryFree

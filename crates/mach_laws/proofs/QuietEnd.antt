@@ -9,7 +9,7 @@ use Rattle.mach_types.specs.Messages.{Entry}
 use Rattle.mach_model.specs.State.{State}
 use Rattle.mach_model.specs.Carried.{lying}
 use Rattle.mach_model.specs.Midway.{MidLawful}
-use Rattle.mach_model.specs.Notices.{Notice, right_unused, Owed, Posted, all_posted_tokens}
+use Rattle.mach_model.specs.Notices.{Notice, carried_by, Owed, Posted, all_posted_tokens}
 use Rattle.mach_model.specs.Settles.{PlaceStays, PaysFor, GoesFrom, due_notices, tokens_of, Settles}
 use Rattle.mach_model.proofs.Names.{lying_le_of}
 use Rattle.mach_model.proofs.Settling.{own_test}
@@ -100,23 +100,23 @@ module _ (now : ℕ) (old mid new : State) (l : MidLawful mid []) (quiet : IsQui
     receives = λ test is. let a = rights_stay now old mid new [] l quiet s test in let b = ap (λ (xs : List Posted). count test (all_posted_tokens xs)) none_posted in omega (arith, a, b);
   }
 
--- One send-once right went unused: the queue of its port alone changes.
-module _ (now : ℕ) (old mid new : State) (p : ℕ) (place : Place) (l : MidLawful mid ((token send_once p place, right_unused) ∷ [])) (quiet : IsQuietEnd mid new) (s : Settles now old mid ((token send_once p place, right_unused) ∷ []) new) where
-  abbrev lost : Owed
-  lost = (token send_once p place, right_unused) ∷ []
+-- One notice was owed, which brings no right: the queue of its port alone changes.
+module _ (now : ℕ) (old mid new : State) (p : ℕ) (place : Place) (notice : Notice) (bare : (at : Place) → carried_by notice at ≡ []) (l : MidLawful mid ((token send_once p place, notice) ∷ [])) (quiet : IsQuietEnd mid new) (s : Settles now old mid ((token send_once p place, notice) ∷ []) new) where
+  abbrev told : Owed
+  told = (token send_once p place, notice) ∷ []
 
   abbrev due : List (ℕ × Notice) → Type 0
-  due xs = (xs ≡ []) ⊎ (xs ≡ (p, right_unused) ∷ [])
+  due xs = (xs ≡ []) ⊎ (xs ≡ (p, notice) ∷ [])
 
-  is_due : due (due_notices (filter (λ (x : Token × Notice). new.live_port x.0.port) lost))
+  is_due : due (due_notices (filter (λ (x : Token × Notice). new.live_port x.0.port) told))
   is_due = go (new.live_port p) refl
     where
-      go : (b : Bool) → new.live_port p ≡ b → due (due_notices (filter (λ (x : Token × Notice). new.live_port x.0.port) lost))
+      go : (b : Bool) → new.live_port p ≡ b → due (due_notices (filter (λ (x : Token × Notice). new.live_port x.0.port) told))
       go true e = rw e (inr refl)
       go false e = rw e (inl refl)
 
   abbrev One : List Posted → Type 0
-  One posted = (x : Posted) × (posted ≡ x ∷ []) × (x.port ≡ p) × (x.notice ≡ right_unused)
+  One posted = (x : Posted) × (posted ≡ x ∷ []) × (x.port ≡ p) × (x.notice ≡ notice)
 
   at_most_one : (posted : List Posted) (xs : List (ℕ × Notice)) → list_map (λ (x : Posted). (x.port, x.notice)) posted ≡ xs → due xs → (posted ≡ []) ⊎ One posted
   at_most_one [] xs e d = inl refl
@@ -128,35 +128,38 @@ module _ (now : ℕ) (old mid new : State) (p : ℕ) (place : Place) (l : MidLaw
       port_of (y ∷ ys) = y.0
 
       notice_of : List (ℕ × Notice) → Notice
-      notice_of [] = right_unused
+      notice_of [] = notice
       notice_of (y ∷ ys) = y.1
   at_most_one (x ∷ y ∷ ys) xs e (inl none) = absurd (let f = e ∙ none in cc)
   at_most_one (x ∷ y ∷ ys) xs e (inr one) = absurd (let f = e ∙ one in cc)
 
   was_posted : (s.notices.posted ≡ []) ⊎ One s.notices.posted
-  was_posted = at_most_one s.notices.posted _ (posted_owed now old mid new lost l quiet s) is_due
+  was_posted = at_most_one s.notices.posted _ (posted_owed now old mid new told l quiet s) is_due
 
   none_elsewhere : (q : ℕ) → q ≢ p → length (filter (λ (x : Posted). x.port == q) s.notices.posted) ≡ 0
   none_elsewhere q other = elim was_posted [
     | inl none ↦ rw none refl
-    | inr (x, one, port, notice) ↦ let e : (x.port == q) ≡ false = ne_eqb x.port q (λ f. other (sym f ∙ port)) in rw (one, e) refl
+    | inr (x, one, port, which) ↦ let e : (x.port == q) ≡ false = ne_eqb x.port q (λ f. other (sym f ∙ port)) in rw (one, e) refl
   ]
 
   no_receive : (test : Token → Bool) → IsOfReceives test → count test (all_posted_tokens s.notices.posted) ≡ 0
   no_receive test is = elim was_posted [
     | inl none ↦ rw none refl
-    | inr (x, one, port, notice) ↦ let e = is.kind (token send_once x.port (in_message x.port x.entry)) refl in rw (one, notice, e) refl
+    | inr (x, one, port, which) ↦
+        let e = is.kind (token send_once x.port (in_message x.port x.entry)) refl in
+        let none = ap (λ (n : Notice). carried_by n (in_message x.port x.entry)) which ∙ bare (in_message x.port x.entry) in
+        rw (one, none, e) refl
   ]
 
-  pub ends_telling_loss : Changes mid new (Some p) None
-  ends_telling_loss = record {
+  pub ends_telling : Changes mid new (Some p) None
+  ends_telling = record {
     live = quiet.live;
     waiting = λ q not.
-        let a = log_stays now old mid new lost l quiet s q (none_elsewhere q (λ e. not (ap Some (sym e)))) in
+        let a = log_stays now old mid new told l quiet s q (none_elsewhere q (λ e. not (ap Some (sym e)))) in
         let b : new.taken q ≡ mid.taken q = ap (λ (x : State). x.taken q) s.rest in
         rw (a, b) refl;
     limit = λ q not. ap (λ (x : State). x.limit q) s.rest;
     sets = quiet.sets;
     owner = λ set there. ap (λ (x : State). x.set_owner set) s.rest;
-    receives = λ test is. let a = rights_stay now old mid new lost l quiet s test in let b = no_receive test is in omega (arith, a, b);
+    receives = λ test is. let a = rights_stay now old mid new told l quiet s test in let b = no_receive test is in omega (arith, a, b);
   }

@@ -149,7 +149,7 @@ pub returns-in-ExtractRight-clause-tells : goal.returns-in-ExtractRight-clause-t
 returns-in-ExtractRight-clause-tells c = rw c.in-ExtractRight.is (on_ok _ (λ reply. c.by_handing-in-ExtractRight.ensures))
 
 pub returns-in-RequestNotification-clause-tells : goal.returns-in-RequestNotification-clause-tells
-returns-in-RequestNotification-clause-tells c = rw c.in-RequestNotification.is (on_ok _ (λ reply. refl))
+returns-in-RequestNotification-clause-tells c = rw c.in-RequestNotification.is (on_ok _ (λ reply. c.by_request.ensures))
 
 pub returns-in-Receive-clause-tells : goal.returns-in-Receive-clause-tells
 returns-in-Receive-clause-tells c = rw c.in-Receive.is c.by_receipt.ensures
