@@ -1,8 +1,8 @@
 //! Notes: what is suspicious about a line that is a call.
 use mach_types::{Disposition, Event, TaskId};
-use mach_words::{MessageFault, Phrase, message_fault, task_of, word_at, write_message_fault};
-use std::io;
-use std::io::Write;
+use mach_words::{
+    MessageFault, Phrase, Text, message_fault, task_of, word_at, write_message_fault,
+};
 use tracer_base::ScriptLine;
 
 /// All options of a message call.
@@ -120,13 +120,11 @@ fn send_note(bytes: &[u8]) -> Option<Note> {
     Some(Note::Size(size, bytes.len()))
 }
 
-/// Writes the note in words, without a line feed.
-///
-/// Fails where `out` does; what was written before stays. Constant time; takes no memory.
-pub fn write_note<W: Write>(note: &Note, out: &mut W) -> io::Result<()> {
+/// Writes the note in words, without a line feed. Constant time.
+pub fn write_note(note: &Note, out: &mut Text) {
     match note {
         Note::Message(fault) => write_message_fault(*fault, out),
-        _ => note_phrase(note).write(out),
+        _ => out.phrase(&note_phrase(note)),
     }
 }
 

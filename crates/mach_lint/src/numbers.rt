@@ -49,16 +49,62 @@ const PREFIXES: &[&str] = &[
     "MACH_",
 ];
 
-/// Returns the names in C that stand for numbers of this argument.
-fn names_in_c(argument: &'static str) -> &'static [(&'static str, u32)] {
-    match argument {
-        "RIGHT" => RIGHTS,
-        "DISP" => DISPOSITIONS,
-        "VARIANT" => NOTICES,
-        "OPTIONS" => OPTIONS,
-        "NAME" | "OLD" | "NEW" | "POLY" | "MEMBER" | "SET" | "NOTIFY" => NO_NAMES,
-        _ => &[],
+/// What an argument is.
+#[derive(Clone, Copy)]
+enum Form {
+    /// A number of 32 bits, with its names in C.
+    Number(&'static [(&'static str, u32)]),
+    /// A number of 64 bits.
+    Long,
+    /// A number of 8 bits.
+    Small,
+    /// A change of references.
+    Delta,
+    /// 0 or 1.
+    Flag,
+    /// `p` or `s`.
+    Kind,
+    /// Eight hexadecimal digits.
+    Code,
+    /// Bytes in hexadecimal.
+    Bytes,
+    /// A name and its type.
+    TypedName,
+}
+
+/// The arguments that are no numbers of 32 bits, or have names in C.
+const FORMS: &[(&str, Form)] = &[
+    ("RIGHT", Form::Number(RIGHTS)),
+    ("DISP", Form::Number(DISPOSITIONS)),
+    ("VARIANT", Form::Number(NOTICES)),
+    ("OPTIONS", Form::Number(OPTIONS)),
+    ("NAME", Form::Number(NO_NAMES)),
+    ("OLD", Form::Number(NO_NAMES)),
+    ("NEW", Form::Number(NO_NAMES)),
+    ("POLY", Form::Number(NO_NAMES)),
+    ("MEMBER", Form::Number(NO_NAMES)),
+    ("SET", Form::Number(NO_NAMES)),
+    ("NOTIFY", Form::Number(NO_NAMES)),
+    ("DELTA", Form::Delta),
+    ("LARGE", Form::Flag),
+    ("p|s", Form::Kind),
+    ("CODE", Form::Code),
+    ("TYPE", Form::Code),
+    ("BYTES", Form::Bytes),
+    ("NAME:TYPE", Form::TypedName),
+    ("ID", Form::Long),
+    ("CALLER", Form::Long),
+    ("KIND", Form::Small),
+];
+
+/// Returns what the argument is.
+fn form_of(argument: &str) -> Form {
+    for (name, form) in FORMS {
+        if *name == argument {
+            return *form;
+        }
     }
+    Form::Number(&[])
 }
 
 /// Returns the fault of a word that isn't this argument. `is_message_call` says that the call is `msg`.
@@ -67,23 +113,31 @@ pub(crate) fn word_fault<'a>(
     word: &'a [u8],
     is_message_call: bool,
 ) -> Option<WordFault<'a>> {
-    let fault = match argument {
-        "DELTA" => delta_fault(word),
-        "LARGE" => flag_fault(word),
-        "p|s" => kind_fault(word),
-        "CODE" | "TYPE" => code_fault(word),
-        "BYTES" => bytes_fault(word),
-        "NAME:TYPE" => typed_name_fault(word),
-        "ID" | "CALLER" => number_fault(&[], word, u64::MAX),
-        "KIND" => number_fault(&[], word, 255),
-        "ROOM" if is_message_call => number_fault(&[], word, 65_536),
-        _ => number_fault(names_in_c(argument), word, 4_294_967_295),
+    let fault = if is_message_call && argument == "ROOM" {
+        number_fault(&[], word, 65_536)
+    } else {
+        form_fault(form_of(argument), word)
     }?;
     Some(WordFault {
         argument,
         word,
         fault,
     })
+}
+
+/// Returns the fault of a word that isn't of this form.
+fn form_fault(form: Form, word: &[u8]) -> Option<NumberFault> {
+    match form {
+        Form::Number(names) => number_fault(names, word, 4_294_967_295),
+        Form::Long => number_fault(&[], word, u64::MAX),
+        Form::Small => number_fault(&[], word, 255),
+        Form::Delta => delta_fault(word),
+        Form::Flag => flag_fault(word),
+        Form::Kind => kind_fault(word),
+        Form::Code => code_fault(word),
+        Form::Bytes => bytes_fault(word),
+        Form::TypedName => typed_name_fault(word),
+    }
 }
 
 /// Returns the fault of a word that isn't a number from 0 to `most`. These are its names in C.
@@ -128,10 +182,12 @@ fn are_digits(word: &[u8]) -> bool {
 
 /// Returns the number of the digits, without the leading zeros.
 fn without_zeros(digits: &[u8]) -> Option<u64> {
-    match digits.iter().position(|digit| *digit != b'0') {
-        Some(start) => whole_number(digits.get(start..)?),
-        None => Some(0),
+    for (place, digit) in digits.iter().enumerate() {
+        if *digit != b'0' {
+            return whole_number(digits.get(place..)?);
+        }
     }
+    Some(0)
 }
 
 /// Returns the number of hexadecimal digits, if it fits 64 bits.

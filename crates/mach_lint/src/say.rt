@@ -1,13 +1,9 @@
 //! Faults in words.
 use crate::fault::{Fault, NumberFault, WordFault};
-use mach_words::{Phrase, write_plain};
-use std::io;
-use std::io::Write;
+use mach_words::{Phrase, Text};
 
-/// Writes the fault in words, without a line feed.
-///
-/// Fails where `out` does; what was written before stays. Linear in the word that the fault shows; takes no memory.
-pub fn write_fault<W: Write>(fault: &Fault<'_>, out: &mut W) -> io::Result<()> {
+/// Writes the fault in words, without a line feed. Linear in the word that the fault shows.
+pub fn write_fault(fault: &Fault<'_>, out: &mut Text) {
     match fault {
         Fault::NoCall(number, word, near) => write_unknown(
             *number,
@@ -27,7 +23,7 @@ pub fn write_fault<W: Write>(fault: &Fault<'_>, out: &mut W) -> io::Result<()> {
         Fault::Word(number, fault) => write_word_fault(*number, fault, out),
         Fault::ScriptLine(word) => write_script_line(word, out),
         Fault::NoText(column, byte) => write_no_text(*column, *byte, out),
-        _ => line_phrase(fault).write(out),
+        _ => out.phrase(&line_phrase(fault)),
     }
 }
 
@@ -89,51 +85,48 @@ fn line_words(fault: &Fault<'_>) -> &'static str {
 }
 
 /// Writes that a byte is no printable ASCII.
-fn write_no_text<W: Write>(column: usize, byte: u8, out: &mut W) -> io::Result<()> {
-    write!(
-        out,
-        "the byte {byte:02x} at column {column} is no printable ASCII"
-    )
+fn write_no_text(column: usize, byte: u8, out: &mut Text) {
+    out.words("the byte ");
+    out.hexadecimal(byte);
+    out.words(" at column ");
+    out.number(column as u64);
+    out.words(" is no printable ASCII");
 }
 
 /// Writes that a history has a line of a script.
-fn write_script_line<W: Write>(word: &[u8], out: &mut W) -> io::Result<()> {
-    out.write_all(b"word 2: ")?;
-    write_quoted(word, out)?;
-    out.write_all(b" is a line of a script; a history has the calls that it made")
+fn write_script_line(word: &[u8], out: &mut Text) {
+    out.words("word 2: ");
+    out.quoted(word);
+    out.words(" is a line of a script; a history has the calls that it made");
 }
 
 /// Writes that a word is no call or no reply, as `what` says, and which is near.
-fn write_unknown<W: Write>(
+fn write_unknown(
     number: usize,
     word: &[u8],
     what: &str,
     near: Option<&'static str>,
-    out: &mut W,
-) -> io::Result<()> {
-    Phrase::one("word ", number as u64, ", ").write(out)?;
-    write_quoted(word, out)?;
-    out.write_all(what.as_bytes())?;
-    match near {
-        Some(meant) => write!(out, "; is '{meant}' meant?"),
-        None => Ok(()),
+    out: &mut Text,
+) {
+    out.phrase(&Phrase::one("word ", number as u64, ", "));
+    out.quoted(word);
+    out.words(what);
+    if let Some(meant) = near {
+        out.words("; is '");
+        out.words(meant);
+        out.words("' meant?");
     }
 }
 
 /// Writes which arguments a call or a reply has, and how many the line has.
-fn write_arguments<W: Write>(
-    call: &[u8],
-    arguments: &str,
-    has: usize,
-    out: &mut W,
-) -> io::Result<()> {
-    write_quoted(call, out)?;
-    out.write_all(list_words(arguments).as_bytes())?;
-    out.write_all(arguments.as_bytes())?;
+fn write_arguments(call: &[u8], arguments: &str, has: usize, out: &mut Text) {
+    out.quoted(call);
+    out.words(list_words(arguments));
+    out.words(arguments);
     match has {
-        0 => out.write_all(b"; here is none"),
-        1 => out.write_all(b"; here is 1"),
-        _ => write!(out, "; here are {has}"),
+        0 => out.words("; here is none"),
+        1 => out.words("; here is 1"),
+        _ => out.phrase(&Phrase::one("; here are ", has as u64, "")),
     }
 }
 
@@ -147,21 +140,19 @@ fn list_words(arguments: &str) -> &'static str {
 }
 
 /// Writes the fault of the word of this number.
-fn write_word_fault<W: Write>(number: usize, fault: &WordFault<'_>, out: &mut W) -> io::Result<()> {
-    Phrase::one("word ", number as u64, ": ").write(out)?;
-    write_subject(fault, out)?;
-    word_phrase(fault.fault).write(out)
+fn write_word_fault(number: usize, fault: &WordFault<'_>, out: &mut Text) {
+    out.phrase(&Phrase::one("word ", number as u64, ": "));
+    write_subject(fault, out);
+    out.phrase(&word_phrase(fault.fault));
 }
 
 /// Writes what the fault is about: the word, or its argument with the word or a digit.
-fn write_subject<W: Write>(fault: &WordFault<'_>, out: &mut W) -> io::Result<()> {
+fn write_subject(fault: &WordFault<'_>, out: &mut Text) {
     match fault.fault {
         NumberFault::InC(_) | NumberFault::NoKind | NumberFault::NoTypedName => {
-            write_quoted(fault.word, out)
+            out.quoted(fault.word)
         }
-        NumberFault::OddDigits(_) | NumberFault::Prefix => {
-            out.write_all(fault.argument.as_bytes())
-        }
+        NumberFault::OddDigits(_) | NumberFault::Prefix => out.words(fault.argument),
         NumberFault::Capital(digit, _) | NumberFault::NoDigit(digit, _) => {
             write_part(fault.argument, " has ", &[digit], out)
         }
@@ -170,17 +161,10 @@ fn write_subject<W: Write>(fault: &WordFault<'_>, out: &mut W) -> io::Result<()>
 }
 
 /// Writes an argument, words, and a text in quotes.
-fn write_part<W: Write>(argument: &str, words: &str, text: &[u8], out: &mut W) -> io::Result<()> {
-    out.write_all(argument.as_bytes())?;
-    out.write_all(words.as_bytes())?;
-    write_quoted(text, out)
-}
-
-/// Writes the text in quotes.
-fn write_quoted<W: Write>(text: &[u8], out: &mut W) -> io::Result<()> {
-    out.write_all(b"'")?;
-    write_plain(text, out)?;
-    out.write_all(b"'")
+fn write_part(argument: &str, words: &str, text: &[u8], out: &mut Text) {
+    out.words(argument);
+    out.words(words);
+    out.quoted(text);
 }
 
 /// Returns the words for the fault of a word, behind what it is about.

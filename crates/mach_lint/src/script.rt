@@ -5,7 +5,7 @@ use crate::shape::shape_fault;
 use crate::tables::{line_arguments, near_call};
 use std::alloc::Global;
 use text_reader::read_script_line;
-use tracer_base::{MOST_THREADS, ScriptLine, TextFault, Words};
+use tracer_base::{MOST_THREADS, ScriptLine, TextFault, Words, split_once};
 
 /// How many places there are for blocks: one more than the greatest number of a block.
 const PLACES: usize = 65;
@@ -82,10 +82,7 @@ fn text_fault(text: &[u8]) -> Fault<'_> {
     if let Some(fault) = shape_fault(text) {
         return fault;
     }
-    let mut words = Words::of(text);
-    let Ok(call) = words.word() else {
-        return Fault::Empty;
-    };
+    let call = first_word(text);
     let Some(arguments) = line_arguments(call) else {
         return Fault::NoCall(1, call, near_call(call));
     };
@@ -117,8 +114,19 @@ pub(crate) fn count_words(text: &[u8]) -> usize {
     if text.is_empty() {
         return 0;
     }
-    let spaces = text.iter().filter(|byte| **byte == b' ').count();
-    spaces.saturating_add(1)
+    let mut words: usize = 1;
+    for byte in text {
+        words = words.saturating_add(usize::from(*byte == b' '));
+    }
+    words
+}
+
+/// Returns the first word of the text.
+pub(crate) fn first_word(text: &[u8]) -> &[u8] {
+    match split_once(text, b' ') {
+        Some((word, _)) => word,
+        None => text,
+    }
 }
 
 /// Finds the first fault of the arguments of a call or a reply. `call` is the first word of the text, and `first` is the

@@ -1,6 +1,6 @@
 //! The shape of a line: words with one space between them.
 use crate::fault::Fault;
-use memchr::memchr;
+use memchr::{memchr, memmem};
 
 /// Finds the first fault of the line's shape. Columns count from 1.
 pub(crate) fn shape_fault(line: &[u8]) -> Option<Fault<'_>> {
@@ -60,6 +60,6 @@ fn space_fault(line: &[u8]) -> Option<Fault<'_>> {
     if line.last() == Some(&b' ') {
         return Some(Fault::SpaceBehind);
     }
-    let place = line.windows(2).position(|pair| pair == b"  ".as_slice())?;
+    let place = memmem::find(line, b"  ")?;
     Some(Fault::TwoSpaces(place.saturating_add(1)))
 }

@@ -1,5 +1,5 @@
 //! The calls of scripts and the replies of histories, with their arguments.
-use crate::nearest::is_near;
+use crate::nearest::Nearest;
 
 /// The calls of the kernel, with their arguments.
 const CALLS: &[(&str, &str)] = &[
@@ -84,16 +84,6 @@ fn find(table: &[(&'static str, &'static str)], word: &[u8]) -> Option<&'static 
     None
 }
 
-/// Returns the table's first word that differs little from this one.
-fn nearest(table: &[(&'static str, &'static str)], word: &[u8]) -> Option<&'static str> {
-    for (name, _) in table {
-        if is_near(name.as_bytes(), word) {
-            return Some(*name);
-        }
-    }
-    None
-}
-
 /// Returns the arguments of a call of the kernel.
 pub(crate) fn call_arguments(word: &[u8]) -> Option<&'static str> {
     find(CALLS, word)
@@ -112,22 +102,22 @@ pub(crate) fn reply_arguments(word: &[u8]) -> Option<&'static str> {
     find(REPLIES, word)
 }
 
-/// Returns the call that this longer word means. Otherwise the call, or line of a script, that differs little from the word,
-/// or the call that a longer word near it means.
+/// Returns the call, or line of a script, that is nearest to the word, or that a longer word means which is nearest.
 pub(crate) fn near_call(word: &[u8]) -> Option<&'static str> {
-    if let Some(name) = find(LONGER, word) {
-        return Some(name);
-    }
-    if let Some(name) = nearest(CALLS, word) {
-        return Some(name);
-    }
-    match nearest(LINES, word) {
-        Some(name) => Some(name),
-        None => find(LONGER, nearest(LONGER, word)?.as_bytes()),
+    let mut nearest = Nearest::to(word);
+    nearest.look(CALLS);
+    nearest.look(LINES);
+    nearest.look(LONGER);
+    let near = nearest.word()?;
+    match find(LONGER, near.as_bytes()) {
+        Some(call) => Some(call),
+        None => Some(near),
     }
 }
 
-/// Returns the reply that differs little from this word.
+/// Returns the reply that is nearest to the word.
 pub(crate) fn near_reply(word: &[u8]) -> Option<&'static str> {
-    nearest(REPLIES, word)
+    let mut nearest = Nearest::to(word);
+    nearest.look(REPLIES);
+    nearest.word()
 }

@@ -1,71 +1,46 @@
-//! Bytes of messages and of files, written so that they are safe for a terminal.
-ghost use Rattle.std.specs.Prelude.{◌≡◌, ℕ, List, IsTrue, OnOk};
-ghost use Rattle.std.specs.Io.KnownBytes.{Appends};
-ghost use Rattle.mach_words.specs.Plain.{IsPlain, IsPlainText};
-
-use std::io;
-use std::io::Write;
+//! Bytes of messages, written so that they are safe for a terminal.
+use crate::text::{Text, is_printable};
 
 /// How many bytes are written in hexadecimal.
 const SHOWN: usize = 16;
 
-/// Whether the byte is printable ASCII, which includes the space.
-fn is_printable(byte: u8) -> bool
-    ensures { IsTrue result → IsPlain byte }
-{
-    32 <= byte && byte <= 126
-}
-
-/// Writes the text to `out`. Each byte that isn't printable ASCII (32 to 126) is written as a dot.
-///
-/// Fails where `out` does; what was written before stays. Linear in the text; takes no memory.
-pub fn write_plain<W: Write>(text: &[u8], out: &mut W) -> io::Result<()>
-    ensures { OnOk result ((shown : List ℕ) × IsPlainText shown × Appends (W.contents out.old) (W.contents out.new) shown) }
-{
-    for byte in text {
-        write_byte(*byte, out)?;
-    }
-    Ok(())
-}
-
-/// Writes the byte, or a dot if it isn't 32 to 126.
-fn write_byte<W: Write>(byte: u8, out: &mut W) -> io::Result<()>
-    ensures { OnOk result ((shown : List ℕ) × IsPlainText shown × Appends (W.contents out.old) (W.contents out.new) shown) }
-{
-    if is_printable(byte) {
-        out.write_all(&[byte])
-    } else {
-        out.write_all(b".")
-    }
-}
-
 /// Writes data: its first 16 bytes in hexadecimal, and how many more there are. If the data is text, it follows in
-/// quotes. Data is text if, without the zeros at its end, it is printable and has no quote and no backslash.
-///
-/// Fails where `out` does; what was written before stays. Linear in the data; takes no memory.
-pub fn write_data<W: Write>(data: &[u8], out: &mut W) -> io::Result<()> {
-    for byte in data.iter().take(SHOWN) {
-        write!(out, "{byte:02x}")?;
-    }
+/// quotes. Data is text if, without the zeros at its end, it is printable and has no quote and no backslash. Linear in
+/// the data.
+pub fn write_data(data: &[u8], out: &mut Text) {
+    write_digits(data.get(..SHOWN).unwrap_or(data), out);
     if data.len() > SHOWN {
-        write!(out, ".. {} more", data.len() - SHOWN)?;
+        out.words(".. ");
+        out.number((data.len() - SHOWN) as u64);
+        out.words(" more");
     }
-    write_quoted(without_zeros(data), out)
+    write_quoted(without_zeros(data), out);
+}
+
+/// Writes the bytes in hexadecimal.
+fn write_digits(bytes: &[u8], out: &mut Text) {
+    for byte in bytes {
+        out.hexadecimal(*byte);
+    }
 }
 
 /// Writes a space and the text in quotes, or nothing if it can't be quoted.
-fn write_quoted<W: Write>(text: &[u8], out: &mut W) -> io::Result<()> {
-    if text.is_empty() || !is_quotable(text) {
-        return Ok(());
+fn write_quoted(text: &[u8], out: &mut Text) {
+    if !text.is_empty() && is_quotable(text) {
+        out.words(" \"");
+        out.plain(text);
+        out.words("\"");
     }
-    out.write_all(b" \"")?;
-    write_plain(text, out)?;
-    out.write_all(b"\"")
 }
 
 /// Whether all bytes are printable, and none is a quote or a backslash.
 fn is_quotable(text: &[u8]) -> bool {
-    text.iter().all(|byte| is_printable(*byte) && *byte != b'"' && *byte != b'\\')
+    for byte in text {
+        if !is_printable(*byte) || *byte == b'"' || *byte == b'\\' {
+            return false;
+        }
+    }
+    true
 }
 
 /// Returns the data without the zeros at its end.

@@ -1,9 +1,8 @@
 //! Why bytes are no message that can be sent, and that in words.
 use crate::data::word_at;
 use crate::phrase::Phrase;
+use crate::text::Text;
 use mach_types::limits::MOST_BYTES;
-use std::io;
-use std::io::Write;
 
 /// How many bytes a header has.
 const HEADER: usize = 24;
@@ -189,17 +188,18 @@ fn read_long(rest: &[u8]) -> Descriptor<'_> {
     }
 }
 
-/// Writes the fault in words, without a line feed.
-///
-/// Fails where `out` does; what was written before stays. Constant time; takes no memory.
-pub fn write_message_fault<W: Write>(fault: MessageFault, out: &mut W) -> io::Result<()> {
+/// Writes the fault in words, without a line feed. Constant time.
+pub fn write_message_fault(fault: MessageFault, out: &mut Text) {
     match fault {
-        MessageFault::Bits(bits) => write!(out, "bytes 0 to 3: no header has the bits {bits:08x}"),
-        MessageFault::Item(item, at, fault) => {
-            Phrase::two("item ", u64::from(item), ", at byte ", at as u64, ": ").write(out)?;
-            item_phrase(fault).write(out)
+        MessageFault::Bits(bits) => {
+            out.words("bytes 0 to 3: no header has the bits ");
+            out.code(bits);
         }
-        _ => message_phrase(fault).write(out),
+        MessageFault::Item(item, at, fault) => {
+            out.phrase(&Phrase::two("item ", u64::from(item), ", at byte ", at as u64, ": "));
+            out.phrase(&item_phrase(fault));
+        }
+        _ => out.phrase(&message_phrase(fault)),
     }
 }
 

@@ -1,10 +1,8 @@
 //! Labels: words that a user gives to tasks, ports, sets, message ids and callers.
+use crate::text::Text;
 use mach_types::{PortId, SetId, TaskId};
 use number_map::NumberMap;
 use std::alloc::{AllocError, Global};
-use std::io;
-use std::io::Write;
-use thiserror::Error;
 use tracer_base::Words;
 
 /// How many bytes the longest label has.
@@ -26,38 +24,52 @@ struct Labelled {
 }
 
 /// Why a line of labels was refused.
-#[derive(Clone, Copy, Debug, Error)]
+#[derive(Clone, Copy)]
 pub enum LabelFault {
     /// The line is empty.
-    #[error("the line is empty")]
     Empty,
     /// The first word isn't what labels are for.
-    #[error("the first word is not 'task', 'port', 'set', 'id' or 'caller'")]
     NoKind,
     /// The second word isn't a number, or isn't there.
-    #[error("the second word is no number from 0 to 18446744073709551615")]
     NoNumber,
     /// There is no third word.
-    #[error("there is no word behind the number")]
     NoWord,
     /// There is a fourth word.
-    #[error("there is more behind the third word; a label has no space")]
     TooMany,
     /// The label is too long.
-    #[error("the label has more than 24 letters")]
     TooLong,
     /// The label doesn't begin with a letter.
-    #[error("the label does not begin with a letter")]
     NoLetter,
     /// The label has a byte that no label has.
-    #[error("the label has something else than letters, digits, '-' and '_'")]
     NoLabelByte,
     /// The line names something that has a label already.
-    #[error("this has a label already")]
     Twice,
     /// Out of memory.
-    #[error("out of memory")]
     OutOfMemory,
+}
+
+impl LabelFault {
+    /// Returns the fault in words. Constant time.
+    pub fn words(self) -> &'static str {
+        match self {
+            LabelFault::Empty => "the line is empty",
+            LabelFault::NoKind => {
+                "the first word is not 'task', 'port', 'set', 'id' or 'caller'"
+            }
+            LabelFault::NoNumber => {
+                "the second word is no number from 0 to 18446744073709551615"
+            }
+            LabelFault::NoWord => "there is no word behind the number",
+            LabelFault::TooMany => { "there is more behind the third word; a label has no space" }
+            LabelFault::TooLong => "the label has more than 24 letters",
+            LabelFault::NoLetter => "the label does not begin with a letter",
+            LabelFault::NoLabelByte => {
+                "the label has something else than letters, digits, '-' and '_'"
+            }
+            LabelFault::Twice => "this has a label already",
+            LabelFault::OutOfMemory => "out of memory",
+        }
+    }
 }
 
 impl From<AllocError> for LabelFault {
@@ -66,30 +78,76 @@ impl From<AllocError> for LabelFault {
     }
 }
 
+/// The labels of things of one kind, by their numbers, and once more in the order of their lines.
+#[derive(Drop)]
+struct Table {
+    labels: NumberMap<Label>,
+    list: Vec<Labelled>,
+}
+
+impl Table {
+    /// Makes an empty table. Takes no memory.
+    fn new(alloc: Global) -> Table {
+        Table {
+            labels: NumberMap::new(alloc),
+            list: Vec::new(alloc),
+        }
+    }
+
+    /// Enters a label. Returns `Twice` if its number has one, or `OutOfMemory`.
+    fn enter(&mut self, labelled: Labelled) -> Result<(), LabelFault> {
+        if self.labels.get(labelled.number).is_some() {
+            return Err(LabelFault::Twice);
+        }
+        self.labels.reserve(1)?;
+        self.labels.insert(labelled.number, labelled.label);
+        match self.list.push(labelled) {
+            Ok(()) => Ok(()),
+            Err(_) => Err(LabelFault::OutOfMemory),
+        }
+    }
+
+    /// Returns the number of the first thing that has this label.
+    fn number_of(&self, label: &[u8]) -> Option<u64> {
+        for labelled in self.list.as_slice() {
+            if word_of(&labelled.label) == label {
+                return Some(labelled.number);
+            }
+        }
+        None
+    }
+
+    /// Writes the label of this number, or the prefix and the number if it has none.
+    fn write(&self, number: u64, prefix: &str, out: &mut Text) {
+        match self.labels.get(number) {
+            Some(label) => out.plain(word_of(&label)),
+            None => {
+                out.words(prefix);
+                out.number(number);
+            }
+        }
+    }
+}
+
 /// Labels, each under what it names.
 #[derive(Drop)]
 pub struct Labels {
-    tasks: NumberMap<Label>,
-    ports: NumberMap<Label>,
-    sets: NumberMap<Label>,
-    ids: NumberMap<Label>,
-    callers: NumberMap<Label>,
-    // The labels of tasks and ports once more, in the order of their lines.
-    of_tasks: Vec<Labelled>,
-    of_ports: Vec<Labelled>,
+    tasks: Table,
+    ports: Table,
+    sets: Table,
+    ids: Table,
+    callers: Table,
 }
 
 impl Labels {
     /// Makes an empty table. Takes no memory.
     pub fn new(alloc: Global) -> Labels {
         Labels {
-            tasks: NumberMap::new(alloc),
-            ports: NumberMap::new(alloc),
-            sets: NumberMap::new(alloc),
-            ids: NumberMap::new(alloc),
-            callers: NumberMap::new(alloc),
-            of_tasks: Vec::new(alloc),
-            of_ports: Vec::new(alloc),
+            tasks: Table::new(alloc),
+            ports: Table::new(alloc),
+            sets: Table::new(alloc),
+            ids: Table::new(alloc),
+            callers: Table::new(alloc),
         }
     }
 
@@ -107,35 +165,24 @@ impl Labels {
         let Ok(kind) = words.word() else {
             return Err(LabelFault::NoKind);
         };
-        let Some(table) = self.table(kind) else {
-            return Err(LabelFault::NoKind);
-        };
-        let labelled = labelled_of(words)?;
-        enter(table, &labelled)?;
-        self.keep(kind, labelled)
-    }
-
-    /// Keeps the label of a task or a port, so that its number is found by it.
-    fn keep(&mut self, kind: &[u8], labelled: Labelled) -> Result<(), LabelFault> {
-        match kind {
-            b"task" => append(&mut self.of_tasks, labelled),
-            b"port" => append(&mut self.of_ports, labelled),
-            _ => Ok(()),
+        match self.table(kind) {
+            Some(table) => table.enter(labelled_of(words)?),
+            None => Err(LabelFault::NoKind),
         }
     }
 
     /// Returns the number of the first task that has this label; `None` if none has. Linear in the labels of tasks.
     pub fn task_named(&self, label: &[u8]) -> Option<u64> {
-        number_of(self.of_tasks.as_slice(), label)
+        self.tasks.number_of(label)
     }
 
     /// Returns the identity of the first port that has this label; `None` if none has. Linear in the labels of ports.
     pub fn port_named(&self, label: &[u8]) -> Option<u64> {
-        number_of(self.of_ports.as_slice(), label)
+        self.ports.number_of(label)
     }
 
     /// Returns the table of the kind that the word names.
-    fn table(&mut self, kind: &[u8]) -> Option<&mut NumberMap<Label>> {
+    fn table(&mut self, kind: &[u8]) -> Option<&mut Table> {
         match kind {
             b"task" => Some(&mut self.tasks),
             b"port" => Some(&mut self.ports),
@@ -146,69 +193,42 @@ impl Labels {
         }
     }
 
-    /// Writes a task's label, or `T` and its number if it has none.
-    ///
-    /// Fails where `out` does; what was written before stays. Constant time; takes no memory.
-    pub fn write_task<W: Write>(&self, task: TaskId, out: &mut W) -> io::Result<()> {
-        match self.tasks.get(u64::from(task.number())) {
-            Some(label) => write_label(&label, out),
-            None => write!(out, "T{}", task.number()),
-        }
+    /// Writes a task's label, or `T` and its number if it has none. Constant time.
+    pub fn write_task(&self, task: TaskId, out: &mut Text) {
+        self.tasks.write(u64::from(task.number()), "T", out);
     }
 
-    /// Writes a port's label, or `p` and its identity. Errors and cost are those of [`Labels::write_task`].
-    pub fn write_port<W: Write>(&self, port: PortId, out: &mut W) -> io::Result<()> {
-        match self.ports.get(port.number()) {
-            Some(label) => write_label(&label, out),
-            None => write!(out, "p{}", port.number()),
-        }
+    /// Writes a port's label, or `p` and its identity. Constant time.
+    pub fn write_port(&self, port: PortId, out: &mut Text) {
+        self.ports.write(port.number(), "p", out);
     }
 
-    /// Writes a set's label, or `s` and its identity. Errors and cost are those of [`Labels::write_task`].
-    pub fn write_set<W: Write>(&self, set: SetId, out: &mut W) -> io::Result<()> {
-        match self.sets.get(set.number()) {
-            Some(label) => write_label(&label, out),
-            None => write!(out, "s{}", set.number()),
-        }
+    /// Writes a set's label, or `s` and its identity. Constant time.
+    pub fn write_set(&self, set: SetId, out: &mut Text) {
+        self.sets.write(set.number(), "s", out);
     }
 
-    /// Writes the label of a message id, or `id` and the number. Errors and cost are those of [`Labels::write_task`].
-    pub fn write_id<W: Write>(&self, id: u32, out: &mut W) -> io::Result<()> {
-        match self.ids.get(u64::from(id)) {
-            Some(label) => write_label(&label, out),
-            None => write!(out, "id {id}"),
-        }
+    /// Writes the label of a message id, or `id` and the number. Constant time.
+    pub fn write_id(&self, id: u32, out: &mut Text) {
+        self.ids.write(u64::from(id), "id ", out);
     }
 
     /// Writes who made a call: the caller's label, or the task's label or number. A caller other than 0 without a label
-    /// adds a slash and its number. Errors and cost are those of [`Labels::write_task`].
-    pub fn write_caller<W: Write>(&self, caller: u64, task: TaskId, out: &mut W) -> io::Result<()> {
-        if let Some(label) = self.callers.get(caller) {
-            return write_label(&label, out);
+    /// adds a slash and its number. Constant time.
+    pub fn write_caller(&self, caller: u64, task: TaskId, out: &mut Text) {
+        match self.callers.labels.get(caller) {
+            Some(label) => out.plain(word_of(&label)),
+            None => self.write_unlabelled(caller, task, out),
         }
-        self.write_task(task, out)?;
-        if caller == 0 {
-            return Ok(());
+    }
+
+    /// Writes a caller without a label.
+    fn write_unlabelled(&self, caller: u64, task: TaskId, out: &mut Text) {
+        self.write_task(task, out);
+        if caller != 0 {
+            out.words("/");
+            out.number(caller);
         }
-        write!(out, "/{caller}")
-    }
-}
-
-/// Enters a label under a number. Returns `Twice` if that has one, or `OutOfMemory`; the table is then unchanged.
-fn enter(table: &mut NumberMap<Label>, labelled: &Labelled) -> Result<(), LabelFault> {
-    if table.get(labelled.number).is_some() {
-        return Err(LabelFault::Twice);
-    }
-    table.reserve(1)?;
-    table.insert(labelled.number, labelled.label);
-    Ok(())
-}
-
-/// Appends a label to the list.
-fn append(list: &mut Vec<Labelled>, labelled: Labelled) -> Result<(), LabelFault> {
-    match list.push(labelled) {
-        Ok(()) => Ok(()),
-        Err(_) => Err(LabelFault::OutOfMemory),
     }
 }
 
@@ -225,16 +245,6 @@ fn labelled_of(mut words: Words<'_>) -> Result<Labelled, LabelFault> {
     }
     let label = label_of(word)?;
     Ok(Labelled { number, label })
-}
-
-/// Returns the number of the first thing that has this label.
-fn number_of(all: &[Labelled], label: &[u8]) -> Option<u64> {
-    for labelled in all {
-        if word_of(&labelled.label) == label {
-            return Some(labelled.number);
-        }
-    }
-    None
 }
 
 /// Whether a label may have the byte.
@@ -277,9 +287,4 @@ fn word_of(label: &Label) -> &[u8] {
         .bytes
         .get(..label.length)
         .unwrap_or(label.bytes.as_slice())
-}
-
-/// Writes a label.
-fn write_label<W: Write>(label: &Label, out: &mut W) -> io::Result<()> {
-    crate::data::write_plain(word_of(label), out)
 }

@@ -8,8 +8,9 @@ mod faults;
 mod labels;
 mod numbers;
 mod phrase;
+mod text;
 
-pub use data::{word_at, write_data, write_plain};
+pub use data::{word_at, write_data};
 pub use events::task_of;
 pub use faults::{ItemFault, MessageFault, message_fault, write_message_fault};
 pub use labels::{LabelFault, Labels};
@@ -18,3 +19,4 @@ pub use numbers::{
     write_type,
 };
 pub use phrase::Phrase;
+pub use text::Text;

@@ -1,7 +1,6 @@
 //! Words for numbers of the interface.
+use crate::text::Text;
 use mach_types::{KernReturn, MsgReturn};
-use std::io;
-use std::io::Write;
 
 /// Returns a disposition's name in C, without its prefix `MACH_MSG_TYPE_`; `None` if no disposition has the number.
 /// Constant time.
@@ -57,27 +56,29 @@ pub fn is_notice(id: u32) -> bool {
     notice_word(id).is_some()
 }
 
-/// Writes a disposition's name in C, as [`disposition_name`] has it, or the word `disposition` and the number.
-///
-/// Fails where `out` does; what was written before stays. Constant time; takes no memory.
-pub fn write_right_name<W: Write>(number: u32, out: &mut W) -> io::Result<()> {
+/// Writes a disposition's name in C, as [`disposition_name`] has it, or the word `disposition` and the number. Constant
+/// time.
+pub fn write_right_name(number: u32, out: &mut Text) {
     match disposition_name(number) {
-        Some(name) => out.write_all(name.as_bytes()),
-        None => write!(out, "disposition {number}"),
+        Some(name) => out.words(name),
+        None => out.around("disposition ", number, ""),
     }
 }
 
 /// Writes a code by its name in C. With `is_message` the names of sends and receives are looked up first. A code
-/// without a name is written as eight hexadecimal digits. Errors and cost are those of [`write_right_name`].
-pub fn write_code<W: Write>(code: u32, is_message: bool, out: &mut W) -> io::Result<()> {
-    if is_message {
-        if let Some(named) = MsgReturn::from_number(code) {
-            return write!(out, "{named}");
-        }
+/// without a name is written as eight hexadecimal digits. Constant time.
+pub fn write_code(code: u32, is_message: bool, out: &mut Text) {
+    match MsgReturn::from_number(code) {
+        Some(named) if is_message => out.shown(&named),
+        _ => write_kernel_code(code, out),
     }
+}
+
+/// Writes the code of a call that is no send and no receive.
+fn write_kernel_code(code: u32, out: &mut Text) {
     match KernReturn::from_number(code) {
-        Some(named) => write!(out, "{named}"),
-        None => write!(out, "{code:08x}"),
+        Some(named) => out.shown(&named),
+        None => out.code(code),
     }
 }
 
@@ -91,26 +92,24 @@ const TYPE_WORDS: &[(u32, &str)] = &[
     (0x8000_0000, "request"),
 ];
 
-/// Writes the words of a name's type, such as `send + request`; `none` if it has no bit of these. Errors and cost are
-/// those of [`write_right_name`].
-pub fn write_type<W: Write>(bits: u32, out: &mut W) -> io::Result<()> {
+/// Writes the words of a name's type, such as `send + request`; `none` if it has no bit of these. Constant time.
+pub fn write_type(bits: u32, out: &mut Text) {
     let mut is_first = true;
     for (bit, word) in TYPE_WORDS {
         if bits & *bit != 0 {
-            write_part(word, is_first, out)?;
+            write_part(word, is_first, out);
             is_first = false;
         }
     }
     if is_first {
-        return out.write_all(b"none");
+        out.words("none");
     }
-    Ok(())
 }
 
 /// Writes a word, with a plus before it unless it is the first.
-fn write_part<W: Write>(word: &str, is_first: bool, out: &mut W) -> io::Result<()> {
+fn write_part(word: &str, is_first: bool, out: &mut Text) {
     if !is_first {
-        out.write_all(b" + ")?;
+        out.words(" + ");
     }
-    out.write_all(word.as_bytes())
+    out.words(word);
 }

@@ -1,15 +1,13 @@
 //! Words with numbers between them.
-use std::io;
-use std::io::Write;
 
-/// Words, and up to two numbers between them.
+/// Words, and up to two numbers between them. [`Text::phrase`](crate::Text::phrase) writes them.
 #[derive(Clone, Copy)]
 pub struct Phrase {
-    before: &'static str,
-    first: Option<u64>,
-    between: &'static str,
-    second: Option<u64>,
-    after: &'static str,
+    pub(crate) before: &'static str,
+    pub(crate) first: Option<u64>,
+    pub(crate) between: &'static str,
+    pub(crate) second: Option<u64>,
+    pub(crate) after: &'static str,
 }
 
 impl Phrase {
@@ -50,24 +48,5 @@ impl Phrase {
             second: Some(second),
             after,
         }
-    }
-
-    /// Writes the words, and the numbers in decimal.
-    ///
-    /// Fails where `out` does; what was written before stays. Constant time; takes no memory.
-    pub fn write<W: Write>(&self, out: &mut W) -> io::Result<()> {
-        out.write_all(self.before.as_bytes())?;
-        write_number(self.first, out)?;
-        out.write_all(self.between.as_bytes())?;
-        write_number(self.second, out)?;
-        out.write_all(self.after.as_bytes())
-    }
-}
-
-/// Writes the number, if there is one.
-fn write_number<W: Write>(number: Option<u64>, out: &mut W) -> io::Result<()> {
-    match number {
-        Some(number) => write!(out, "{number}"),
-        None => Ok(()),
     }
 }

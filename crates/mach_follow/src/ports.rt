@@ -1,6 +1,6 @@
 //! Whether an entry is about a port.
+use crate::follower::Follower;
 use kernel_lock::Entry;
-use mach_follow::Follower;
 use mach_types::{Event, Name, PortId, Reply, TaskId, Waited};
 use mach_words::{message_fault, task_of};
 use message_codec::{Received, ReceivedBody, ReceivedItem, ReceivedPorts, read_received};

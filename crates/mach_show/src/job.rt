@@ -3,11 +3,12 @@ ghost use Rattle.std.specs.Prelude.{◌≡◌, ◌≤◌};
 
 use crate::fault::{Fault, report};
 use crate::filter::Filter;
-use crate::linting::lint_file;
-use crate::text::{Ended, Shown, show_file};
+use crate::linting::lint_text;
+use crate::reading::READ_AT_ONCE;
+use crate::text::{Shown, show_history};
 use mach_words::Labels;
 use std::alloc::Global;
-use std::io::{Read, Write};
+use std::io::{BufReader, Read, Write};
 
 /// The kind of a text.
 #[derive(Clone, Copy)]
@@ -40,7 +41,7 @@ pub struct Work<'a> {
 
 /// How a job ended.
 #[derive(Clone, Copy)]
-enum Done {
+pub(crate) enum Done {
     /// It was done, and no line is bad.
     Well,
     /// A line is bad.
@@ -82,26 +83,36 @@ fn start<'a, R: Read, W: Write>(
     file: &mut R,
     out: &mut W,
 ) -> Result<Done, Fault<'a>> {
+    let mut line = Vec::new(alloc);
+    match BufReader::with_capacity(alloc, READ_AT_ONCE, file) {
+        Ok(mut reader) => read_all(alloc, work, &mut reader, &mut line, out),
+        Err(_) => Err(Fault::OutOfMemory),
+    }
+}
+
+/// Does the job on what the reader has, and flushes the output.
+fn read_all<'a, R: Read, W: Write>(
+    alloc: Global,
+    work: &Work<'a>,
+    reader: &mut BufReader<&mut R>,
+    line: &mut Vec<u8>,
+    out: &mut W,
+) -> Result<Done, Fault<'a>> {
     let Work { job, name, labels } = *work;
-    match job {
+    let done = match job {
         Job::Text(filter) => {
             let shown = Shown {
+                name,
                 alloc,
                 filter,
                 labels,
             };
-            let ended = show_file(name, &shown, file, out)?;
-            out.flush()?;
-            Ok(match ended {
-                Ended::Shown => Done::Well,
-                Ended::Unseen(entries) => Done::Unseen(entries),
-            })
+            show_history(&shown, reader, line, out)?
         }
-        Job::Lint(kind) => {
-            let has_bad = lint_file(alloc, name, kind, file, out)?;
-            Ok(if has_bad { Done::BadLines } else { Done::Well })
-        }
-    }
+        Job::Lint(kind) => lint_text(alloc, (name, kind), reader, line, out)?,
+    };
+    out.flush()?;
+    Ok(done)
 }
 
 /// Writes that none of so many entries is shown, and returns the status. An error of `err` is ignored.

@@ -1,0 +1,200 @@
+//! The command line.
+use crate::filter::Filter;
+use crate::job::{Job, Kind};
+use clap::builder::ValueParser;
+use clap::{Arg, ArgAction, ArgMatches, Command, Error};
+use std::alloc::{AllocError, Global};
+
+/// The kinds of text that `lint` reads.
+const KINDS: &[&str] = &["script", "history"];
+
+/// An option of a subcommand.
+#[derive(Clone, Copy)]
+struct Choice {
+    // The name of its value.
+    value: &'static str,
+    long: &'static str,
+    action: ArgAction,
+    parser: ValueParser<'static>,
+    help: &'static str,
+}
+
+/// A subcommand: its options, and a file.
+#[derive(Clone, Copy)]
+struct Subcommand {
+    name: &'static str,
+    about: &'static str,
+    choices: &'static [Choice],
+    // The help for the file.
+    file: &'static str,
+}
+
+/// Any number of 64 bits.
+const NUMBER: ValueParser<'static> = ValueParser::Unsigned(0, u64::MAX);
+
+/// The options of `text`.
+const OF_TEXT: &[Choice] = &[
+    Choice {
+        value: "TASK",
+        long: "task",
+        action: ArgAction::Set,
+        parser: ValueParser::String,
+        help: "Only entries of this task, or that hand it a right: its number or label",
+    },
+    Choice {
+        value: "REFUSED",
+        long: "refused",
+        action: ArgAction::SetTrue,
+        parser: ValueParser::Bool,
+        help: "Only entries whose call was refused",
+    },
+    Choice {
+        value: "PORT",
+        long: "port",
+        action: ArgAction::Set,
+        parser: ValueParser::String,
+        help: "Only entries that name this port, or carry a right for it: its identity or label",
+    },
+    Choice {
+        value: "FROM",
+        long: "from",
+        action: ArgAction::Set,
+        parser: NUMBER,
+        help: "Only entries from this number on",
+    },
+    Choice {
+        value: "TO",
+        long: "to",
+        action: ArgAction::Set,
+        parser: NUMBER,
+        help: "Only entries up to this number",
+    },
+    Choice {
+        value: "LABELS",
+        long: "labels",
+        action: ArgAction::Set,
+        parser: ValueParser::String,
+        help: "A file of labels: lines 'task N WORD', or with port, set, id or caller for task",
+    },
+];
+
+/// The options of `lint`.
+const OF_LINT: &[Choice] = &[Choice {
+    value: "KIND",
+    long: "as",
+    action: ArgAction::Set,
+    parser: ValueParser::Names(KINDS),
+    help: "What to read the text as; without it, the first line decides",
+}];
+
+/// The subcommands.
+const SUBCOMMANDS: &[Subcommand] = &[
+    Subcommand {
+        name: "text",
+        about: "Shows a history entry by entry, with the cause of each refusal",
+        choices: OF_TEXT,
+        file: "The history; without it, standard input",
+    },
+    Subcommand {
+        name: "lint",
+        about: "Lists the bad lines of a script or a history, and why they are bad",
+        choices: OF_LINT,
+        file: "The text; without it, standard input",
+    },
+];
+
+/// What the command line asks for.
+#[derive(Clone, Copy)]
+pub struct Request<'a> {
+    /// The job. Its filter lacks the task and the port.
+    pub job: Job,
+    /// The word for the task that is asked for: a number, `T` and a number, or a label.
+    pub task: Option<&'a str>,
+    /// The word for the port that is asked for: an identity, `p` and an identity, or a label.
+    pub port: Option<&'a str>,
+    /// The file to read; `None` for standard input.
+    pub file: Option<&'a str>,
+    /// The file of labels, if there is one.
+    pub labels: Option<&'a str>,
+}
+
+/// Reads the words of the command line. The first is the program's name.
+///
+/// Returns clap's error if the words name no job, ask for help or the version, or if out of memory. Its kind says which,
+/// and its text is what to print. Time and memory are linear in the words.
+pub fn read_words<'a>(alloc: Global, words: &'a [String]) -> Result<Request<'a>, Error> {
+    let matches = program(alloc)?.try_get_matches_from(words)?;
+    Ok(request_of(&matches))
+}
+
+/// Returns what the words ask for.
+fn request_of<'a>(matches: &ArgMatches<'a>) -> Request<'a> {
+    match matches.subcommand() {
+        Some((name, of_subcommand)) => Request {
+            job: job_named(name, of_subcommand),
+            task: of_subcommand.get_str("TASK"),
+            port: of_subcommand.get_str("PORT"),
+            file: of_subcommand.get_str("FILE"),
+            labels: of_subcommand.get_str("LABELS"),
+        },
+        None => Request {
+            job: Job::Text(Filter::all()),
+            task: None,
+            port: None,
+            file: None,
+            labels: None,
+        },
+    }
+}
+
+/// Returns the job of the subcommand of this name.
+fn job_named(name: &str, of_subcommand: &ArgMatches<'_>) -> Job {
+    if name == "lint" {
+        return Job::Lint(kind_named(of_subcommand.get_str("KIND")));
+    }
+    Job::Text(Filter {
+        task: None,
+        port: None,
+        refused: of_subcommand.get_flag("REFUSED"),
+        from: of_subcommand.get_one::<u64>("FROM").unwrap_or(0),
+        to: of_subcommand.get_one::<u64>("TO").unwrap_or(u64::MAX),
+    })
+}
+
+/// Returns the kind of text that the word is for.
+fn kind_named(word: Option<&str>) -> Option<Kind> {
+    match word? {
+        "script" => Some(Kind::Script),
+        _ => Some(Kind::History),
+    }
+}
+
+/// Makes the program's command line.
+fn program<'a>(alloc: Global) -> Result<Command<'a>, AllocError> {
+    let mut command = Command::new(alloc, "mach_show")
+        .version("1.0")
+        .about("Shows histories of Mach 3 port IPC in words")
+        .subcommand_required(true);
+    for subcommand in SUBCOMMANDS {
+        command = command.subcommand(command_of(alloc, subcommand)?)?;
+    }
+    Ok(command)
+}
+
+/// Makes the command of a subcommand.
+fn command_of<'a>(alloc: Global, subcommand: &Subcommand) -> Result<Command<'a>, AllocError> {
+    let mut command = Command::new(alloc, subcommand.name).about(subcommand.about);
+    for choice in subcommand.choices {
+        command = command.arg(option_of(alloc, choice))?;
+    }
+    command.arg(Arg::new(alloc, "FILE").help(subcommand.file))
+}
+
+/// Makes the argument of an option.
+fn option_of<'a>(alloc: Global, choice: &Choice) -> Arg<'a> {
+    Arg::new(alloc, choice.value)
+        .long(choice.long)
+        .action(choice.action)
+        .value_parser(choice.parser)
+        .help(choice.help)
+}

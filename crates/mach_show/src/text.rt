@@ -1,0 +1,336 @@
+//! The job `text`: shows histories entry by entry.
+ghost use Rattle.std.specs.Prelude.{◌≢◌};
+ghost use Rattle.mach_types.specs.declared.profiles.Profile.TheVariants.{Three};
+
+use crate::fault::Fault;
+use crate::filter::Filter;
+use crate::job::Done;
+use crate::reading::{TOO_MANY, next_line};
+use kernel_lock::Entry;
+use mach_causes::{explain, write_cause};
+use mach_follow::{
+    Answered, Follower, Parts, describe_after, describe_before, is_answer_about, is_call_about,
+    write_answer,
+};
+use mach_types::{Event, PortId, Profile, Reply, TaskId};
+use mach_words::{Labels, Text, task_of};
+use std::alloc::Global;
+use std::io::{BufReader, Read, Write};
+use tracer::{behind_heading, first_line};
+use tracer_base::TextFault;
+
+/// The column of the call.
+const CALLS: usize = 13;
+/// The column of the reply.
+const ANSWERS: usize = 73;
+
+/// What to show, and with which labels.
+#[derive(Clone, Copy)]
+pub(crate) struct Shown<'a> {
+    /// The name of the file, for faults.
+    pub(crate) name: &'a str,
+    /// The allocator.
+    pub(crate) alloc: Global,
+    /// Which entries are shown.
+    pub(crate) filter: Filter,
+    /// The labels.
+    pub(crate) labels: &'a Labels,
+}
+
+/// Shows the history that the reader has. Each entry is written before the next is waited for.
+pub(crate) fn show_history<'a, R: Read, W: Write>(
+    shown: &Shown<'a>,
+    reader: &mut BufReader<&mut R>,
+    line: &mut Vec<u8>,
+    out: &mut W,
+) -> Result<Done, Fault<'a>> {
+    next_line(shown.name, reader, line, out)?;
+    let Some((profile, _)) = behind_heading(line.as_slice()) else {
+        return Err(Fault::NoHistory);
+    };
+    show_entries(shown, profile, reader, line, out)
+}
+
+/// Shows the entries of a history of this profile. It owns the teller, and does nothing else: each way out of a function
+/// drops what it owns, and the teller has all tables of a kernel.
+fn show_entries<'a, R: Read, W: Write>(
+    shown: &Shown<'a>,
+    profile: Profile,
+    reader: &mut BufReader<&mut R>,
+    line: &mut Vec<u8>,
+    out: &mut W,
+) -> Result<Done, Fault<'a>>
+    requires one_set { profile ≢ Three }
+{
+    let mut teller = Teller::new(shown, profile);
+    show_all(&mut teller, reader, line, out)
+}
+
+/// Shows the entries that the reader has, one after another.
+fn show_all<'a, R: Read, W: Write>(
+    teller: &mut Teller<'a>,
+    reader: &mut BufReader<&mut R>,
+    line: &mut Vec<u8>,
+    out: &mut W,
+) -> Result<Done, Fault<'a>> {
+    let name = teller.shown.name;
+    for number in 1..u64::MAX - 1 {
+        if next_line(name, reader, line, out)? == 0 {
+            return Ok(teller.end(number));
+        }
+        let is_confirmed = teller.tell(number, line.as_slice())?;
+        out.write_all(teller.text.whole()?)?;
+        if !is_confirmed {
+            out.flush()?;
+            return Err(Fault::NotConfirmed(number));
+        }
+    }
+    Err(Fault::CannotRead(name, TOO_MANY))
+}
+
+/// An entry and its number, from 1.
+#[derive(Clone, Copy)]
+struct Numbered<'a> {
+    number: u64,
+    entry: &'a Entry,
+}
+
+/// Tells a history entry by entry.
+#[derive(Drop)]
+struct Teller<'a> {
+    shown: Shown<'a>,
+    follower: Follower,
+    // The call, before it is made.
+    told: Text,
+    // The entry's first line, and in the end the others too.
+    text: Text,
+    // The lines below the first.
+    details: Text,
+    // Whether an entry was shown.
+    is_used: bool,
+}
+
+impl<'a> Teller<'a> {
+    /// Stands at the beginning of a history of this profile. Takes no memory.
+    fn new(shown: &Shown<'a>, profile: Profile) -> Teller<'a>
+        requires one_set { profile ≢ Three }
+    {
+        Teller {
+            shown: *shown,
+            follower: Follower::new(shown.alloc, profile),
+            told: Text::new(shown.alloc),
+            text: Text::new(shown.alloc),
+            details: Text::new(shown.alloc),
+            is_used: false,
+        }
+    }
+
+    /// Returns how the history ended, where the next entry would have this number.
+    fn end(&self, number: u64) -> Done {
+        if self.is_used {
+            return Done::Well;
+        }
+        Done::Unseen(number.saturating_sub(1))
+    }
+
+    /// Makes the call of the entry of this number, whose line this is. Leaves in `text` what is shown of it. Returns
+    /// whether the kernel's reply is that of the entry.
+    fn tell(&mut self, number: u64, line: &[u8]) -> Result<bool, Fault<'static>> {
+        self.told.clear();
+        self.text.clear();
+        self.details.clear();
+        match first_line(self.shown.alloc, line) {
+            Ok((entry, _)) => {
+                let numbered = Numbered {
+                    number,
+                    entry: &entry,
+                };
+                self.tell_entry(&numbered)
+            }
+            Err(TextFault::Bad) => Err(bad_line(number.saturating_add(1), line)),
+            Err(TextFault::OutOfMemory) => Err(Fault::OutOfMemory),
+        }
+    }
+
+    /// Makes the entry's call, and writes what is shown of the entry.
+    fn tell_entry(&mut self, numbered: &Numbered<'_>) -> Result<bool, Fault<'static>> {
+        let may_show = self.shown.filter.shows(numbered.number, numbered.entry);
+        let is_shown = may_show && self.begin(numbered)?;
+        if let Answered::Otherwise(reply) = self.follower.replay(numbered.entry)? {
+            self.write_unconfirmed(numbered, &reply);
+            return Ok(false);
+        }
+        if may_show && (is_shown || self.is_answer_shown(numbered.entry)) {
+            self.write_after(numbered);
+        }
+        Ok(true)
+    }
+
+    /// Writes what is known before the entry's call is made, and returns whether the entry is shown for its call.
+    fn begin(&mut self, numbered: &Numbered<'_>) -> Result<bool, Fault<'static>> {
+        self.write_before(numbered)?;
+        Ok(self.is_call_shown(numbered.entry))
+    }
+
+    /// Whether the entry is shown for its call, which isn't made yet: no port is asked for, or the call is about it.
+    fn is_call_shown(&self, entry: &Entry) -> bool {
+        match self.shown.filter.port {
+            Some(port) => is_call_about(&self.follower, &entry.event, PortId::new(port)),
+            None => true,
+        }
+    }
+
+    /// Whether the entry is shown for its reply: no port is asked for, or the reply is about it.
+    fn is_answer_shown(&self, entry: &Entry) -> bool {
+        match self.shown.filter.port {
+            Some(port) => is_answer_about(&self.follower, entry, PortId::new(port)),
+            None => true,
+        }
+    }
+
+    /// Writes the entry's call, its reply and that of the kernel.
+    fn write_unconfirmed(&mut self, numbered: &Numbered<'_>, reply: &Reply) {
+        self.write_who(numbered);
+        self.text.text(&self.told);
+        self.text.words("\n");
+        self.text.line_below(numbered.number);
+        self.text.words("! the kernel has another reply\n");
+        self.text.line_below(numbered.number);
+        self.text.words("reply of the entry:   ");
+        self.text.reply(&numbered.entry.reply);
+        self.text.words("\n");
+        self.text.line_below(numbered.number);
+        self.text.words("reply of the kernel:  ");
+        self.text.reply(reply);
+        self.text.words("\n");
+    }
+
+    /// Writes the entry's number and its caller.
+    fn write_who(&mut self, numbered: &Numbered<'_>) {
+        let entry = numbered.entry;
+        self.text.entry_number(numbered.number);
+        self.text.words(" ");
+        match task_of(&entry.event) {
+            Some(task) => self
+                .shown
+                .labels
+                .write_caller(entry.caller, task, &mut self.text),
+            None => self.text.words("kernel"),
+        }
+        self.text.words("  ");
+    }
+
+    /// Writes what is known before the entry's call is made.
+    fn write_before(&mut self, numbered: &Numbered<'_>) -> Result<(), Fault<'static>> {
+        let Numbered { number, entry } = *numbered;
+        describe_before(
+            &self.follower,
+            self.shown.labels,
+            &entry.event,
+            &mut self.told,
+        );
+        match (&entry.event, &entry.reply) {
+            (Event::Send(task, bytes), Reply::Code(0)) => {
+                self.write_parts(number, *task, false, bytes.as_slice());
+                Ok(())
+            }
+            (_, Reply::Code(code)) if *code != 0 => self.write_why(numbered, *code),
+            (event, Reply::TooLarge(length)) => {
+                self.write_too_long(number, event, *length);
+                Ok(())
+            }
+            _ => Ok(()),
+        }
+    }
+
+    /// Writes the parts of a message that the entry's task sent or received.
+    fn write_parts(&mut self, number: u64, task: TaskId, is_received: bool, bytes: &[u8]) {
+        let parts = Parts {
+            number,
+            task,
+            is_received,
+        };
+        parts.write(&self.follower, self.shown.labels, bytes, &mut self.details);
+    }
+
+    /// Writes that the message has more bytes than the call has room for.
+    fn write_too_long(&mut self, number: u64, event: &Event, length: u32) {
+        if let Event::Receive(_, _, room, _) | Event::ReceiveAgain(_, _, room, _) = event {
+            self.details.line_below(number);
+            self.details
+                .around("! the message has ", length, " bytes, and ROOM is ");
+            self.details.around("", *room, "\n");
+        }
+    }
+
+    /// Writes why the call is refused with the code.
+    fn write_why(&mut self, numbered: &Numbered<'_>, code: u32) -> Result<(), Fault<'static>> {
+        let Numbered { number, entry } = *numbered;
+        match explain(self.shown.alloc, &self.follower, &entry.event, code) {
+            Ok(Some(cause)) => {
+                self.details.line_below(number);
+                self.details.words("! ");
+                write_cause(&cause, self.shown.labels, &mut self.details);
+                self.details.words("\n");
+                Ok(())
+            }
+            Ok(None) => Ok(()),
+            Err(_) => Err(Fault::OutOfMemory),
+        }
+    }
+
+    /// Writes what is known after the entry's call was made.
+    fn write_after(&mut self, numbered: &Numbered<'_>) {
+        self.is_used = true;
+        self.write_call(numbered);
+        self.write_reply(numbered.entry);
+        self.write_received(numbered);
+        self.text.text(&self.details);
+    }
+
+    /// Writes the entry's number, its caller and its call.
+    fn write_call(&mut self, numbered: &Numbered<'_>) {
+        self.write_who(numbered);
+        self.text.fill(CALLS);
+        describe_after(
+            &self.follower,
+            self.shown.labels,
+            numbered.entry,
+            &self.told,
+            &mut self.text,
+        );
+    }
+
+    /// Writes the entry's reply.
+    fn write_reply(&mut self, entry: &Entry) {
+        let task = task_of(&entry.event).unwrap_or(TaskId::new(0));
+        self.text.words(" ");
+        self.text.fill(ANSWERS);
+        write_answer(
+            &self.follower,
+            self.shown.labels,
+            entry,
+            task,
+            &mut self.text,
+        );
+        self.text.words("\n");
+    }
+
+    /// Writes the parts of the message that the entry received, if there is one.
+    fn write_received(&mut self, numbered: &Numbered<'_>) {
+        let Reply::Message(bytes) = &numbered.entry.reply else {
+            return;
+        };
+        if let Some(task) = task_of(&numbered.entry.event) {
+            self.write_parts(numbered.number, task, true, bytes.as_slice());
+        }
+    }
+}
+
+/// Returns the fault of the line of this number, which is no entry.
+fn bad_line(number: u64, line: &[u8]) -> Fault<'static> {
+    if line.ends_with(b"\n") {
+        return Fault::BadLine(number);
+    }
+    Fault::CutLine(number)
+}
