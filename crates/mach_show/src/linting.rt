@@ -17,7 +17,9 @@ const HEADING: &[u8] = b"mach-history";
 
 /// What is known of the lines read so far, and the text of the last.
 #[derive(Drop)]
-struct Seen {
+struct Seen<'a> {
+    // The name of the file, for faults.
+    name: &'a str,
     alloc: Global,
     kind: Kind,
     blocks: Blocks,
@@ -38,6 +40,7 @@ pub(crate) fn lint_text<'a, R: Read, W: Write>(
     let length = next_line(name, reader, line, out)?;
     let kind = kind.unwrap_or(kind_of(line.as_slice()));
     let mut seen = Seen {
+        name,
         alloc,
         kind,
         blocks: Blocks::new(),
@@ -45,9 +48,20 @@ pub(crate) fn lint_text<'a, R: Read, W: Write>(
         bad: 0,
         text: Text::new(alloc),
     };
+    lint_with(&mut seen, length, reader, line, out)
+}
+
+/// Lists the bad lines, from the one of this length that was read.
+fn lint_with<'a, R: Read, W: Write>(
+    seen: &mut Seen<'a>,
+    length: usize,
+    reader: &mut BufReader<&mut R>,
+    line: &mut Vec<u8>,
+    out: &mut W,
+) -> Result<Done, Fault<'a>> {
     seen.begin(length);
     if length != 0 {
-        lint_lines(name, &mut seen, reader, line, out)?;
+        lint_lines(seen, reader, line, out)?;
     }
     seen.end();
     out.write_all(seen.text.whole()?)?;
@@ -60,8 +74,7 @@ pub(crate) fn lint_text<'a, R: Read, W: Write>(
 
 /// Lists the bad lines, from the one that was read.
 fn lint_lines<'a, R: Read, W: Write>(
-    name: &'a str,
-    seen: &mut Seen,
+    seen: &mut Seen<'a>,
     reader: &mut BufReader<&mut R>,
     line: &mut Vec<u8>,
     out: &mut W,
@@ -70,11 +83,11 @@ fn lint_lines<'a, R: Read, W: Write>(
         seen.lint_line(number, line.as_slice())?;
         out.write_all(seen.text.whole()?)?;
         seen.text.clear();
-        if next_line(name, reader, line, out)? == 0 {
+        if next_line(seen.name, reader, line, out)? == 0 {
             return Ok(());
         }
     }
-    Err(Fault::CannotRead(name, TOO_MANY))
+    Err(Fault::CannotRead(seen.name, TOO_MANY))
 }
 
 /// Returns the kind of a text that begins with this line.
@@ -86,7 +99,7 @@ fn kind_of(line: &[u8]) -> Kind {
     }
 }
 
-impl Seen {
+impl<'a> Seen<'a> {
     /// Writes the kind of the text, and the command that reads it so. An empty text is a script, and no history.
     fn begin(&mut self, length: usize) {
         match self.kind {

@@ -157,7 +157,9 @@ impl<'a> Teller<'a> {
         let may_show = self.shown.filter.shows(numbered.number, numbered.entry);
         let is_shown = may_show && self.begin(numbered)?;
         if let Answered::Otherwise(reply) = self.follower.replay(numbered.entry)? {
-            self.write_unconfirmed(numbered, &reply);
+            write_who(self.shown.labels, numbered, &mut self.text);
+            self.text.text(&self.told);
+            write_replies(numbered, &reply, &mut self.text);
             return Ok(false);
         }
         if may_show && (is_shown || self.is_answer_shown(numbered.entry)) {
@@ -186,38 +188,6 @@ impl<'a> Teller<'a> {
             Some(port) => is_answer_about(&self.follower, entry, PortId::new(port)),
             None => true,
         }
-    }
-
-    /// Writes the entry's call, its reply and that of the kernel.
-    fn write_unconfirmed(&mut self, numbered: &Numbered<'_>, reply: &Reply) {
-        self.write_who(numbered);
-        self.text.text(&self.told);
-        self.text.words("\n");
-        self.text.line_below(numbered.number);
-        self.text.words("! the kernel has another reply\n");
-        self.text.line_below(numbered.number);
-        self.text.words("reply of the entry:   ");
-        self.text.reply(&numbered.entry.reply);
-        self.text.words("\n");
-        self.text.line_below(numbered.number);
-        self.text.words("reply of the kernel:  ");
-        self.text.reply(reply);
-        self.text.words("\n");
-    }
-
-    /// Writes the entry's number and its caller.
-    fn write_who(&mut self, numbered: &Numbered<'_>) {
-        let entry = numbered.entry;
-        self.text.entry_number(numbered.number);
-        self.text.words(" ");
-        match task_of(&entry.event) {
-            Some(task) => self
-                .shown
-                .labels
-                .write_caller(entry.caller, task, &mut self.text),
-            None => self.text.words("kernel"),
-        }
-        self.text.words("  ");
     }
 
     /// Writes what is known before the entry's call is made.
@@ -283,14 +253,19 @@ impl<'a> Teller<'a> {
     fn write_after(&mut self, numbered: &Numbered<'_>) {
         self.is_used = true;
         self.write_call(numbered);
-        self.write_reply(numbered.entry);
+        write_answer_of(
+            &self.follower,
+            self.shown.labels,
+            numbered.entry,
+            &mut self.text,
+        );
         self.write_received(numbered);
         self.text.text(&self.details);
     }
 
     /// Writes the entry's number, its caller and its call.
     fn write_call(&mut self, numbered: &Numbered<'_>) {
-        self.write_who(numbered);
+        write_who(self.shown.labels, numbered, &mut self.text);
         self.text.fill(CALLS);
         describe_after(
             &self.follower,
@@ -299,21 +274,6 @@ impl<'a> Teller<'a> {
             &self.told,
             &mut self.text,
         );
-    }
-
-    /// Writes the entry's reply.
-    fn write_reply(&mut self, entry: &Entry) {
-        let task = task_of(&entry.event).unwrap_or(TaskId::new(0));
-        self.text.words(" ");
-        self.text.fill(ANSWERS);
-        write_answer(
-            &self.follower,
-            self.shown.labels,
-            entry,
-            task,
-            &mut self.text,
-        );
-        self.text.words("\n");
     }
 
     /// Writes the parts of the message that the entry received, if there is one.
@@ -325,6 +285,42 @@ impl<'a> Teller<'a> {
             self.write_parts(numbered.number, task, true, bytes.as_slice());
         }
     }
+}
+
+/// Writes the entry's number and its caller.
+fn write_who(labels: &Labels, numbered: &Numbered<'_>, out: &mut Text) {
+    let entry = numbered.entry;
+    out.entry_number(numbered.number);
+    out.words(" ");
+    match task_of(&entry.event) {
+        Some(task) => labels.write_caller(entry.caller, task, out),
+        None => out.words("kernel"),
+    }
+    out.words("  ");
+}
+
+/// Ends the line of an entry that isn't confirmed, and writes its reply and that of the kernel.
+fn write_replies(numbered: &Numbered<'_>, reply: &Reply, out: &mut Text) {
+    out.words("\n");
+    out.line_below(numbered.number);
+    out.words("! the kernel has another reply\n");
+    out.line_below(numbered.number);
+    out.words("reply of the entry:   ");
+    out.reply(&numbered.entry.reply);
+    out.words("\n");
+    out.line_below(numbered.number);
+    out.words("reply of the kernel:  ");
+    out.reply(reply);
+    out.words("\n");
+}
+
+/// Writes the entry's reply.
+fn write_answer_of(follower: &Follower, labels: &Labels, entry: &Entry, out: &mut Text) {
+    let task = task_of(&entry.event).unwrap_or(TaskId::new(0));
+    out.words(" ");
+    out.fill(ANSWERS);
+    write_answer(follower, labels, entry, task, out);
+    out.words("\n");
 }
 
 /// Returns the fault of the line of this number, which is no entry.
