@@ -386,7 +386,10 @@ fn lose_one(world: &mut World, task: TaskId, name: Name, told: &mut Change) -> R
 }
 
 /// Destroys a name: `KERN_INVALID_NAME` for one that isn't in use. In `told` it leaves what that changes.
-#[inline(always)]
+///
+/// Not in line in a step: with this the step would be so large that the kit drops its own hint to inline, and each call
+/// of it would cost a frame more.
+#[inline(never)]
 fn lose_all(world: &mut World, task: TaskId, name: Name, told: &mut Change) -> Result<Reply, Code>
     requires there { HasTask world.old task }
     requires stands { Stands world.old }
@@ -401,7 +404,7 @@ fn lose_all(world: &mut World, task: TaskId, name: Name, told: &mut Change) -> R
 }
 
 /// Moves a port to another set, or out of its set, as [`move_member`]. In `told` it leaves what that changes.
-#[inline(always)]
+#[inline(never)]
 fn put_in_set(
     world: &mut World,
     task: TaskId,
