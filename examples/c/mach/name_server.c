@@ -23,8 +23,13 @@ static void must(const char *what, kern_return_t code)
 
 static void *serve_names(void *unused)
 {
+    mach_msg_return_t code = mach_msg_server(names_demux, 256, names);
     (void)unused;
-    printf("name server: %s\n", mach_error_string(mach_msg_server(names_demux, 256, names)));
+    /* The port died while this waited, or before it received again. */
+    if (code == MACH_RCV_PORT_DIED || code == MACH_RCV_INVALID_NAME)
+        printf("name server: its port is gone\n");
+    else
+        printf("name server: %s\n", mach_error_string(code));
     return NULL;
 }
 
