@@ -6,12 +6,14 @@
 //! them.
 #![tactic(auto)]
 
+mod callers;
 mod names;
 mod receive_right;
 mod references;
 mod sets;
 mod tasks;
 
+pub use callers::has_tasks;
 pub use names::{
     allocate, allocate_name, check_allocate, check_allocate_name, check_rename, list_names,
     name_type, rename,

@@ -1,5 +1,5 @@
 use Rattle.std.proofs.Common.{inl, inr}
-use Rattle.kernel_core.proofs.kernel.has_tasks.Goals as goal
+use Rattle.kernel_core_base.proofs.callers.has_tasks.Goals as goal
 
 -- each call that names one task
 pub returns-in-TaskTerminate : goal.returns-in-TaskTerminate
