@@ -5,6 +5,7 @@ use mach_words::LabelFault;
 use std::alloc::{AllocError, AllocFailed};
 use std::io;
 use std::io::{ErrorKind, Write};
+use std::rt::Stderr;
 
 /// Why a job ends early. [`report`] writes the line for standard error.
 #[derive(Clone, Copy)]
@@ -71,7 +72,7 @@ pub fn reason_of(error: &io::Error) -> &'static str {
 /// Writes the fault to `err`, as a line, and returns the program's status, 1. `Closed` writes nothing.
 ///
 /// An error of `err` is ignored. Constant time; takes no memory.
-pub fn report<E: Write>(fault: Fault<'_>, err: &mut E) -> u8
+pub fn report(fault: Fault<'_>, err: &mut Stderr) -> u8
     ensures { result ≡ 1 }
 {
     let _ = write_fault(&fault, err);
@@ -79,7 +80,7 @@ pub fn report<E: Write>(fault: Fault<'_>, err: &mut E) -> u8
 }
 
 /// Writes the fault in words.
-fn write_fault<E: Write>(fault: &Fault<'_>, err: &mut E) -> io::Result<()> {
+fn write_fault(fault: &Fault<'_>, err: &mut Stderr) -> io::Result<()> {
     match fault {
         Fault::CannotRead(name, why) => write_word("cannot read ", name, ": ", why, err),
         Fault::NoTask(word) => write_word("no task '", word, "': ", TASKS, err),
@@ -122,23 +123,23 @@ fn line_of(fault: &Fault<'_>) -> &'static str {
 }
 
 /// Writes a line with a word of the fault.
-fn write_word<E: Write>(
+fn write_word(
     before: &str,
     word: &str,
     between: &str,
     after: &str,
-    err: &mut E,
+    err: &mut Stderr,
 ) -> io::Result<()> {
     writeln!(err, "{before}{word}{between}{after}")
 }
 
 /// Writes a line with a number of the fault.
-fn write_number<E: Write>(
+fn write_number(
     before: &str,
     number: u64,
     between: &str,
     after: &str,
-    err: &mut E,
+    err: &mut Stderr,
 ) -> io::Result<()> {
     writeln!(err, "{before}{number}{between}{after}")
 }

@@ -8,7 +8,11 @@ use crate::reading::READ_AT_ONCE;
 use crate::text::{Shown, show_history};
 use mach_words::Labels;
 use std::alloc::Global;
-use std::io::{BufReader, Read, Write};
+use std::io::{BufReader, BufWriter, Read, Write};
+use std::rt::{Stderr, Stdout};
+
+/// Standard output, behind a buffer.
+pub(crate) type Output = BufWriter<Stdout>;
 
 /// The kind of a text.
 #[derive(Clone, Copy)]
@@ -59,12 +63,12 @@ pub(crate) enum Done {
 ///
 /// `text` takes the time and memory of a kernel that makes the history's calls, and memory for names and queued messages.
 /// `lint` is linear in the text, and takes memory for its longest line.
-pub fn perform<R: Read, W: Write, E: Write>(
+pub fn perform<R: Read>(
     alloc: Global,
     work: &Work<'_>,
     file: &mut R,
-    out: &mut W,
-    err: &mut E,
+    out: &mut Output,
+    err: &mut Stderr,
 ) -> u8
     ensures status { result ≤ 1 }
 {
@@ -77,11 +81,11 @@ pub fn perform<R: Read, W: Write, E: Write>(
 }
 
 /// Does the job, and returns how it ended. Faults are those of [`perform`].
-fn start<'a, R: Read, W: Write>(
+fn start<'a, R: Read>(
     alloc: Global,
     work: &Work<'a>,
     file: &mut R,
-    out: &mut W,
+    out: &mut Output,
 ) -> Result<Done, Fault<'a>> {
     let mut line = Vec::new(alloc);
     match BufReader::with_capacity(alloc, READ_AT_ONCE, file) {
@@ -91,12 +95,12 @@ fn start<'a, R: Read, W: Write>(
 }
 
 /// Does the job on what the reader has, and flushes the output.
-fn read_all<'a, R: Read, W: Write>(
+fn read_all<'a, R: Read>(
     alloc: Global,
     work: &Work<'a>,
     reader: &mut BufReader<&mut R>,
     line: &mut Vec<u8>,
-    out: &mut W,
+    out: &mut Output,
 ) -> Result<Done, Fault<'a>> {
     let Work { job, name, labels } = *work;
     let done = match job {
@@ -116,7 +120,7 @@ fn read_all<'a, R: Read, W: Write>(
 }
 
 /// Writes that none of so many entries is shown, and returns the status. An error of `err` is ignored.
-fn report_unseen<E: Write>(entries: u64, err: &mut E) -> u8
+fn report_unseen(entries: u64, err: &mut Stderr) -> u8
     ensures { result ≡ 0 }
 {
     let _ = match entries {
@@ -131,7 +135,7 @@ fn report_unseen<E: Write>(entries: u64, err: &mut E) -> u8
 }
 
 /// Flushes the output, writes the fault, and returns the status.
-fn stop<W: Write, E: Write>(fault: Fault<'_>, out: &mut W, err: &mut E) -> u8
+fn stop(fault: Fault<'_>, out: &mut Output, err: &mut Stderr) -> u8
     ensures { result ≡ 1 }
 {
     let _ = out.flush();

@@ -1,9 +1,9 @@
 //! The job `lint`: lists the bad lines of scripts and histories.
 use crate::fault::Fault;
-use crate::job::{Done, Kind};
+use crate::job::{Done, Kind, Output};
 use crate::reading::{TOO_MANY, next_line};
 use mach_lint::{
-    Blocks, Fault as LineFault, Made, history_fault, script_fault, script_note, write_fault,
+    Blocks, Fault as LineFault, Made, Note, history_fault, script_fault, script_note, write_fault,
     write_note,
 };
 use mach_words::{Phrase, Text};
@@ -29,12 +29,12 @@ struct Seen<'a> {
 }
 
 /// Lists the bad lines that the reader has. Without a kind the first line decides.
-pub(crate) fn lint_text<'a, R: Read, W: Write>(
+pub(crate) fn lint_text<'a, R: Read>(
     alloc: Global,
     work: (&'a str, Option<Kind>),
     reader: &mut BufReader<&mut R>,
     line: &mut Vec<u8>,
-    out: &mut W,
+    out: &mut Output,
 ) -> Result<Done, Fault<'a>> {
     let (name, kind) = work;
     let length = next_line(name, reader, line, out)?;
@@ -52,37 +52,32 @@ pub(crate) fn lint_text<'a, R: Read, W: Write>(
 }
 
 /// Lists the bad lines, from the one of this length that was read.
-fn lint_with<'a, R: Read, W: Write>(
+fn lint_with<'a, R: Read>(
     seen: &mut Seen<'a>,
     length: usize,
     reader: &mut BufReader<&mut R>,
     line: &mut Vec<u8>,
-    out: &mut W,
+    out: &mut Output,
 ) -> Result<Done, Fault<'a>> {
     seen.begin(length);
     if length != 0 {
         lint_lines(seen, reader, line, out)?;
     }
     seen.end();
-    out.write_all(seen.text.whole()?)?;
-    Ok(if seen.bad == 0 {
-        Done::Well
-    } else {
-        Done::BadLines
-    })
+    seen.put(out)?;
+    Ok(seen.done())
 }
 
 /// Lists the bad lines, from the one that was read.
-fn lint_lines<'a, R: Read, W: Write>(
+fn lint_lines<'a, R: Read>(
     seen: &mut Seen<'a>,
     reader: &mut BufReader<&mut R>,
     line: &mut Vec<u8>,
-    out: &mut W,
+    out: &mut Output,
 ) -> Result<(), Fault<'a>> {
     for number in 1..u64::MAX {
         seen.lint_line(number, line.as_slice())?;
-        out.write_all(seen.text.whole()?)?;
-        seen.text.clear();
+        seen.put(out)?;
         if next_line(seen.name, reader, line, out)? == 0 {
             return Ok(());
         }
@@ -126,51 +121,93 @@ impl<'a> Seen<'a> {
         }
     }
 
+    /// Writes the text to the output, and begins a new one.
+    fn put(&mut self, out: &mut Output) -> Result<(), Fault<'static>> {
+        out.write_all(self.text.whole()?)?;
+        self.text.clear();
+        Ok(())
+    }
+
+    /// Returns how the job ended.
+    fn done(&self) -> Done {
+        match self.bad {
+            0 => Done::Well,
+            _ => Done::BadLines,
+        }
+    }
+
     /// Writes the fault or note of the line of this number, if there is one.
     fn lint_line(&mut self, number: u64, line: &[u8]) -> Result<(), Fault<'static>> {
         match self.kind {
             Kind::Script => self.lint_script_line(number, line),
+            Kind::History if number == 1 => {
+                self.lint_heading(line);
+                Ok(())
+            }
             Kind::History => self.lint_history_line(number, line),
         }
     }
 
     /// Writes the fault or note of a script's line.
     fn lint_script_line(&mut self, number: u64, line: &[u8]) -> Result<(), Fault<'static>> {
-        let Ok(told) = script_fault(self.alloc, &mut self.blocks, number, line) else {
-            return Err(Fault::OutOfMemory);
-        };
-        match told {
-            Ok(said) => self.write_note(number, &said),
-            Err(fault) => self.write_bad(number, ": ", &fault),
+        match script_fault(self.alloc, &mut self.blocks, number, line) {
+            Ok(Ok(said)) => self.note(number, &said),
+            Ok(Err(fault)) => self.count(number, ": ", &fault),
+            Err(_) => return Err(Fault::OutOfMemory),
         }
         Ok(())
     }
 
-    /// Writes the fault of a history's line.
-    fn lint_history_line(&mut self, number: u64, line: &[u8]) -> Result<(), Fault<'static>> {
-        if let Some(fault) = line_fault(self.alloc, number, line)? {
-            self.write_bad(number, words_before(line, &fault), &fault);
+    /// Writes the fault of a history's first line.
+    fn lint_heading(&mut self, line: &[u8]) {
+        if behind_heading(line).is_none() {
+            self.count(1, ": ", &LineFault::Heading);
         }
-        Ok(())
+    }
+
+    /// Writes the fault of a history's line behind the first.
+    fn lint_history_line(&mut self, number: u64, line: &[u8]) -> Result<(), Fault<'static>> {
+        match first_line(self.alloc, line) {
+            Ok(_) => Ok(()),
+            Err(TextFault::Bad) => {
+                let fault = history_fault(line);
+                self.count(number, words_before(line, &fault), &fault);
+                Ok(())
+            }
+            Err(TextFault::OutOfMemory) => Err(Fault::OutOfMemory),
+        }
     }
 
     /// Writes the note on a line that is a call, if there is one.
-    fn write_note(&mut self, number: u64, said: &ScriptLine) {
+    fn note(&mut self, number: u64, said: &ScriptLine) {
         if let Some(note) = script_note(said, &mut self.made) {
-            self.text.phrase(&Phrase::one("line ", number, ": note: "));
-            write_note(&note, &mut self.text);
-            self.text.words("\n");
+            write_noted(number, &note, &mut self.text);
         }
     }
 
     /// Writes the fault of the line, behind these words, and counts it.
-    fn write_bad(&mut self, number: u64, words: &str, fault: &LineFault<'_>) {
+    fn count(&mut self, number: u64, words: &str, fault: &LineFault<'_>) {
         self.bad = self.bad.saturating_add(1);
-        self.text.phrase(&Phrase::one("line ", number, ""));
-        self.text.words(words);
-        write_fault(fault, &mut self.text);
-        self.text.words("\n");
+        write_bad(number, words, fault, &mut self.text);
     }
+}
+
+/// Writes the note on the line of this number.
+fn write_noted(number: u64, note: &Note, out: &mut Text) {
+    out.words("line ");
+    out.number(number);
+    out.words(": note: ");
+    write_note(note, out);
+    out.words("\n");
+}
+
+/// Writes the fault of the line of this number, behind these words.
+fn write_bad(number: u64, words: &str, fault: &LineFault<'_>, out: &mut Text) {
+    out.words("line ");
+    out.number(number);
+    out.words(words);
+    write_fault(fault, out);
+    out.words("\n");
 }
 
 /// What an empty history has for a fault.
@@ -184,23 +221,4 @@ fn words_before(line: &[u8], fault: &LineFault<'_>) -> &'static str {
         return ": ";
     }
     ": the text ends in the middle of the line: "
-}
-
-/// Finds the fault of a history's line, if it has one.
-fn line_fault<'l>(
-    alloc: Global,
-    number: u64,
-    line: &'l [u8],
-) -> Result<Option<LineFault<'l>>, Fault<'static>> {
-    if number == 1 {
-        return match behind_heading(line) {
-            Some(_) => Ok(None),
-            None => Ok(Some(LineFault::Heading)),
-        };
-    }
-    match first_line(alloc, line) {
-        Ok(_) => Ok(None),
-        Err(TextFault::Bad) => Ok(Some(history_fault(line))),
-        Err(TextFault::OutOfMemory) => Err(Fault::OutOfMemory),
-    }
 }

@@ -1,6 +1,6 @@
 //! The program `mach_show`: shows histories of Mach 3 port IPC in words, and lists bad lines with the reason for each.
 //!
-//! `main` reads the command line and opens the files. [`perform`] does the job over any reader and writers. Its job `text`
+//! `main` reads the command line and opens the files. [`perform`] does the job over any reader. Its job `text`
 //! shows a history entry by entry as it is read: the caller, the call, the reply, and the cause of a refusal. Its job `lint`
 //! lists the bad lines of a script or a history, with the reason for each.
 #![tactic(auto)]
@@ -21,11 +21,10 @@ use job::{Job, Work, perform};
 use mach_words::Labels;
 use naming::job_of;
 use reading::read_labels;
-use std::alloc::Global;
 use std::fs::File;
 use std::io::{BufWriter, Read, Write};
 use std::process::ExitCode;
-use std::rt::{Env, Files};
+use std::rt::Stderr;
 use std::{env, io};
 
 /// The status for a wrong command line.
@@ -34,41 +33,36 @@ const USAGE: u8 = 2;
 const WRITTEN_AT_ONCE: usize = 65_536;
 
 fn main(rt: HostRuntime) -> ExitCode {
-    let mut errors = rt.stderr();
-    ExitCode::from(answer(&rt, rt.stdout(), &mut errors))
+    ExitCode::from(answer(&rt))
 }
 
-/// Does what the command line asks for, and returns the status: 2, with the usage on `err`, if it names no job.
-fn answer<R: Env + Files + Input + AllocGlobal, W: Write + Drop, E: Write>(
-    rt: &R,
-    out: W,
-    err: &mut E,
-) -> u8 {
+/// Does what the command line asks for, and returns the status: 2, with the usage on standard error, if it names no job.
+fn answer(rt: &HostRuntime) -> u8 {
     match words_of(rt) {
-        Ok(words) => answer_words(rt, words.as_slice(), out, err),
-        Err(error) => report_words(&error, err),
+        Ok(words) => answer_words(rt, words.as_slice()),
+        Err(error) => report_words(&error, &mut rt.stderr()),
     }
 }
 
 /// The same, with these words.
-fn answer_words<R: Files + Input + AllocGlobal, W: Write + Drop, E: Write>(
-    rt: &R,
-    words: &[String],
-    mut out: W,
-    err: &mut E,
-) -> u8 {
+fn answer_words(rt: &HostRuntime, words: &[String]) -> u8 {
     match read_words(rt.alloc(), words) {
-        Ok(request) => name_things(rt, &request, out, err),
-        Err(error) if error.use_stderr() => report_usage(&error, err),
-        Err(error) => {
-            let _ = write!(out, "{error}");
-            0
-        }
+        Ok(request) => name_things(rt, &request),
+        Err(error) => answer_without(rt, &error),
     }
 }
 
+/// Writes what clap says of words that name no job: help or the version, or what is wrong with them.
+fn answer_without(rt: &HostRuntime, error: &clap::Error) -> u8 {
+    if error.use_stderr() {
+        return report_usage(error, &mut rt.stderr());
+    }
+    let _ = write!(rt.stdout(), "{error}");
+    0
+}
+
 /// Writes to `err` why there are no words: out of memory, or one of them isn't UTF-8.
-fn report_words<E: Write>(error: &io::Error, err: &mut E) -> u8 {
+fn report_words(error: &io::Error, err: &mut Stderr) -> u8 {
     if error.kind() == io::ErrorKind::OutOfMemory {
         return report(Fault::OutOfMemory, err);
     }
@@ -77,7 +71,7 @@ fn report_words<E: Write>(error: &io::Error, err: &mut E) -> u8 {
 }
 
 /// Writes to `err` why the words name no job.
-fn report_usage<E: Write>(error: &clap::Error, err: &mut E) -> u8 {
+fn report_usage(error: &clap::Error, err: &mut Stderr) -> u8 {
     if error.kind() == ErrorKind::OutOfMemory {
         return report(Fault::OutOfMemory, err);
     }
@@ -86,82 +80,63 @@ fn report_usage<E: Write>(error: &clap::Error, err: &mut E) -> u8 {
 }
 
 /// Returns the words of the command line, the program's name first.
-fn words_of<R: Env + AllocGlobal>(rt: &R) -> io::Result<Vec<String>> {
+fn words_of(rt: &HostRuntime) -> io::Result<Vec<String>> {
     Ok(env::args(rt)?.collect(rt.alloc())?)
 }
 
 /// Reads the request's labels, and does its job.
-fn name_things<R: Files + Input + AllocGlobal, W: Write + Drop, E: Write>(
-    rt: &R,
-    request: &Request<'_>,
-    out: W,
-    err: &mut E,
-) -> u8 {
-    let Some(name) = request.labels else {
-        return choose(rt, request, &Labels::new(rt.alloc()), out, err);
-    };
+fn name_things(rt: &HostRuntime, request: &Request<'_>) -> u8 {
+    match labels_of(rt, request) {
+        Ok(labels) => choose(rt, request, &labels),
+        Err(fault) => report(fault, &mut rt.stderr()),
+    }
+}
+
+/// Returns the labels of the request's file of labels. Without that file there are none.
+fn labels_of<'a>(rt: &HostRuntime, request: &Request<'a>) -> Result<Labels, Fault<'a>> {
+    match request.labels {
+        Some(name) => labels_named(rt, name),
+        None => Ok(Labels::new(rt.alloc())),
+    }
+}
+
+/// Reads the labels of the file of this name.
+fn labels_named<'a>(rt: &HostRuntime, name: &'a str) -> Result<Labels, Fault<'a>> {
     match File::open(rt, name) {
-        Ok(mut file) => match read_labels(rt.alloc(), name, &mut file) {
-            Ok(labels) => choose(rt, request, &labels, out, err),
-            Err(fault) => report(fault, err),
-        },
-        Err(error) => report(Fault::CannotRead(name, reason_of(&error)), err),
+        Ok(mut file) => read_labels(rt.alloc(), name, &mut file),
+        Err(error) => Err(Fault::CannotRead(name, reason_of(&error))),
     }
 }
 
 /// Looks up the task and the port of the request, and does its job. A word that names none is a wrong command line.
-fn choose<R: Files + Input + AllocGlobal, W: Write + Drop, E: Write>(
-    rt: &R,
-    request: &Request<'_>,
-    labels: &Labels,
-    out: W,
-    err: &mut E,
-) -> u8 {
+fn choose(rt: &HostRuntime, request: &Request<'_>, labels: &Labels) -> u8 {
     match job_of(request, labels) {
-        Ok(job) => open(rt, job, request.file, labels, out, err),
+        Ok(job) => open(rt, job, request.file, labels),
         Err(fault) => {
-            let _ = report(fault, err);
+            let _ = report(fault, &mut rt.stderr());
             USAGE
         }
     }
 }
 
 /// Opens the file, or standard input without one, and does the job.
-fn open<R: Files + Input + AllocGlobal, W: Write + Drop, E: Write>(
-    rt: &R,
-    job: Job,
-    file: Option<&str>,
-    labels: &Labels,
-    out: W,
-    err: &mut E,
-) -> u8 {
-    let alloc = rt.alloc();
+fn open(rt: &HostRuntime, job: Job, file: Option<&str>, labels: &Labels) -> u8 {
     let Some(name) = file else {
         let name = "-";
-        return start(
-            alloc,
-            &Work { job, name, labels },
-            &mut rt.reader(),
-            out,
-            err,
-        );
+        return start(rt, &Work { job, name, labels }, &mut rt.reader());
     };
     match File::open(rt, name) {
-        Ok(mut file) => start(alloc, &Work { job, name, labels }, &mut file, out, err),
-        Err(error) => report(Fault::CannotRead(name, reason_of(&error)), err),
+        Ok(mut file) => start(rt, &Work { job, name, labels }, &mut file),
+        Err(error) => report(Fault::CannotRead(name, reason_of(&error)), &mut rt.stderr()),
     }
 }
 
 /// Does the job, and buffers its output.
-fn start<R: Read, W: Write + Drop, E: Write>(
-    alloc: Global,
-    work: &Work<'_>,
-    file: &mut R,
-    out: W,
-    err: &mut E,
-) -> u8 {
-    match BufWriter::with_capacity(alloc, WRITTEN_AT_ONCE, out) {
-        Ok(mut out) => perform(alloc, work, file, &mut out, err),
-        Err(_) => report(Fault::OutOfMemory, err),
+fn start<R: Read>(rt: &HostRuntime, work: &Work<'_>, file: &mut R) -> u8 {
+    let alloc = rt.alloc();
+    let mut err = rt.stderr();
+    match BufWriter::with_capacity(alloc, WRITTEN_AT_ONCE, rt.stdout()) {
+        Ok(mut out) => perform(alloc, work, file, &mut out, &mut err),
+        Err(_) => report(Fault::OutOfMemory, &mut err),
     }
 }

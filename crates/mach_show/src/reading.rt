@@ -3,6 +3,7 @@ use crate::fault::{Fault, reason_of};
 use mach_words::{LabelFault, Labels};
 use memchr::memchr;
 use std::alloc::Global;
+use std::fs::File;
 use std::io;
 use std::io::{BufRead, BufReader, ErrorKind, Read, Write};
 
@@ -43,11 +44,7 @@ fn fault_of<'a>(name: &'a str, error: &io::Error) -> Fault<'a> {
 ///
 /// Returns `BadLabels` for the first line that is no label or labels something twice, `CannotRead` if the file can't be
 /// read, and `OutOfMemory`. Linear in the file; takes memory for the labels and the longest line.
-pub fn read_labels<'a, R: Read>(
-    alloc: Global,
-    name: &'a str,
-    file: &mut R,
-) -> Result<Labels, Fault<'a>> {
+pub fn read_labels<'a>(alloc: Global, name: &'a str, file: &mut File) -> Result<Labels, Fault<'a>> {
     let mut labels = Labels::new(alloc);
     match fill(alloc, name, file, &mut labels) {
         Ok(()) => Ok(labels),
@@ -56,10 +53,10 @@ pub fn read_labels<'a, R: Read>(
 }
 
 /// Enters the labels of the file.
-fn fill<'a, R: Read>(
+fn fill<'a>(
     alloc: Global,
     name: &'a str,
-    file: &mut R,
+    file: &mut File,
     labels: &mut Labels,
 ) -> Result<(), Fault<'a>> {
     let mut line = Vec::new(alloc);
@@ -70,9 +67,9 @@ fn fill<'a, R: Read>(
 }
 
 /// Enters the labels of the lines that the reader has.
-fn fill_from<'a, R: Read>(
+fn fill_from<'a>(
     name: &'a str,
-    reader: &mut BufReader<&mut R>,
+    reader: &mut BufReader<&mut File>,
     line: &mut Vec<u8>,
     labels: &mut Labels,
 ) -> Result<(), Fault<'a>> {
