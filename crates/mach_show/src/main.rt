@@ -86,24 +86,24 @@ fn words_of(rt: &HostRuntime) -> io::Result<Vec<String>> {
 
 /// Reads the request's labels, and does its job.
 fn name_things(rt: &HostRuntime, request: &Request<'_>) -> u8 {
-    match labels_of(rt, request) {
-        Ok(labels) => choose(rt, request, &labels),
+    let mut labels = Labels::new(rt.alloc());
+    match enter_labels(rt, request.labels, &mut labels) {
+        Ok(()) => choose(rt, request, &labels),
         Err(fault) => report(fault, &mut rt.stderr()),
     }
 }
 
-/// Returns the labels of the request's file of labels. Without that file there are none.
-fn labels_of<'a>(rt: &HostRuntime, request: &Request<'a>) -> Result<Labels, Fault<'a>> {
-    match request.labels {
-        Some(name) => labels_named(rt, name),
-        None => Ok(Labels::new(rt.alloc())),
-    }
-}
-
-/// Reads the labels of the file of this name.
-fn labels_named<'a>(rt: &HostRuntime, name: &'a str) -> Result<Labels, Fault<'a>> {
+/// Enters the labels of the file of this name. Without a name there are none.
+fn enter_labels<'a>(
+    rt: &HostRuntime,
+    name: Option<&'a str>,
+    labels: &mut Labels,
+) -> Result<(), Fault<'a>> {
+    let Some(name) = name else {
+        return Ok(());
+    };
     match File::open(rt, name) {
-        Ok(mut file) => read_labels(rt.alloc(), name, &mut file),
+        Ok(mut file) => read_labels(rt.alloc(), name, &mut file, labels),
         Err(error) => Err(Fault::CannotRead(name, reason_of(&error))),
     }
 }

@@ -40,20 +40,12 @@ fn fault_of<'a>(name: &'a str, error: &io::Error) -> Fault<'a> {
     }
 }
 
-/// Reads the labels of a file, one a line.
+/// Enters the labels of a file, one a line.
 ///
 /// Returns `BadLabels` for the first line that is no label or labels something twice, `CannotRead` if the file can't be
-/// read, and `OutOfMemory`. Linear in the file; takes memory for the labels and the longest line.
-pub fn read_labels<'a>(alloc: Global, name: &'a str, file: &mut File) -> Result<Labels, Fault<'a>> {
-    let mut labels = Labels::new(alloc);
-    match fill(alloc, name, file, &mut labels) {
-        Ok(()) => Ok(labels),
-        Err(fault) => Err(fault),
-    }
-}
-
-/// Enters the labels of the file.
-fn fill<'a>(
+/// read, and `OutOfMemory`. The labels are then of no further use. Linear in the file; takes memory for the labels and the
+/// longest line.
+pub fn read_labels<'a>(
     alloc: Global,
     name: &'a str,
     file: &mut File,
