@@ -6,7 +6,7 @@ use crate::keys::key_of;
 use crate::seen::Seen;
 use copyin_base::World;
 use kernel_core::Kernel;
-use mach_types::{Name, Profile, TaskId};
+use mach_types::{Name, Profile, TaskId, Touched};
 use name_space::Entry as Standing;
 use number_map::NumberMap;
 use std::alloc::Global;
@@ -58,6 +58,13 @@ impl Follower {
         ensures { result.now ≡ self.now.kernel.tables }
     {
         self.kernel.tables()
+    }
+
+    /// Returns which ports and sets the call that was made last may have changed, as [`Kernel::touched`] does.
+    pub fn touched(&self) -> Touched
+        ensures { result ≡ self.now.kernel.touched }
+    {
+        self.kernel.touched()
     }
 
     /// Returns what the task's name is now. Constant time, and logarithmic for a name above 65,535.

@@ -15,6 +15,7 @@ mod names;
 mod ports;
 mod remember;
 mod replay;
+mod same;
 mod seen;
 
 pub use answer::{describe_after, write_answer};

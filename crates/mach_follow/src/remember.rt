@@ -1,4 +1,6 @@
 //! Keeps what names are that a call may remove.
+ghost use Rattle.std.specs.Prelude.{◌≡◌};
+
 use crate::follower::{Follower, Gone};
 use crate::keys::{key_of, put};
 use crate::seen::Seen;
@@ -10,7 +12,9 @@ use std::alloc::AllocError;
 impl Follower {
     /// Keeps what the names are that the entry's call may remove. Linear in a message that is sent. Returns `AllocError` if
     /// out of memory; the follower is then of no further use.
-    pub(crate) fn remember(&mut self, entry: &Entry) -> Result<(), AllocError> {
+    pub(crate) fn remember(&mut self, entry: &Entry) -> Result<(), AllocError>
+        ensures { self.new.kernel ≡ self.old.kernel }
+    {
         match (&entry.event, &entry.reply) {
             (Event::Send(task, bytes), Reply::Code(0)) => {
                 self.remember_sent(*task, bytes.as_slice())
@@ -29,7 +33,9 @@ impl Follower {
     }
 
     /// Keeps what the caller's name is that the call may remove.
-    fn remember_own(&mut self, event: &Event) -> Result<(), AllocError> {
+    fn remember_own(&mut self, event: &Event) -> Result<(), AllocError>
+        ensures { self.new.kernel ≡ self.old.kernel }
+    {
         match event {
             Event::Deallocate(task, name)
             | Event::Destroy(task, name)
@@ -40,7 +46,9 @@ impl Follower {
     }
 
     /// Keeps what the name is now.
-    fn touch(&mut self, task: TaskId, name: Name) -> Result<(), AllocError> {
+    fn touch(&mut self, task: TaskId, name: Name) -> Result<(), AllocError>
+        ensures { self.new.kernel ≡ self.old.kernel }
+    {
         let Seen::Named(was) = self.look(task, name) else {
             return Ok(());
         };
@@ -52,7 +60,9 @@ impl Follower {
     }
 
     /// Keeps what the names of these bytes, a message, are.
-    fn remember_sent(&mut self, task: TaskId, bytes: &[u8]) -> Result<(), AllocError> {
+    fn remember_sent(&mut self, task: TaskId, bytes: &[u8]) -> Result<(), AllocError>
+        ensures { self.new.kernel ≡ self.old.kernel }
+    {
         match read_received(bytes) {
             Some(message) => self.remember_message(task, &message),
             None => Ok(()),
@@ -60,7 +70,9 @@ impl Follower {
     }
 
     /// Keeps what the names of a message are.
-    fn remember_message(&mut self, task: TaskId, message: &Received<'_>) -> Result<(), AllocError> {
+    fn remember_message(&mut self, task: TaskId, message: &Received<'_>) -> Result<(), AllocError>
+        ensures { self.new.kernel ≡ self.old.kernel }
+    {
         self.touch(task, message.header.remote)?;
         self.touch(task, message.header.local)?;
         let ReceivedBody::Items(items) = &message.body else {
@@ -75,11 +87,9 @@ impl Follower {
     }
 
     /// Keeps what the names of an item are.
-    fn remember_ports(
-        &mut self,
-        task: TaskId,
-        ports: &ReceivedPorts<'_>,
-    ) -> Result<(), AllocError> {
+    fn remember_ports(&mut self, task: TaskId, ports: &ReceivedPorts<'_>) -> Result<(), AllocError>
+        ensures { self.new.kernel ≡ self.old.kernel }
+    {
         for index in 0..ports.len() {
             if let Some(name) = ports.get(index) {
                 self.touch(task, name)?;

@@ -1,5 +1,12 @@
 //! Repeats the calls of entries.
+ghost use Rattle.std.specs.Prelude.{◌≡◌, true, Ok};
+ghost use Rattle.mach_model.specs.State.{State};
+ghost use Rattle.copyin_base.specs.Shows.{Shows};
+ghost use Rattle.mach_follow.specs.declared.replay.Answered.TheVariants.{AsSaid};
+ghost use Rattle.mach_follow.specs.Replaying.{IsRefusal, Replays};
+
 use crate::follower::Follower;
+use crate::same::are_same;
 use kernel_lock::Entry;
 use mach_types::{Event, Name, Reply};
 use mach_words::word_at;
@@ -20,18 +27,18 @@ impl Follower {
     ///
     /// Returns `AllocError` if out of memory; the follower is then of no further use. Takes the time of the call. In a set the
     /// turn is given to the entry's receiver first, in the time of `Kernel::give_turn`.
-    pub fn replay(&mut self, entry: &Entry) -> Result<Answered, AllocError> {
+    pub fn replay(&mut self, entry: &Entry) -> Result<Answered, AllocError>
+        ensures said { result ≡ Ok AsSaid → Replays self.old.kernel.tables entry.now.event entry.now.reply self.new.kernel }
+    {
         self.number = self.number.wrapping_add(1);
         self.remember(entry)?;
         if self.may_lack_memory(&entry.event, &entry.reply)? {
             return Ok(Answered::AsSaid);
         }
         let has_room = self.kernel.has_room_for(&entry.event);
-        if let Some(member) = receiver(&entry.reply) {
-            self.kernel.give_turn(&entry.event, member);
-        }
+        self.give_turn(entry);
         let reply = self.kernel.step(&entry.event);
-        if reply == entry.reply {
+        if are_same(&reply, &entry.reply) {
             return Ok(Answered::AsSaid);
         }
         if has_room && self.may_lack_memory(&entry.event, &reply)? {
@@ -40,8 +47,19 @@ impl Follower {
         Ok(Answered::Otherwise(reply))
     }
 
+    /// Gives the turn in a set to the member from which the entry received a message.
+    fn give_turn(&mut self, entry: &Entry)
+        ensures { (s : State) → Shows self.old.kernel.tables s → Shows self.new.kernel.tables s }
+    {
+        if let Some(member) = receiver(&entry.reply) {
+            self.kernel.give_turn(&entry.event, member);
+        }
+    }
+
     /// Whether the reply is the call's code for out of memory, and the call may run out of memory now.
-    fn may_lack_memory(&self, event: &Event, reply: &Reply) -> Result<bool, AllocError> {
+    fn may_lack_memory(&self, event: &Event, reply: &Reply) -> Result<bool, AllocError>
+        ensures { result ≡ Ok true → IsRefusal self.now.kernel.tables event.now reply.now }
+    {
         let Reply::Code(code) = reply else {
             return Ok(false);
         };
