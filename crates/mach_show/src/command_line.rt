@@ -70,6 +70,13 @@ const OF_TEXT: &[Choice] = &[
         help: "Only entries up to this number",
     },
     Choice {
+        value: "LIVE",
+        long: "live",
+        action: ArgAction::SetTrue,
+        parser: ValueParser::Bool,
+        help: "Shows each entry before the next is waited for, without what becomes of it",
+    },
+    Choice {
         value: "LABELS",
         long: "labels",
         action: ArgAction::Set,
@@ -152,13 +159,22 @@ fn job_named(name: &str, of_subcommand: &ArgMatches<'_>) -> Job {
     if name == "lint" {
         return Job::Lint(kind_named(of_subcommand.get_str("KIND")));
     }
-    Job::Text(Filter {
+    let filter = filter_named(of_subcommand);
+    if of_subcommand.get_flag("LIVE") {
+        return Job::Live(filter);
+    }
+    Job::Text(filter)
+}
+
+/// Returns the filter that the options name, without the task and the port.
+fn filter_named(of_subcommand: &ArgMatches<'_>) -> Filter {
+    Filter {
         task: None,
         port: None,
         refused: of_subcommand.get_flag("REFUSED"),
         from: of_subcommand.get_one::<u64>("FROM").unwrap_or(0),
         to: of_subcommand.get_one::<u64>("TO").unwrap_or(u64::MAX),
-    })
+    }
 }
 
 /// Returns the kind of text that the word is for.

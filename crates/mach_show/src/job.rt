@@ -1,6 +1,7 @@
 //! The jobs of the program.
 ghost use Rattle.std.specs.Prelude.{◌≡◌, ◌≤◌};
 
+use crate::ahead::show_whole;
 use crate::fault::{Fault, report};
 use crate::filter::Filter;
 use crate::linting::lint_text;
@@ -26,8 +27,10 @@ pub enum Kind {
 /// What the program does.
 #[derive(Clone, Copy)]
 pub enum Job {
-    /// Shows the entries of a history that the filter lets through.
+    /// Shows the entries of a history that the filter lets through, with what became of each message.
     Text(Filter),
+    /// Shows each of these entries before the next is waited for. What becomes of a message is shown where it comes.
+    Live(Filter),
     /// Lists the bad lines of a text of this kind. Without a kind the first line decides.
     Lint(Option<Kind>),
 }
@@ -61,7 +64,8 @@ pub(crate) enum Done {
 /// `out of memory`. A closed output is a fault without a line. What was written before stays. If no entry is shown, a line
 /// of `err` says so.
 ///
-/// `text` takes the time and memory of a kernel that makes the history's calls, and memory for names and queued messages.
+/// `Live` takes the time and memory of a kernel that makes the history's calls, and memory for names and queued messages.
+/// `Text` makes the calls twice, and takes memory for the text and for each message too.
 /// `lint` is linear in the text, and takes memory for its longest line.
 pub fn perform<R: Read>(
     alloc: Global,
@@ -103,20 +107,28 @@ fn read_all<'a, R: Read>(
     out: &mut Output,
 ) -> Result<Done, Fault<'a>> {
     let Work { job, name, labels } = *work;
+    let shown = Shown {
+        name,
+        alloc,
+        filter: filter_of(job),
+        labels,
+        ends: None,
+    };
     let done = match job {
-        Job::Text(filter) => {
-            let shown = Shown {
-                name,
-                alloc,
-                filter,
-                labels,
-            };
-            show_history(&shown, reader, line, out)?
-        }
+        Job::Text(_) => show_whole(&shown, reader, line, out)?,
+        Job::Live(_) => show_history(&shown, reader, line, out)?,
         Job::Lint(kind) => lint_text(alloc, (name, kind), reader, line, out)?,
     };
     out.flush()?;
     Ok(done)
+}
+
+/// Returns the job's filter.
+fn filter_of(job: Job) -> Filter {
+    match job {
+        Job::Text(filter) | Job::Live(filter) => filter,
+        Job::Lint(_) => Filter::all(),
+    }
 }
 
 /// Writes that none of so many entries is shown, and returns the status. An error of `err` is ignored.

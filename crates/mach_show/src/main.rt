@@ -5,6 +5,7 @@
 //! lists the bad lines of a script or a history, with the reason for each.
 #![tactic(auto)]
 
+mod ahead;
 mod command_line;
 mod fault;
 mod filter;

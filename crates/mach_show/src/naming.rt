@@ -1,6 +1,7 @@
 //! The task and the port that the command line names.
 use crate::command_line::Request;
 use crate::fault::Fault;
+use crate::filter::Filter;
 use crate::job::Job;
 use mach_words::Labels;
 use tracer_base::Words;
@@ -10,9 +11,19 @@ use tracer_base::Words;
 /// A word is looked up among the labels first. Returns `NoTask` or `NoPort` for a word that is no label and no number.
 /// Linear in the labels; takes no memory.
 pub fn job_of<'a>(request: &Request<'a>, labels: &Labels) -> Result<Job, Fault<'a>> {
-    let Job::Text(mut filter) = request.job else {
-        return Ok(request.job);
-    };
+    match request.job {
+        Job::Text(filter) => Ok(Job::Text(with_names(filter, request, labels)?)),
+        Job::Live(filter) => Ok(Job::Live(with_names(filter, request, labels)?)),
+        Job::Lint(kind) => Ok(Job::Lint(kind)),
+    }
+}
+
+/// Returns the filter with the task and the port that the request's words name.
+fn with_names<'a>(
+    mut filter: Filter,
+    request: &Request<'a>,
+    labels: &Labels,
+) -> Result<Filter, Fault<'a>> {
     if let Some(word) = request.task {
         filter.task = task_of(word, labels);
         if filter.task.is_none() {
@@ -25,7 +36,7 @@ pub fn job_of<'a>(request: &Request<'a>, labels: &Labels) -> Result<Job, Fault<'
             return Err(Fault::NoPort(word));
         }
     }
-    Ok(Job::Text(filter))
+    Ok(filter)
 }
 
 /// Returns the number of the task that the word names: a label, a number, or `T` and a number.

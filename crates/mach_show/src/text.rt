@@ -8,13 +8,14 @@ use crate::job::Done;
 use crate::reading::{TOO_MANY, next_line};
 use kernel_lock::Entry;
 use mach_causes::{explain, write_cause};
+use mach_fates::{Ends, Fates, write_fates};
 use mach_follow::{
     Answered, Follower, Parts, describe_after, describe_before, is_answer_about, is_call_about,
     write_answer,
 };
 use mach_types::{Event, PortId, Profile, Reply, TaskId};
 use mach_words::{Labels, Text, task_of};
-use std::alloc::Global;
+use std::alloc::{AllocError, Global};
 use std::io::{BufReader, Read, Write};
 use tracer::{behind_heading, first_line};
 use tracer_base::TextFault;
@@ -26,7 +27,7 @@ const ANSWERS: usize = 73;
 
 /// What to show, and with which labels.
 #[derive(Clone, Copy)]
-pub(crate) struct Shown<'a> {
+pub(crate) struct Shown<'a, 'b> {
     /// The name of the file, for faults.
     pub(crate) name: &'a str,
     /// The allocator.
@@ -35,11 +36,13 @@ pub(crate) struct Shown<'a> {
     pub(crate) filter: Filter,
     /// The labels.
     pub(crate) labels: &'a Labels,
+    /// What became of messages, if the history was read ahead.
+    pub(crate) ends: Option<&'b Ends>,
 }
 
 /// Shows the history that the reader has. Each entry is written before the next is waited for.
 pub(crate) fn show_history<'a, R: Read, W: Write>(
-    shown: &Shown<'a>,
+    shown: &Shown<'a, '_>,
     reader: &mut BufReader<&mut R>,
     line: &mut Vec<u8>,
     out: &mut W,
@@ -54,7 +57,7 @@ pub(crate) fn show_history<'a, R: Read, W: Write>(
 /// Shows the entries of a history of this profile. It owns the teller, and does nothing else: each way out of a function
 /// drops what it owns, and the teller has all tables of a kernel.
 fn show_entries<'a, R: Read, W: Write>(
-    shown: &Shown<'a>,
+    shown: &Shown<'a, '_>,
     profile: Profile,
     reader: &mut BufReader<&mut R>,
     line: &mut Vec<u8>,
@@ -68,7 +71,7 @@ fn show_entries<'a, R: Read, W: Write>(
 
 /// Shows the entries that the reader has, one after another.
 fn show_all<'a, R: Read, W: Write>(
-    teller: &mut Teller<'a>,
+    teller: &mut Teller<'a, '_>,
     reader: &mut BufReader<&mut R>,
     line: &mut Vec<u8>,
     out: &mut W,
@@ -97,9 +100,11 @@ struct Numbered<'a> {
 
 /// Tells a history entry by entry.
 #[derive(Drop)]
-struct Teller<'a> {
-    shown: Shown<'a>,
+struct Teller<'a, 'b> {
+    shown: Shown<'a, 'b>,
     follower: Follower,
+    // Where queued messages came from.
+    fates: Fates,
     // The call, before it is made.
     told: Text,
     // The entry's first line, and in the end the others too.
@@ -110,14 +115,15 @@ struct Teller<'a> {
     is_used: bool,
 }
 
-impl<'a> Teller<'a> {
+impl<'a, 'b> Teller<'a, 'b> {
     /// Stands at the beginning of a history of this profile. Takes no memory.
-    fn new(shown: &Shown<'a>, profile: Profile) -> Teller<'a>
+    fn new(shown: &Shown<'a, 'b>, profile: Profile) -> Teller<'a, 'b>
         requires one_set { profile ≢ Three }
     {
         Teller {
             shown: *shown,
             follower: Follower::new(shown.alloc, profile),
+            fates: Fates::new(shown.alloc),
             told: Text::new(shown.alloc),
             text: Text::new(shown.alloc),
             details: Text::new(shown.alloc),
@@ -156,7 +162,7 @@ impl<'a> Teller<'a> {
     fn tell_entry(&mut self, numbered: &Numbered<'_>) -> Result<bool, Fault<'static>> {
         let may_show = self.shown.filter.shows(numbered.number, numbered.entry);
         let is_shown = may_show && self.begin(numbered)?;
-        if let Answered::Otherwise(reply) = self.follower.replay(numbered.entry)? {
+        if let Answered::Otherwise(reply) = self.replay(numbered)? {
             write_who(self.shown.labels, numbered, &mut self.text);
             self.text.text(&self.told);
             write_replies(numbered, &reply, &mut self.text);
@@ -166,6 +172,12 @@ impl<'a> Teller<'a> {
             self.write_after(numbered);
         }
         Ok(true)
+    }
+
+    /// Makes the entry's call, and follows its messages.
+    fn replay(&mut self, numbered: &Numbered<'_>) -> Result<Answered, AllocError> {
+        let Numbered { number, entry } = *numbered;
+        self.fates.replay(&mut self.follower, entry, number)
     }
 
     /// Writes what is known before the entry's call is made, and returns whether the entry is shown for its call.
@@ -260,6 +272,7 @@ impl<'a> Teller<'a> {
             &mut self.text,
         );
         self.write_received(numbered);
+        self.write_fates(numbered);
         self.text.text(&self.details);
     }
 
@@ -284,6 +297,18 @@ impl<'a> Teller<'a> {
         if let Some(task) = task_of(&numbered.entry.event) {
             self.write_parts(numbered.number, task, true, bytes.as_slice());
         }
+    }
+
+    /// Writes what became of the messages that the entry sent, received or destroyed.
+    fn write_fates(&mut self, numbered: &Numbered<'_>) {
+        let Numbered { number, entry } = *numbered;
+        write_fates(
+            &self.fates,
+            self.shown.ends,
+            self.shown.labels,
+            (number, entry),
+            &mut self.details,
+        );
     }
 }
 

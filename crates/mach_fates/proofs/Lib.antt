@@ -1,0 +1,6 @@
+mod Counting
+mod Finding
+mod Joining
+mod Naming
+mod Stepping
+mod Visiting

@@ -1,0 +1,4 @@
+pub mod Keeping
+pub mod Sources
+pub mod Stepping
+pub mod Places
