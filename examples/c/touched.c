@@ -123,13 +123,43 @@ static void ask(void) {
                                             MACH_MSG_TYPE_MAKE_SEND_ONCE, &previous));
 }
 
-/* What dies, and what is lost with it. */
-static void end(void) {
+/* A port of the server's, made under its old name, which dies. */
+static gelvonds_code make_and_destroy(gelvonds_name set) {
+    gelvonds_port_allocate_name(&kernel, server, MACH_PORT_RIGHT_RECEIVE, PORT);
+    gelvonds_port_move_member(&kernel, server, PORT, set);
+    return gelvonds_port_destroy(&kernel, server, PORT);
+}
+
+/* Send-once rights that are lost, whose port gets a notice each. */
+static void lose(void) {
     gelvonds_port_insert_right(&kernel, client, SERVICE, server, PORT, MACH_MSG_TYPE_MAKE_SEND_ONCE);
     tell("deallocate of a send-once right", gelvonds_port_deallocate(&kernel, client, SERVICE));
+    gelvonds_port_insert_right(&kernel, client, SERVICE, server, PORT, MACH_MSG_TYPE_MAKE_SEND_ONCE);
+    tell("destroy of a send-once right", gelvonds_port_destroy(&kernel, client, SERVICE));
+    gelvonds_port_insert_right(&kernel, client, SERVICE, server, PORT, MACH_MSG_TYPE_MAKE_SEND_ONCE);
+    tell("mod_refs of a send-once right",
+         gelvonds_port_mod_refs(&kernel, client, SERVICE, MACH_PORT_RIGHT_SEND_ONCE, -1));
+}
+
+/* Ports that die: one with messages, others alone, and one of which a notice tells. */
+static void die(void) {
+    gelvonds_name previous;
     gelvonds_port_insert_right(&kernel, client, SERVICE, server, PORT, MACH_MSG_TYPE_MAKE_SEND);
-    tell("destroy of a receive right", gelvonds_port_destroy(&kernel, server, PORT));
+    tell("destroy of a receive right, with messages", gelvonds_port_destroy(&kernel, server, PORT));
     tell("deallocate of a dead name", gelvonds_port_deallocate(&kernel, client, SERVICE));
+    tell("destroy of a receive right, with nothing else", make_and_destroy(MACH_PORT_NULL));
+    tell("destroy of a receive right in a set", make_and_destroy(SET));
+    gelvonds_port_allocate_name(&kernel, server, MACH_PORT_RIGHT_RECEIVE, PORT);
+    gelvonds_port_insert_right(&kernel, client, SERVICE, server, PORT, MACH_MSG_TYPE_MAKE_SEND);
+    tell("mod_refs of a receive right, with a sender",
+         gelvonds_port_mod_refs(&kernel, server, PORT, MACH_PORT_RIGHT_RECEIVE, -1));
+    gelvonds_port_request_notification(&kernel, server, WATCHED, MACH_NOTIFY_DEAD_NAME, 0, NOTICES,
+                                       MACH_MSG_TYPE_MAKE_SEND_ONCE, &previous);
+    tell("destroy of a receive right, with a request", gelvonds_port_destroy(&kernel, server, WATCHED));
+}
+
+/* What ends with all that is in it. */
+static void end(void) {
     tell("destroy of a set", gelvonds_port_destroy(&kernel, server, SET));
     tell("task_terminate", gelvonds_task_terminate(&kernel, client));
 }
@@ -143,6 +173,8 @@ int main(void) {
     talk();
     hand();
     ask();
+    lose();
+    die();
     end();
     gelvonds_free(&kernel);
     return 0;

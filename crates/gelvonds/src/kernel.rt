@@ -163,11 +163,12 @@ impl Kernel {
     /// After [`Kernel::set_qlimit`], [`Kernel::allocate`] and [`Kernel::allocate_name`] the port under the name, if
     /// one is. After [`Kernel::move_member`], and where a receive right went to another task, the port with the set
     /// that it was in and the one that it is in. A message names its port and the port's set: one that was sent
-    /// without a receive right, one that was received with a body of raw bytes, and the notice for a send-once right
-    /// that was deallocated or destroyed. [`Kernel::request_notification`] names the port of the right that pays,
-    /// whether it tells at once or not, and its set. After each other call, and where
-    /// ports died or notices were sent at the end of the step, it is `All`. Takes no memory. Constant time, and
-    /// logarithmic for a name above 65,535.
+    /// without a receive right, and one that was received with a body of raw bytes. So does the notice for a send-once
+    /// right that was lost by [`Kernel::deallocate`], [`Kernel::destroy`] or [`Kernel::mod_refs`]. A receive right that these
+    /// destroyed names its port and the port's set, where nothing was queued at it and no request was on it or on a
+    /// name of it. [`Kernel::request_notification`] names the port of the right that pays, whether it tells at once or
+    /// not, and its set. After each other call, and where other ports died or notices were sent at the end of the step,
+    /// it is `All`. Takes no memory. Constant time, and logarithmic for a name above 65,535.
     pub fn touched(&self) -> Touched
         ensures { result ≡ self.now.touched }
     {

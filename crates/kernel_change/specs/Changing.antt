@@ -1,5 +1,6 @@
 -- What a step changed of ports and port sets, as the kernel keeps it, and what that is once it is asked for.
-use Rattle.std.specs.Prelude.{ℕ, ◌^◌, ◌%◌, ◌||◌, Bool, List, [], ◌∷◌, length, Option, Some, None, if◌then◌else◌, ◌==◌, ◌&&◌, not, nat_lt}
+use Rattle.std.specs.Prelude.{◌≡◌, ℕ, ◌⊎◌, ◌^◌, ◌%◌, ◌||◌, Bool, List, [], ◌∷◌, length, Option, Some, None, if◌then◌else◌, ◌==◌, ◌&&◌, not, nat_lt}
+use Rattle.std.specs.FinMap as map
 use Rattle.std.specs.Option.{option_and_then, option_map}
 use Rattle.mach_types.specs.declared.calls.Event.{Event}
 use Rattle.mach_types.specs.declared.calls.Reply.{Reply}
@@ -10,11 +11,12 @@ use Rattle.mach_types.specs.TextGuards.{word_at}
 use Rattle.name_space.specs.declared.Entry.{Entry}
 use Rattle.name_space.specs.declared.Entry.TheVariants as entry
 use Rattle.name_space.specs.Entry.{port_named}
-use Rattle.port.specs.Ports.{PortView}
+use Rattle.port.specs.Ports.{PortView, NoneQueued}
+use Rattle.request_table.specs.Requests.{NoneOn}
 use Rattle.copyin_base.specs.Kept.{Kept}
 use Rattle.copyin_base.specs.Worlds.{WorldView, entry_at, port_at}
 use Rattle.kernel_change.specs.declared.change.Change.{Change}
-use Rattle.kernel_change.specs.declared.change.Change.TheVariants.{Nothing, PortNamed, Queue, QueueNamed, Left, Any}
+use Rattle.kernel_change.specs.declared.change.Change.TheVariants.{Nothing, PortNamed, Queue, QueueNamed, Left, Lost, Any}
 
 -- ---- what it is
 
@@ -44,6 +46,7 @@ touched_by w (PortNamed task name) = few (option_map Waited.Port (port_under w t
 touched_by w (Queue port) = with_set w (Some port)
 touched_by w (QueueNamed task name) = with_set w (port_under w task name)
 touched_by w (Left port set) = named_left w port set
+touched_by w (Lost port) = All
 touched_by w Any = All
 
 -- ---- which it is, where the end of the step had nothing to do
@@ -69,10 +72,6 @@ abbrev pub by_send : Option ℕ → Change
 by_send (Some port) = Queue port
 by_send None = Any
 
--- references of a right of this number: those of a send right or a dead name are nothing that is waited for
-abbrev pub by_references : (right : ℕ) → Change
-by_references right = if right == 0 || right == 4 then Nothing else Any
-
 -- one reference under a name goes, or the send-once right, whose port gets a notice
 abbrev pub by_losing_one : Option Entry → Change
 by_losing_one (Some (entry.Send port references)) = Nothing
@@ -81,12 +80,18 @@ by_losing_one (Some (entry.DeadName references)) = Nothing
 by_losing_one (Some (entry.SendOnce port)) = Queue port
 by_losing_one e = Any
 
--- all under a name goes; the port of a send-once right gets a notice
+-- all under a name goes; the port of a send-once right gets a notice, and that of a receive right dies or is sent away
 abbrev pub by_losing_all : Option Entry → Change
 by_losing_all (Some (entry.Send port references)) = Nothing
 by_losing_all (Some (entry.DeadName references)) = Nothing
 by_losing_all (Some (entry.SendOnce port)) = Queue port
+by_losing_all (Some (entry.Receive port)) = Lost port
+by_losing_all (Some (entry.ReceiveAndSend port references)) = Lost port
 by_losing_all e = Any
+
+-- references of a right of this number: those of a send right or a dead name are nothing that is waited for, and another right goes
+abbrev pub by_references : WorldView → (task name right : ℕ) → Change
+by_references w task name right = if right == 0 || right == 4 then Nothing else by_losing_all (entry_at w task name)
 
 -- a port goes to another set or place, from this set, if it is in one
 abbrev pub left_by : (port : ℕ) → Option ℕ → Change
@@ -131,7 +136,7 @@ change_of w (Event.Allocate task right) reply = by_making task reply
 change_of w (Event.AllocateName task right name) reply = by_making task reply
 change_of w (Event.Deallocate task name) reply = by_losing_one (entry_at w task name)
 change_of w (Event.Destroy task name) reply = by_losing_all (entry_at w task name)
-change_of w (Event.ModRefs task name right delta) reply = by_references right
+change_of w (Event.ModRefs task name right delta) reply = by_references w task name right
 change_of w (Event.MoveMember task member after) reply = by_moving w task member
 change_of w (Event.InsertRight task name from poly number) reply = by_handing w from poly number
 change_of w (Event.ExtractRight task name number to) reply = by_handing w task name number
@@ -139,3 +144,22 @@ change_of w (Event.Receive task name room large) reply = by_receipt task large r
 change_of w (Event.ReceiveAgain task waited room large) reply = by_receipt task large reply
 change_of w (Event.RequestNotification task name variant sync notify number) reply = by_request w task notify number
 change_of w event reply = Any
+
+-- ---- which it is, where the end of the step had something to do
+
+-- No request is on the port or on a name of it.
+pub record IsUnasked (w : WorldView) (port : ℕ) : Type 0 where
+  pub no_senders : map.get w.requests.no_senders.map port ≡ None
+  pub port_destroyed : map.get w.requests.port_destroyed.map port ≡ None
+  pub on_names : NoneOn w.requests.names port
+
+-- Nothing is queued at the port, no request is on it or on a name of it, and none was on a name that went.
+pub record DiesAlone (w : WorldView) (port : ℕ) : Type 0 where
+  pub unqueued : NoneQueued w.ports port
+  pub unasked : IsUnasked w port
+  pub went : w.requests.names.went ≡ []
+
+-- By the tables before the end: a port that dies alone leaves its set, and all else may be anything.
+abbrev pub EndsAs : WorldView → (told ends : Change) → Type 0
+EndsAs w (Lost port) ends = DiesAlone w port × (ends ≡ left_by port (set_of w port)) ⊎ ¬ (DiesAlone w port) × (ends ≡ Any)
+EndsAs w told ends = ends ≡ Any

@@ -1,7 +1,8 @@
 //! What a step changed, as it is kept.
-ghost use Rattle.std.specs.Prelude.{◌≡◌, Some, None, IfOk, if◌then◌else◌};
-ghost use Rattle.kernel_change.specs.declared.change.Change.TheVariants.{Any};
-ghost use Rattle.kernel_change.specs.Changing.{few, named_left, port_under, set_of as set_at, with_set as touched_with_set, touched_by, gives_none, by_message as change_by_message, by_receipt as change_by_receipt, by_making as change_by_making, by_send as change_by_send, by_references as change_by_references, by_losing_one as change_by_losing_one, by_losing_all as change_by_losing_all, left_by as change_left_by, by_moving as change_by_moving, by_handing as change_by_handing, by_paying as change_by_paying, by_request as change_by_request};
+ghost use Rattle.std.specs.Prelude.{◌≡◌, ◌↔◌, [], Some, None, IfOk, IsTrue};
+ghost use Rattle.port.specs.Ports.{NoneQueued};
+ghost use Rattle.copyin_base.specs.Worlds.{entry_at};
+ghost use Rattle.kernel_change.specs.Changing.{few, named_left, port_under, set_of as set_at, with_set as touched_with_set, touched_by, gives_none, by_message as change_by_message, by_receipt as change_by_receipt, by_making as change_by_making, by_send as change_by_send, by_references as change_by_references, by_losing_one as change_by_losing_one, by_losing_all as change_by_losing_all, IsUnasked, DiesAlone, EndsAs, left_by as change_left_by, by_moving as change_by_moving, by_handing as change_by_handing, by_paying as change_by_paying, by_request as change_by_request};
 
 use copyin_base::{Code, World};
 use mach_types::{Name, PortId, Reply, SetId, TaskId, Touched, Waited};
@@ -22,17 +23,25 @@ pub enum Change {
     QueueNamed(TaskId, Name),
     /// Of this port that it left this set, for another place or another set.
     Left(PortId, SetId),
+    /// The receive right of this port was destroyed: any port and any set, unless it dies alone.
+    Lost(PortId),
     /// Any port and any set.
     Any,
 }
 
 impl Change {
-    /// What a step changed whose call changed this: any port and any set, where its end had something to do.
-    #[inline(always)]
-    pub fn after(self, is_quiet: bool) -> Change
-        ensures { result ≡ if is_quiet then self else Any }
+    /// What a step changed whose call changed this, where its end has something to do: any port and any set, but where
+    /// a port dies alone. By the tables before the end. Constant time.
+    #[inline(never)]
+    pub fn with_end(self, world: &World) -> Change
+        ensures { EndsAs world.now self result }
     {
-        if is_quiet { self } else { Change::Any }
+        match self {
+            Change::Lost(port) if dies_alone(world, port) => {
+                Change::by_leaving(port, set_of(world, port))
+            }
+            _ => Change::Any,
+        }
     }
 
     /// One reference under a name with this entry goes, or the send-once right, whose port gets a notice.
@@ -55,19 +64,21 @@ impl Change {
         match entry {
             Entry::Send(..) | Entry::DeadName(_) => Change::Nothing,
             Entry::SendOnce(port) => Change::Queue(*port),
-            Entry::Receive(_) | Entry::ReceiveAndSend(..) | Entry::Set(_) => Change::Any,
+            Entry::Receive(port) | Entry::ReceiveAndSend(port, _) => Change::Lost(*port),
+            Entry::Set(_) => Change::Any,
         }
     }
 
-    /// References changed of a right of this number: a send right, a dead name, or another right that went.
+    /// References are about to change of a right of this number, under the name: a send right, a dead name, or another
+    /// right that goes. Constant time, and logarithmic for a name above 65,535.
     #[inline(always)]
-    pub fn by_references(right: u32) -> Change
-        ensures { result ≡ change_by_references right }
+    pub fn by_references(world: &World, task: TaskId, name: Name, right: u32) -> Change
+        ensures { result ≡ change_by_references world.now task name right }
     {
         if right == 0 || right == 4 {
             Change::Nothing
         } else {
-            Change::Any
+            by_removing(world, task, name)
         }
     }
 
@@ -163,7 +174,7 @@ impl Change {
             Change::Queue(port) => name_with_set(world, Some(port)),
             Change::QueueNamed(task, name) => name_with_set(world, named_port(world, task, name)),
             Change::Left(port, set) => name_left(world, port, set),
-            Change::Any => Touched::All,
+            Change::Lost(_) | Change::Any => Touched::All,
         }
     }
 }
@@ -228,6 +239,52 @@ fn by_paying(entry: &Entry) -> Change
         }
         Entry::Send(..) | Entry::DeadName(_) | Entry::Set(_) => Change::Any,
     }
+}
+
+/// The right under the name is about to go, which counts no references.
+#[inline(never)]
+fn by_removing(world: &World, task: TaskId, name: Name) -> Change
+    ensures { result ≡ change_by_losing_all (entry_at world.now task name) }
+{
+    match world.lookup(task, name) {
+        Some(entry) => Change::by_losing_all(&entry),
+        None => Change::Any,
+    }
+}
+
+/// Whether the port, whose receive right was destroyed, is all that the end of the step changes. So it is where nothing is
+/// queued at it, no request is on it or on a name of it, and none was on a name that went.
+fn dies_alone(world: &World, port: PortId) -> bool
+    ensures { IsTrue result ↔ DiesAlone world.now port }
+{
+    is_unqueued(world, port) && is_unasked(world, port) && none_went(world)
+}
+
+/// Whether the port has no messages.
+fn is_unqueued(world: &World, port: PortId) -> bool
+    ensures { IsTrue result ↔ NoneQueued world.now.ports port }
+{
+    match world.ports.queue(port) {
+        Some(queue) => queue.is_empty(),
+        None => true,
+    }
+}
+
+/// Whether no request is on the port or on a name of it.
+fn is_unasked(world: &World, port: PortId) -> bool
+    ensures { IsTrue result ↔ IsUnasked world.now port }
+{
+    let requests = &world.requests;
+    requests.no_senders.get(port.number()).is_none()
+        && requests.port_destroyed.get(port.number()).is_none()
+        && requests.names.first_of(port).is_none()
+}
+
+/// Whether no request was on a name that went.
+fn none_went(world: &World) -> bool
+    ensures { IsTrue result ↔ (world.now.requests.names.went ≡ []) }
+{
+    world.requests.names.first_went().is_none()
 }
 
 /// The port under the name is about to change its set, or its receive right goes to another place.

@@ -14,7 +14,7 @@ use Rattle.mach_types.specs.declared.touched.Touched.TheVariants.{All as Any}
 use Rattle.mach_types.specs.Touching.{Covers}
 use Rattle.mach_types.specs.declared.rights.Disposition.{Disposition}
 use Rattle.mach_types.specs.declared.rights.Disposition.TheVariants.{MoveSend, MoveSendOnce}
-use Rattle.mach_types.specs.Tokens.{Kind, receive, send_once, Token, token, Place, in_task, in_message, Request, in_request, count, is_of}
+use Rattle.mach_types.specs.Tokens.{Kind, receive, send_once, Token, token, Place, in_task, in_message, Request, in_request, count, is_of, is_held, Moves}
 use Rattle.mach_types.specs.Messages.{Mark, to_port}
 use Rattle.mach_types.specs.Grammar.{Header, WireBody, text, Spells}
 use Rattle.mach_types.specs.TextGuards.{word_at}
@@ -29,7 +29,7 @@ use Rattle.mach_model.specs.Notices.{Notice, carried_by, Owed, right_unused}
 use Rattle.mach_model.specs.Requests.{Requests}
 use Rattle.mach_model.specs.SentMeans.{target_mark}
 use Rattle.mach_model.specs.CopyIn.{CopyRight}
-use Rattle.mach_model.specs.References.{LosesOne, unused_once, Deallocates, Destroys, Modifies, LosesAll, is_either}
+use Rattle.mach_model.specs.References.{LosesOne, unused_once, Deallocates, Destroys, Modifies, LosesAll, LosesReceive, RemovesRight, is_either}
 use Rattle.mach_model.specs.Receive.{Receipt, Receives}
 use Rattle.mach_model.specs.Send.{Sends}
 use Rattle.mach_model.specs.Settles.{Settles}
@@ -38,8 +38,9 @@ use Rattle.mach_model.proofs.MessagesLawful.{first_byte}
 use Rattle.mach_model.proofs.Names.{at_own, get_own}
 use Rattle.mach_model.proofs.NamesLawful.{gives-lawful}
 use Rattle.mach_laws.specs.Touching.{TouchesOnly}
-use Rattle.mach_laws.proofs.Losing.{one_keeps, all_keeps, IsCounted, counts_keep, insert_ends, extract_ends, inserts_keep, extracts_keep}
-use Rattle.mach_laws.proofs.Moving.{KeepsOthers, others_end, moved_touches, joins_others, receive_moves}
+use Rattle.mach_laws.proofs.LoneDeath.{LosesRight, none_lost, all_lose, receive_lost, dies_alone}
+use Rattle.mach_laws.proofs.Losing.{one_keeps, all_keeps, IsCounted, counts_keep, modifies_removes, insert_ends, extract_ends, inserts_keep, extracts_keep}
+use Rattle.mach_laws.proofs.Moving.{KeepsOthers, others_end, others_trans, moved_touches, joins_others, receive_moves}
 use Rattle.mach_laws.proofs.QuietEnd.{IsQuietEnd, ends_quietly, ends_telling}
 use Rattle.mach_laws.proofs.Requesting.{OwesOne, OwesNone, request_keeps, taken_away_keeps}
 use Rattle.mach_laws.proofs.Touching.{Keeps, Changes, keeps_same, keeps_by, changes_none, changes_end, touches, touches_before, gives_keeps, made_touches, set_changes, dead_keeps, IsOtherWord, SendsOthers, keeps_trans, sends_change, sends_alike, ReceivesOthers, receives_change, creates_keep, renames_keep, limit_changes}
@@ -50,7 +51,6 @@ use Rattle.port.specs.Ports.{PortView}
 use Rattle.message_codec.specs.declared.words.PortWord.{PortWord}
 use Rattle.copyin_base.specs.Kept.{Kept}
 use Rattle.copyin_base.specs.Posted.{with_notice, with_posted}
-use Rattle.copyin_base.specs.Requests.{notify_of, rights_kept, rights_went}
 use Rattle.copyin_base.specs.Serving.{Completes, Declines}
 use Rattle.copyin_base.specs.Shows.{Agrees, Shows, target_of}
 use Rattle.copyin_base.specs.Worlds.{WorldView, entry_at, port_at, IsIdle}
@@ -62,9 +62,10 @@ use Rattle.copyin.proofs.Planning.{message, third, copied, none_receives}
 use Rattle.destroy.specs.Stages.{SettlesIn}
 use Rattle.kernel_change.specs.declared.change.Change.TheVariants as change
 use Rattle.kernel_change.specs.declared.change.Change.{Change}
-use Rattle.kernel_change.specs.Changing.{few, port_under, set_of, with_set, named_left, touched_by, gives_none, by_message, by_receipt, by_send, by_references, by_paying, by_request, by_losing_one, by_losing_all, left_by, moved_from, by_moving, by_handing}
+use Rattle.kernel_change.specs.Changing.{few, port_under, set_of, with_set, named_left, touched_by, gives_none, by_message, by_receipt, by_send, by_references, by_paying, by_request, by_making, by_losing_one, by_losing_all, left_by, moved_from, by_moving, by_handing, DiesAlone, EndsAs}
 use Rattle.kernel_core.specs.Send.{MovesNoReceive, SendsTo, TellsSent}
-use Rattle.kernel_core.specs.Touching.{TellsChange, Touches}
+use Rattle.kernel_core.specs.Touching.{TellsChange, Touches, EndsIdle}
+use Rattle.kernel_core.proofs.Alone.{none_kept, is_lone}
 
 -- ---- where nothing is left to do, the state midway and the one after are shown by the same tables
 
@@ -76,23 +77,12 @@ module _ (w : WorldView) (mid t : State) (a : Agrees w mid) (b : Shows w t) (no_
       b.lawful.no_sets p d ∙ sym (no_sets p c)
   same_sets p (Some v) is = sym (b.agrees.ports p v is).sets ∙ (a.ports p v is).sets
 
-  none_by : (live : ℕ → Bool) (o : Option ℕ) (kind : Kind) (q : ℕ) → is_some o ≡ false → rights_kept live o kind q ≡ 0
-  none_by live None kind q e = refl
-  none_by live (Some n) kind q e = absurd (cc)
-
-  none_kept : (r : Request) → mid.stands r ≡ false → (kind : Kind) (q : ℕ) → lying mid kind q (in_request r) ≡ 0
-  none_kept r gone kind q =
-      let kept = a.kept r kind q in
-      let none = none_by mid.live_port (notify_of w.requests r) kind q (sym (a.standing r) ∙ gone) in
-      let went : rights_went mid.live_port w.requests.names.went r kind q ≡ 0 = rw idle.went refl in
-      omega (arith, kept, none, went)
-
   pub quiet_end : IsQuietEnd mid t
   quiet_end = record {
     live = λ p. sym (b.agrees.live_port p) ∙ a.live_port p;
     sets = λ p. same_sets p (port_at w p) refl;
     stands = λ r. b.agrees.standing r ∙ sym (a.standing r);
-    kept = none_kept;
+    kept = none_kept w mid a idle.went;
   }
 
 -- So it is where one notice was posted, which brings no right.
@@ -145,6 +135,14 @@ named_port (Some (named.ReceiveAndSend q n)) p e = grind arith
 named_port (Some (named.SendOnce q)) p e = cc
 named_port (Some (named.DeadName n)) p e = cc
 named_port (Some (named.Set set)) p e = cc
+
+-- what goes was held
+held_some : (task p : ℕ) (old new : List Token) → Moves old new (token receive p (in_task task) ∷ []) [] → 0 < count (is_held task receive p) old
+held_some task p old new moves =
+    let m = moves (λ x. if is_held task receive p x then 1 else 0) in
+    let own : is_held task receive p (token receive p (in_task task)) ≡ true = grind arith in
+    let one : ◌≡◌ {A = ℕ} (if is_held task receive p (token receive p (in_task task)) then 1 else 0) 1 = rw own refl in
+    omega (arith, m, one)
 
 -- the set that a port is in is the one of its tables
 module _ (w : WorldView) (s : State) (a : Agrees w s) (p : ℕ) (no_sets : s.live_port p ≡ false → s.sets_of p ≡ []) where
@@ -218,7 +216,10 @@ module _ (w : WorldView) (mid : State) (a : Agrees w mid) where
       let small : word_at bytes 0 < 2 ^ 31 = ltb-true (word_at bytes 0) (2 ^ 31) parts.0 in
       let first : word_at bytes 0 % 2 ^ 8 ≡ h.remote_kind = ap (λ (bs : List ℕ). word_at bs 0 % 2 ^ 8) spells.is_text ∙ first_byte h v spells.header_fits.remote_kind spells.header_fits.local_kind in
       let raw = bits_of h v spells.header_fits.remote_kind spells.header_fits.local_kind (subst (λ (bs : List ℕ). word_at bs 0 < 2 ^ 31) spells.is_text small) in
-      record { reply = λ e. (let f = parts.1 in let g = first ∙ e in differs (word_at bytes 0 % 2 ^ 8) g f); bytes = raw.0; simple = raw.1 }
+      record {
+        reply = λ e. (let f = parts.1 in let g = first ∙ e in differs (word_at bytes 0 % 2 ^ 8) g f);
+        body = subst (λ (x : WireBody). All IsOtherWord (machine_words x)) (sym raw.1) (All-nil IsOtherWord);
+      }
     where
       differs : (n : ℕ) → n ≡ 16 → not (n == 16) ≡ true → ⊥
       differs n e f = grind arith
@@ -322,6 +323,9 @@ module _ (now : ℕ) (old w : WorldView) (s mid : State) (owed : Owed) (sh : Sho
   any_all : (told : Change) → told ≡ change.Any → touched_by w told ≡ Any
   any_all told is = ap (touched_by w) is
 
+  lost_all : (told : Change) (p : ℕ) → told ≡ change.Lost p → touched_by w told ≡ Any
+  lost_all told p is = ap (touched_by w) is
+
   one_own : (task name : ℕ) (told : Change) → Deallocates task name s mid owed → told ≡ by_losing_one (entry_at old task name) → OwnTouches s mid owed (touched_by w told)
   one_own task name told (inl (p, l, none)) tells = kept_all s mid owed _ (one_keeps task name MoveSend (Target.port p) s mid refl l) none
   one_own task name told (inr (inl (p, l, is))) tells = loss_own task name p told l is (tells ∙ (once_queue (entry_at old task name) p (sym l.found ∙ sh.agrees.naming task name)).0)
@@ -334,13 +338,13 @@ module _ (now : ℕ) (old w : WorldView) (s mid : State) (owed : Owed) (sh : Sho
     where
       go : (o : Option Named) → entry_at old task name ≡ o → Some (Target.port p) ≡ option_map target_of o → OwnTouches s mid owed (touched_by w told)
       go None is e = absurd (cc)
-      go (Some (named.Receive q)) is e = inl (any_all told (tells ∙ ap by_losing_all is))
+      go (Some (named.Receive q)) is e = inl (lost_all told q (tells ∙ ap by_losing_all is))
       go (Some (named.Send q n)) is e =
           let has = sh.agrees.references task name (named.Send q n) q is refl in
           let none_held : held s task receive q ≡ 0 = has.0 in
           let same : p ≡ q = (let f = e in cc) in
           kept_all s mid owed _ (all_keeps task p name s mid loses rest (subst (λ (x : ℕ). held s task receive x ≡ 0) (sym same) none_held)) none
-      go (Some (named.ReceiveAndSend q n)) is e = inl (any_all told (tells ∙ ap by_losing_all is))
+      go (Some (named.ReceiveAndSend q n)) is e = inl (lost_all told q (tells ∙ ap by_losing_all is))
       go (Some (named.SendOnce q)) is e = absurd (cc)
       go (Some (named.DeadName n)) is e = absurd (cc)
       go (Some (named.Set set)) is e = absurd (cc)
@@ -361,12 +365,44 @@ module _ (now : ℕ) (old w : WorldView) (s mid : State) (owed : Owed) (sh : Sho
     ]
   ]
 
-  counts_own : (task name right : ℕ) (delta : ℤ) → Modifies task name right delta s mid owed → OwnTouches s mid owed (touched_by w (by_references right))
-  counts_own task name right delta m = go (right == 0 || right == 4) refl
+  counted_not : (right : ℕ) → (right == 0 || right == 4) ≡ false → (right ≢ 0) × (right ≢ 4)
+  counted_not right is = ((λ e. (let f : (right == 0 || right == 4) ≡ true = rw e refl in cc)), (λ e. (let f : (right == 0 || right == 4) ≡ true = rw e refl in cc)))
+
+  -- a receive right that goes stands under its name
+  receive_own : (task name p : ℕ) (told : Change) → lookup s task name ≡ Some (Target.port p) → LosesReceive task name p s mid → told ≡ by_losing_all (entry_at old task name) → touched_by w told ≡ Any
+  receive_own task name p told found loses tells = go (entry_at old task name) refl (sym found ∙ sh.agrees.naming task name)
     where
-      go : (b : Bool) → (right == 0 || right == 4) ≡ b → OwnTouches s mid owed (touched_by w (if b then change.Nothing else change.Any))
-      go true is = let k = counts_keep task name right delta s mid owed (counted right is) m in kept_all s mid owed _ k.0 k.1
-      go false is = inl refl
+      go : (o : Option Named) → entry_at old task name ≡ o → Some (Target.port p) ≡ option_map target_of o → touched_by w told ≡ Any
+      go None is e = absurd (cc)
+      go (Some (named.Receive q)) is e = lost_all told q (tells ∙ ap by_losing_all is)
+      go (Some (named.Send q n)) is e =
+          let none : held s task receive q ≡ 0 = (sh.agrees.references task name (named.Send q n) q is refl).0 in
+          let same : p ≡ q = (let f = e in cc) in
+          let some : 0 < held s task receive p = held_some task p s.ledger mid.ledger loses.0 in
+          absurd (let zero : held s task receive p ≡ 0 = subst (λ (x : ℕ). held s task receive x ≡ 0) (sym same) none in omega (arith, zero, some))
+      go (Some (named.ReceiveAndSend q n)) is e = lost_all told q (tells ∙ ap by_losing_all is)
+      go (Some (named.SendOnce q)) is e = absurd (cc)
+      go (Some (named.DeadName n)) is e = absurd (cc)
+      go (Some (named.Set set)) is e = absurd (cc)
+
+  -- a right goes that counts no references
+  removed_own : (task name right : ℕ) (target : Target) (told : Change) → lookup s task name ≡ Some target → RemovesRight right task name target s mid owed → told ≡ by_losing_all (entry_at old task name) → OwnTouches s mid owed (touched_by w told)
+  removed_own task name right (Target.port p) told found r tells = inl (receive_own task name p told found r.1 tells)
+  removed_own task name right (Target.once p) told found r tells = loss_own task name p told r.1.0 r.1.1 (tells ∙ (once_queue (entry_at old task name) p (sym found ∙ sh.agrees.naming task name)).1)
+  removed_own task name right (Target.set set) told found r tells = inl (any_all told (tells ∙ set_any (entry_at old task name) set (sym found ∙ sh.agrees.naming task name)))
+  removed_own task name right (Target.dead n) told found r tells = absurd r
+
+  counts_own : (task name right : ℕ) (delta : ℤ) (told : Change) → Modifies task name right delta s mid owed → told ≡ by_references old task name right → OwnTouches s mid owed (touched_by w told)
+  counts_own task name right delta told m tells = go (right == 0 || right == 4) refl tells
+    where
+      go : (b : Bool) → (right == 0 || right == 4) ≡ b → told ≡ (if b then change.Nothing else by_losing_all (entry_at old task name)) → OwnTouches s mid owed (touched_by w told)
+      go true is tells = let k = counts_keep task name right delta s mid owed (counted right is) m in kept_all s mid owed _ k.0 k.1
+      go false is tells =
+          let not = counted_not right is in
+          elim (modifies_removes task name right delta s mid owed not.0 not.1 m) [
+            | inl same ↦ kept_all s mid owed _ (keeps_same s mid same.0) same.1
+            | inr (target, found, r) ↦ removed_own task name right target told found r tells
+          ]
 
   -- ---- a port goes to other sets, or its receive right to another task
 
@@ -495,7 +531,7 @@ module _ (now : ℕ) (old w : WorldView) (s mid : State) (owed : Owed) (sh : Sho
   own (Event.TaskTerminate task) reply told d tells = inl (any_all told tells)
   own (Event.Deallocate task name) (Reply.Code code) told d tells = one_own task name told d.1 tells
   own (Event.Destroy task name) (Reply.Code code) told d tells = all_own task name told d.1 tells
-  own (Event.ModRefs task name right delta) (Reply.Code code) told d tells = as_told tells (counts_own task name right delta d.1)
+  own (Event.ModRefs task name right delta) (Reply.Code code) told d tells = counts_own task name right delta told d.1 tells
   own (Event.MoveMember task member after) (Reply.Code code) told d tells = moving_own task member d.1.0 told d.1.1 (joins_others task member after s mid d.1) d.2 tells
   own (Event.InsertMember task member set) reply told d tells = inl (any_all told tells)
   own (Event.ExtractMember task member set) reply told d tells = inl (any_all told tells)
@@ -506,6 +542,140 @@ module _ (now : ℕ) (old w : WorldView) (s mid : State) (owed : Owed) (sh : Sho
   own (Event.RequestNotification task name variant sync notify number) (Reply.Previous previous) told d tells = request_own task name variant sync notify number previous told d tells
   own event reply told d tells = absurd d
 
+-- ---- a receive right that is destroyed
+
+abbrev NotLost : Change → Type 0
+NotLost (change.Lost p) = ⊥
+NotLost told = Unit {0}
+
+not_either : (b : Bool) (x y : Change) → NotLost x → NotLost y → NotLost (if b then x else y)
+not_either true x y f g = f
+not_either false x y f g = g
+
+not_making : (task : ℕ) (reply : Reply) → NotLost (by_making task reply)
+not_making task (Reply.Name name) = tt
+not_making task reply = tt
+
+not_receipt : (task : ℕ) (large : Bool) (reply : Reply) → NotLost (by_receipt task large reply)
+not_receipt task large (Reply.Message bytes) = not_either (gives_none bytes) (change.QueueNamed task (word_at bytes 12)) change.Any tt tt
+not_receipt task large (Reply.Empty waited) = tt
+not_receipt task large (Reply.TooLarge n) = not_either large change.Nothing change.Any tt tt
+not_receipt task large reply = tt
+
+not_sent : (sent : Option ℕ) → NotLost (by_send sent)
+not_sent (Some port) = tt
+not_sent None = tt
+
+not_losing_one : (o : Option Named) → NotLost (by_losing_one o)
+not_losing_one None = tt
+not_losing_one (Some (named.Receive p)) = tt
+not_losing_one (Some (named.Send p n)) = tt
+not_losing_one (Some (named.ReceiveAndSend p n)) = tt
+not_losing_one (Some (named.SendOnce p)) = tt
+not_losing_one (Some (named.DeadName n)) = tt
+not_losing_one (Some (named.Set set)) = tt
+
+not_paying : (o : Option Named) → NotLost (by_paying o)
+not_paying None = tt
+not_paying (Some (named.Receive p)) = tt
+not_paying (Some (named.Send p n)) = tt
+not_paying (Some (named.ReceiveAndSend p n)) = tt
+not_paying (Some (named.SendOnce p)) = tt
+not_paying (Some (named.DeadName n)) = tt
+not_paying (Some (named.Set set)) = tt
+
+not_left : (p : ℕ) (o : Option ℕ) → NotLost (left_by p o)
+not_left p (Some set) = tt
+not_left p None = tt
+
+not_moved : (w : WorldView) (o : Option ℕ) → NotLost (moved_from w o)
+not_moved w (Some p) = not_left p (set_of w p)
+not_moved w None = tt
+
+not_handing : (w : WorldView) (task name number : ℕ) → NotLost (by_handing w task name number)
+not_handing w task name number = not_either (number == 16) (by_moving w task name) change.Nothing (not_moved w (port_under w task name)) tt
+
+not_request : (w : WorldView) (task name number : ℕ) → NotLost (by_request w task name number)
+not_request w task name number =
+    not_either (name == 0) change.Nothing (if number == 16 then change.Any else by_paying (entry_at w task name)) tt (not_either (number == 16) change.Any (by_paying (entry_at w task name)) tt (not_paying (entry_at w task name)))
+
+-- what stands under a name of which this is told
+lost_target : (o : Option Named) (target : Target) (p : ℕ) → Some target ≡ option_map target_of o → by_losing_all o ≡ change.Lost p → target ≡ Target.port p
+lost_target None target p e is = absurd (cc)
+lost_target (Some (named.Receive q)) target p e is = let f : q ≡ p = (let g = is in cc) in let h : target ≡ Target.port q = (let g = e in cc) in h ∙ ap Target.port f
+lost_target (Some (named.ReceiveAndSend q n)) target p e is = let f : q ≡ p = (let g = is in cc) in let h : target ≡ Target.port q = (let g = e in cc) in h ∙ ap Target.port f
+lost_target (Some (named.Send q n)) target p e is = absurd (cc)
+lost_target (Some (named.SendOnce q)) target p e is = absurd (cc)
+lost_target (Some (named.DeadName n)) target p e is = absurd (cc)
+lost_target (Some (named.Set set)) target p e is = absurd (cc)
+
+module _ (now : ℕ) (old : WorldView) (s mid : State) (owed : Owed) (sh : Shows old s) (p : ℕ) (told : Change) (lost : told ≡ change.Lost p) where
+  -- its right goes, and nothing is owed
+  abbrev Loses : Type 0
+  Loses = LosesRight p s mid × (owed ≡ [])
+
+  never : (c : Change) → told ≡ c → NotLost c → ⊥
+  never c is not = subst NotLost (sym is ∙ lost) not
+
+  target_is : (task name : ℕ) (target : Target) → lookup s task name ≡ Some target → told ≡ by_losing_all (entry_at old task name) → target ≡ Target.port p
+  target_is task name target found tells = lost_target (entry_at old task name) target p (sym found ∙ sh.agrees.naming task name) (sym tells ∙ lost)
+
+  same_port : (q : ℕ) → Target.port q ≡ Target.port p → q ≡ p
+  same_port q e = cc
+
+  destroyed_lost : (task name : ℕ) → Destroys task name s mid owed → told ≡ by_losing_all (entry_at old task name) → Loses
+  destroyed_lost task name (Target.port q, found, d) tells = (subst (λ (x : ℕ). LosesRight x s mid) (same_port q (target_is task name (Target.port q) found tells)) (all_lose task name q s mid d.0 d.1), d.2)
+  destroyed_lost task name (Target.once q, found, d) tells = absurd (let e = target_is task name (Target.once q) found tells in cc)
+  destroyed_lost task name (Target.dead n, found, d) tells = absurd (let e = target_is task name (Target.dead n) found tells in cc)
+  destroyed_lost task name (Target.set set, found, d) tells = absurd (let e = target_is task name (Target.set set) found tells in cc)
+
+  removed_lost : (task name right : ℕ) (target : Target) → lookup s task name ≡ Some target → RemovesRight right task name target s mid owed → told ≡ by_losing_all (entry_at old task name) → Loses
+  removed_lost task name right (Target.port q) found r tells = (subst (λ (x : ℕ). LosesRight x s mid) (same_port q (target_is task name (Target.port q) found tells)) (receive_lost task name q s mid r.1), r.2)
+  removed_lost task name right (Target.once q) found r tells = absurd (let e = target_is task name (Target.once q) found tells in cc)
+  removed_lost task name right (Target.set set) found r tells = absurd (let e = target_is task name (Target.set set) found tells in cc)
+  removed_lost task name right (Target.dead n) found r tells = absurd r
+
+  modified_lost : (task name right : ℕ) (delta : ℤ) → Modifies task name right delta s mid owed → told ≡ by_references old task name right → Loses
+  modified_lost task name right delta m tells = go (right == 0 || right == 4) refl tells
+    where
+      not : (right == 0 || right == 4) ≡ false → (right ≢ 0) × (right ≢ 4)
+      not is = ((λ e. (let f : (right == 0 || right == 4) ≡ true = rw e refl in cc)), (λ e. (let f : (right == 0 || right == 4) ≡ true = rw e refl in cc)))
+
+      go : (b : Bool) → (right == 0 || right == 4) ≡ b → told ≡ (if b then change.Nothing else by_losing_all (entry_at old task name)) → Loses
+      go true is tells = absurd (never change.Nothing tells tt)
+      go false is tells = elim (modifies_removes task name right delta s mid owed (not is).0 (not is).1 m) [
+        | inl same ↦ (none_lost p s mid same.0, same.1)
+        | inr (target, found, r) ↦ removed_lost task name right target found r tells
+      ]
+
+  pub own_lost : (event : Event) (reply : Reply) → Does now s event reply mid owed → TellsChange old event reply told → Loses
+  own_lost (Event.Destroy task name) (Reply.Code code) d tells = destroyed_lost task name d.1 tells
+  own_lost (Event.ModRefs task name right delta) (Reply.Code code) d tells = modified_lost task name right delta d.1 tells
+  own_lost Event.TaskCreate reply d tells = absurd (never change.Nothing tells tt)
+  own_lost (Event.TaskTerminate task) reply d tells = absurd (never change.Any tells tt)
+  own_lost (Event.Allocate task right) reply d tells = absurd (never (by_making task reply) tells (not_making task reply))
+  own_lost (Event.AllocateName task right name) reply d tells = absurd (never (by_making task reply) tells (not_making task reply))
+  own_lost (Event.Deallocate task name) reply d tells = absurd (never (by_losing_one (entry_at old task name)) tells (not_losing_one (entry_at old task name)))
+  own_lost (Event.GetRefs task name right) reply d tells = absurd (never change.Nothing tells tt)
+  own_lost (Event.NameType task name) reply d tells = absurd (never change.Nothing tells tt)
+  own_lost (Event.Names task) reply d tells = absurd (never change.Nothing tells tt)
+  own_lost (Event.Rename task from to) reply d tells = absurd (never change.Nothing tells tt)
+  own_lost (Event.ReceiveStatus task name) reply d tells = absurd (never change.Nothing tells tt)
+  own_lost (Event.SetStatus task name) reply d tells = absurd (never change.Nothing tells tt)
+  own_lost (Event.MoveMember task member after) reply d tells = absurd (never (by_moving old task member) tells (not_moved old (port_under old task member)))
+  own_lost (Event.InsertMember task member set) reply d tells = absurd (never change.Any tells tt)
+  own_lost (Event.ExtractMember task member set) reply d tells = absurd (never change.Any tells tt)
+  own_lost (Event.SetQlimit task name n) reply d tells = absurd (never (change.PortNamed task name) tells tt)
+  own_lost (Event.SetMscount task name n) reply d tells = absurd (never change.Nothing tells tt)
+  own_lost (Event.SetSeqno task name n) reply d tells = absurd (never change.Nothing tells tt)
+  own_lost (Event.InsertRight task name from poly number) reply d tells = absurd (never (by_handing old from poly number) tells (not_handing old from poly number))
+  own_lost (Event.ExtractRight task name number to) reply d tells = absurd (never (by_handing old task name number) tells (not_handing old task name number))
+  own_lost (Event.RequestNotification task name variant sync notify number) reply d tells = absurd (never (by_request old task notify number) tells (not_request old task notify number))
+  own_lost (Event.Send task bytes) reply d (sent, tells, is) = absurd (never (by_send sent) is (not_sent sent))
+  own_lost (Event.Receive task name room large) reply d tells = absurd (never (by_receipt task large reply) tells (not_receipt task large reply))
+  own_lost (Event.ReceiveAgain task waited room large) reply d tells = absurd (never (by_receipt task large reply) tells (not_receipt task large reply))
+  own_lost event reply d tells = absurd d
+
 -- ---- the step
 
 module _ (old w new : WorldView) (event : Event) (reply : Reply) (turns : ℕ) (acts : Completes old event reply w) (settles : SettlesIn w turns new) where
@@ -514,6 +684,9 @@ module _ (old w new : WorldView) (event : Event) (reply : Reply) (turns : ℕ) (
       let d = acts.acts now s sh in
       let e = settles now old s d.mid d.owed sh d.shows in
       (e.0, inr (record { performed = record { mid = d.mid; owed = d.owed; does = d.does; settles = e.1 }; unrefused = d.unrefused; judged = d.judged }), e.2, touches_all s e.0)
+
+  any_touched : (ends : Change) → ends ≡ change.Any → Touches old event reply new (touched_by new ends)
+  any_touched ends is = subst (λ (c : Change). Touches old event reply new (touched_by new c)) (sym is) all_touched
 
   pub few_touched : (told : Change) → TellsChange old event reply told → IsIdle w → new ≡ w → Touches old event reply new (touched_by new told)
   few_touched told tells idle same = λ now s sh.
@@ -539,10 +712,52 @@ module _ (old w new : WorldView) (event : Event) (reply : Reply) (turns : ℕ) (
       by {s} {mid} {t} {owed} {touched} (inr (inl (none, only))) ends tells_one = only t (ends none)
       by {s} {mid} {t} {owed} {touched} (inr (inr (p, one, only))) ends tells_one = only t (tells_one p one)
 
-  pub touched_after : (told : Change) → TellsChange old event reply told → (is_quiet : Bool) → (is_quiet ≡ true → IsIdle w × (new ≡ w)) →
-      Touches old event reply new (touched_by new (if is_quiet then told else change.Any))
-  touched_after told tells false quiet = all_touched
-  touched_after told tells true quiet = let q = quiet refl in few_touched told tells q.0 q.1
+  -- a port dies alone: it is covered, with the set that it was in
+  lone_touched : (p : ℕ) (told : Change) → told ≡ change.Lost p → TellsChange old event reply told → DiesAlone w p → Touches old event reply new (touched_by new (left_by p (set_of w p)))
+  lone_touched p told lost tells alone = λ now s sh.
+      let d = acts.acts now s sh in
+      let e = settles now old s d.mid d.owed sh d.shows in
+      let own = own_lost now old s d.mid d.owed sh p told lost event reply d.does tells in
+      let a : Agrees w d.mid = agree now old w s d.mid d.owed sh d.shows own.1 in
+      let l = law now old w s d.mid d.owed sh d.shows own.1 in
+      let lone = is_lone w d.mid p a d.shows.requested alone s sh.lawful own.0 in
+      let ends = dies_alone now p s d.mid e.0 l lone (subst (λ (o : Owed). Settles now s d.mid o e.0) own.1 e.1) in (
+        e.0,
+        inr (record { performed = record { mid = d.mid; owed = d.owed; does = d.does; settles = e.1 }; unrefused = d.unrefused; judged = d.judged }),
+        e.2,
+        dead_touched s d.mid e.0 p a e.2 own.0 (l.no_sets p) (others_trans p s d.mid e.0 own.0.others ends),
+      )
+    where
+      dead_touched : (s mid t : State) (p : ℕ) → Agrees w mid → Shows new t → LosesRight p s mid → (mid.live_port p ≡ false → mid.sets_of p ≡ []) → KeepsOthers p s t → TouchesOnly s t (touched_by new (left_by p (set_of w p)))
+      dead_touched s mid t p a shown loses no_sets others = go (set_of w p) refl
+        where
+          was : (set : ℕ) → Contains (s.sets_of p) set → set_of w p ≡ Some set
+          was set in_it = set_is w mid a p no_sets set (subst (λ (xs : List ℕ). Contains xs set) (sym loses.sets) in_it)
+
+          is_in : (set : ℕ) → Contains (t.sets_of p) set → set_of new p ≡ Some set
+          is_in set in_it = set_is new t shown.agrees p (shown.lawful.no_sets p) set in_it
+
+          go : (o : Option ℕ) → set_of w p ≡ o → TouchesOnly s t (touched_by new (left_by p o))
+          go None is =
+              moved_touches p s t others (with_set new (Some p)) (0, omega arith, refl) (λ set in_it. absurd (none_some set (sym is ∙ was set in_it)))
+              (λ set in_it. let e = is_in set in_it in rw e (1, omega arith, refl))
+          go (Some left) is =
+              moved_touches p s t others (named_left new p left) (0, omega arith, refl) (λ set in_it. let f = one_some left set (sym is ∙ was set in_it) in rw f (2, omega arith, refl))
+              (λ set in_it. let e = is_in set in_it in rw e (1, omega arith, refl))
+
+  ends_touched : (told ends : Change) → TellsChange old event reply told → EndsAs w told ends → Touches old event reply new (touched_by new ends)
+  ends_touched (change.Lost p) ends tells (inl (alone, is)) = subst (λ (c : Change). Touches old event reply new (touched_by new c)) (sym is) (lone_touched p (change.Lost p) refl tells alone)
+  ends_touched (change.Lost p) ends tells (inr (not, is)) = any_touched ends is
+  ends_touched change.Nothing ends tells is = any_touched ends is
+  ends_touched (change.PortNamed task name) ends tells is = any_touched ends is
+  ends_touched (change.Queue p) ends tells is = any_touched ends is
+  ends_touched (change.QueueNamed task name) ends tells is = any_touched ends is
+  ends_touched (change.Left p set) ends tells is = any_touched ends is
+  ends_touched change.Any ends tells is = any_touched ends is
+
+  pub touched_after : (told ends : Change) → TellsChange old event reply told → EndsIdle w told ends new ⊎ EndsAs w told ends → Touches old event reply new (touched_by new ends)
+  touched_after told ends tells (inl idle) = subst (λ (c : Change). Touches old event reply new (touched_by new c)) (sym idle.told_is) (few_touched told tells idle.idle idle.same)
+  touched_after told ends tells (inr is) = ends_touched told ends tells is
 
 -- a refusal changes nothing
 pub none_touched : (old new : WorldView) (event : Event) (code : ℕ) → Declines old event code new → Touches old event (Reply.Code code) new (few None None)

@@ -18,4 +18,5 @@ mod InTurn
 pub mod Limited
 pub mod Named
 pub mod Carrying
+mod Alone
 mod Changed

@@ -7,7 +7,7 @@ use Rattle.mach_model.specs.State.{State}
 use Rattle.mach_model.specs.Machine.{Step}
 use Rattle.mach_laws.specs.Touching.{TouchesOnly}
 use Rattle.copyin_base.specs.Shows.{Shows}
-use Rattle.copyin_base.specs.Worlds.{WorldView}
+use Rattle.copyin_base.specs.Worlds.{WorldView, IsIdle}
 use Rattle.kernel_change.specs.declared.change.Change.{Change}
 use Rattle.kernel_change.specs.Changing.{by_send, change_of}
 use Rattle.kernel_core.specs.Send.{TellsSent}
@@ -22,6 +22,12 @@ TellsSend w task bytes told = (sent : Option ℕ) × TellsSent w task bytes sent
 abbrev pub TellsChange : WorldView → Event → Reply → (told : Change) → Type 0
 TellsChange w (Event.Send task bytes) reply told = TellsSend w task bytes told
 TellsChange w event reply told = told ≡ change_of w event reply
+
+-- The end of a step had nothing to do: it left the tables, and what is told.
+pub record EndsIdle (w : WorldView) (told ends : Change) (new : WorldView) : Type 0 where
+  pub idle : IsIdle w
+  pub same : new ≡ w
+  pub told_is : ends ≡ told
 
 -- ---- what a step promises of it
 

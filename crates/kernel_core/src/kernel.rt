@@ -1,5 +1,5 @@
 //! A kernel, and its steps.
-ghost use Rattle.std.specs.Prelude.{◌≡◌, ◌≢◌, ◌≤◌, ℕ, List, true, Err, None, IfOk, IfErr, OnOk, OnErr, MatchBool};
+ghost use Rattle.std.specs.Prelude.{◌≡◌, ◌≢◌, ◌≤◌, ◌⊎◌, ℕ, List, true, Err, None, IfOk, IfErr, OnOk, OnErr, MatchBool};
 ghost use Rattle.mach_types.specs.declared.codes.KernReturn.TheVariants as kern;
 ghost use Rattle.mach_types.specs.declared.profiles.Profile.TheVariants.{Three};
 ghost use Rattle.mach_types.specs.Numbers.{most_bytes};
@@ -16,18 +16,18 @@ ghost use Rattle.rights.specs.Unused.{IsUnusedOfAll};
 ghost use Rattle.copyin_base.specs.Shows.{Shows, SlotsSuffice};
 ghost use Rattle.copyin_base.specs.Stands.{Stands};
 ghost use Rattle.copyin_base.specs.Wanted.{KeepsSpares, UsesSpares};
-ghost use Rattle.copyin_base.specs.Worlds.{entry_at, HasTask, IsIdle};
+ghost use Rattle.copyin_base.specs.Worlds.{entry_at, HasTask};
 ghost use Rattle.destroy.specs.Stages.{IsMidway, KeepsRooms, SettlesIn};
 ghost use Rattle.kernel_core.specs.Answers.{Answers};
 ghost use Rattle.kernel_core.specs.Bounds.{most_told, IsWithin};
 ghost use Rattle.kernel_change.specs.declared.change.Change.TheVariants.{Nothing};
-ghost use Rattle.kernel_change.specs.Changing.{few, by_losing_one, by_losing_all, by_moving};
+ghost use Rattle.kernel_change.specs.Changing.{few, by_losing_one, by_losing_all, by_moving, EndsAs};
 ghost use Rattle.kernel_core.specs.Choices.{SameButTurns};
 ghost use Rattle.kernel_core.specs.InTurn.{StepsInTurn};
 ghost use Rattle.kernel_core.specs.Kernels.{TakesTurns};
 ghost use Rattle.kernel_core.specs.Limits.{HasRoomFor, IsNearLimit};
 ghost use Rattle.kernel_core.specs.MemoryCodes.{TellsMemoryCode};
-ghost use Rattle.kernel_core.specs.Touching.{TellsChange, Touches};
+ghost use Rattle.kernel_core.specs.Touching.{TellsChange, Touches, EndsIdle};
 ghost use Rattle.kernel_core.specs.Wanted.{Wanted, Spares, Performs};
 
 use crate::memory::{has_room_for, tell_memory_code};
@@ -167,9 +167,9 @@ impl Kernel {
         match act(&mut self.world, self.alloc, event, &mut told) {
             Ok(reply) => {
                 check_slots(&self.world);
-                let Ending { turns, is_quiet } = end_step(&mut self.world);
+                let Ending { turns, change } = end_step(&mut self.world, told);
                 self.turns = turns;
-                self.change = told.after(is_quiet);
+                self.change = change;
                 check_slots(&self.world);
                 reply
             }
@@ -248,11 +248,12 @@ impl Kernel {
     ///
     /// None before the first step and after a refusal. None, or few, after calls that make or rename something,
     /// that ask, or that set a limit or a count. So it is after a port went to another set or a right to another
-    /// task, where send rights or dead names lost references, where a send-once right was deallocated or destroyed,
-    /// and where a notice was asked for. It is so too after a message that carried no receive right was sent, or was
-    /// received with a body of raw bytes, or none was there.
+    /// task, where send rights or dead names lost references, where a send-once right was lost, and where a notice was
+    /// asked for. It is so too after a message that carried no receive right was sent, or was received with a body of
+    /// raw bytes, or none was there. A port that dies with nothing queued, and no request on it or on a name of it, is
+    /// one of few.
     ///
-    /// `All` after every other call, and where ports died or notices were sent at the end of the step. Takes no
+    /// `All` after every other call, and where other ports died or notices were sent at the end of the step. Takes no
     /// memory. Constant time, and logarithmic for a name above 65,535.
     pub fn touched(&self) -> Touched
         ensures { result ≡ self.now.touched }
@@ -266,21 +267,29 @@ impl Kernel {
 struct Ending {
     /// In how many turns.
     turns: u64,
-    /// Whether nothing was left to do.
-    is_quiet: bool,
+    /// What the step changed.
+    change: Change,
 }
 
-/// Ends a step by [`settle`], where something is left to do.
+/// Ends a step whose call changed this by [`settle`], where something is left to do.
 #[inline(always)]
-fn end_step(world: &mut World) -> Ending
+fn end_step(world: &mut World, told: Change) -> Ending
     requires { IsMidway world.old }
     ensures settles { SettlesIn world.old result.turns world.new }
     ensures rooms { KeepsRooms world.old world.new }
-    ensures quiet { result.is_quiet ≡ true → IsIdle world.old × (world.new ≡ world.old) }
+    ensures change { EndsIdle world.old told result.change world.new ⊎ EndsAs world.old told result.change }
 {
-    let is_quiet = is_idle(world);
-    let turns = if is_quiet { 0 } else { settle(world) };
-    Ending { turns, is_quiet }
+    if is_idle(world) {
+        return Ending {
+            turns: 0,
+            change: told,
+        };
+    }
+    let change = told.with_end(world);
+    Ending {
+        turns: settle(world),
+        change,
+    }
 }
 
 /// A message slot is spare for each send-once right to which no queued message was sent: before a step, after
@@ -408,7 +417,7 @@ fn serve(world: &mut World, alloc: Global, event: &Event, told: &mut Change) -> 
         Event::Deallocate(task, name) => lose_one(world, *task, *name, told),
         Event::Destroy(task, name) => lose_all(world, *task, *name, told),
         Event::ModRefs(task, name, right, delta) => {
-            *told = Change::by_references(*right);
+            *told = Change::by_references(world, *task, *name, *right);
             mod_refs(world, *task, *name, *right, *delta)
         }
         Event::GetRefs(task, name, right) => get_refs(world, *task, *name, *right),

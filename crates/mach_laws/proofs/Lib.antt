@@ -35,5 +35,6 @@ mod Made
 mod Leaving
 pub mod Touching
 pub mod QuietEnd
+pub mod LoneDeath
 pub mod Losing
 pub mod Moving

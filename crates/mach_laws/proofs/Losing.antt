@@ -1,12 +1,12 @@
 -- What stays for those that wait where references go, or a right that is no receive right goes to another task.
-use Rattle.std.proofs.Common.{◌≡◌, ℕ, ◌-◌, List, [], ◌∷◌, refl, sym, ap, ◌∙◌, arith, true, false, Bool, inl, inr, ◌⊎◌, All}
+use Rattle.std.proofs.Common.{◌≡◌, ℕ, ◌-◌, List, [], ◌∷◌, Some, refl, sym, ap, ◌∙◌, arith, true, false, Bool, inl, inr, ◌⊎◌, All}
 use Rattle.std.specs.Prelude.{◌≢◌, ◌==◌, ◌&&◌, ◌||◌, ℤ, if◌then◌else◌, nat_lt}
 use Rattle.std.proofs.lemmas.List.Elements.{All-head, All-tail, All-cons, All-nil, All-replicate}
 use Rattle.mach_types.specs.declared.rights.Disposition.{Disposition}
 use Rattle.mach_types.specs.Numbers.{kind_sent, most_references}
 use Rattle.mach_types.specs.Tokens.{Kind, receive, send, send_once, in_task, Token, token, count, same_kind, is_in_task, is_held}
 use Rattle.mach_types.specs.Messages.{to_port}
-use Rattle.mach_model.specs.State.{State, Target, held, with_name, without_name}
+use Rattle.mach_model.specs.State.{State, Target, lookup, held, with_name, without_name}
 use Rattle.mach_model.specs.CopyIn.{taken_by}
 use Rattle.mach_model.specs.Notices.{Owed}
 use Rattle.mach_model.specs.References.{LosesOne, LosesAll, is_either, SetsSends, RemovesRight, Modifies}
@@ -78,6 +78,14 @@ counts_keep task name right delta old mid owed is (inl (p, n, zero, found, adds,
 counts_keep task name right delta old mid owed is (inr (inl (n, m, four, found, adds, e, none))) = (with_keeps (nat_lt 0 m) task name m old mid e, none)
 counts_keep task name right delta old mid owed is (inr (inr (inl (counts, zero, same, none)))) = (keeps_same old mid same, none)
 counts_keep task name right delta old mid owed is (inr (inr (inr (target, one, found, removes)))) = absurd (none_removed right task name target old mid owed is removes)
+
+-- Of another right nothing changes, or it goes.
+pub modifies_removes : (task name right : ℕ) (delta : ℤ) (old mid : State) (owed : Owed) → right ≢ 0 → right ≢ 4 → Modifies task name right delta old mid owed →
+    ((mid ≡ old) × (owed ≡ [])) ⊎ ((target : Target) × (lookup old task name ≡ Some target) × RemovesRight right task name target old mid owed)
+modifies_removes task name right delta old mid owed a b (inl m) = absurd (a m.2)
+modifies_removes task name right delta old mid owed a b (inr (inl m)) = absurd (b m.2)
+modifies_removes task name right delta old mid owed a b (inr (inr (inl (counts, zero, same, none)))) = inl (same, none)
+modifies_removes task name right delta old mid owed a b (inr (inr (inr (target, one, found, removes)))) = inr (target, found, removes)
 
 -- ---- a right goes to another task
 

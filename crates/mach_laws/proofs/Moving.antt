@@ -19,9 +19,9 @@ use Rattle.mach_model.proofs.Names.{at_other}
 use Rattle.mach_laws.specs.Touching.{TouchesOnly}
 use Rattle.mach_laws.proofs.Touching.{Keeps, IsOfReceives, held_is, lying_is, none_and}
 
--- All is kept but of one port its sets, and where its receive right lies.
+-- All is kept but of one port whether it lives, its sets, and where its receive right lies.
 pub record KeepsOthers (p : ℕ) (s t : State) : Type 0 where
-  pub live : (q : ℕ) → t.live_port q ≡ s.live_port q
+  pub live : (q : ℕ) → q ≢ p → t.live_port q ≡ s.live_port q
   pub log : (q : ℕ) → t.log q ≡ s.log q
   pub taken : (q : ℕ) → t.taken q ≡ s.taken q
   pub limit : (q : ℕ) → t.limit q ≡ s.limit q
@@ -31,13 +31,24 @@ pub record KeepsOthers (p : ℕ) (s t : State) : Type 0 where
 
 pub others_end : (p : ℕ) (s mid t : State) → KeepsOthers p s mid → Keeps mid t → KeepsOthers p s t
 others_end p s mid t a k = record {
-  live = λ q. k.live q ∙ a.live q;
+  live = λ q not. k.live q ∙ a.live q not;
   log = λ q. k.log q ∙ a.log q;
   taken = λ q. k.taken q ∙ a.taken q;
   limit = λ q. k.limit q ∙ a.limit q;
   sets = λ q not. k.sets q ∙ a.sets q not;
   owner = λ set. k.owner set ∙ a.owner set;
   receives = λ test is none. k.receives test is ∙ a.receives test is none;
+}
+
+pub others_trans : (p : ℕ) (s mid t : State) → KeepsOthers p s mid → KeepsOthers p mid t → KeepsOthers p s t
+others_trans p s mid t a k = record {
+  live = λ q not. k.live q not ∙ a.live q not;
+  log = λ q. k.log q ∙ a.log q;
+  taken = λ q. k.taken q ∙ a.taken q;
+  limit = λ q. k.limit q ∙ a.limit q;
+  sets = λ q not. k.sets q not ∙ a.sets q not;
+  owner = λ set. k.owner set ∙ a.owner set;
+  receives = λ test is none. k.receives test is none ∙ a.receives test is none;
 }
 
 -- ---- what is covered
@@ -53,7 +64,7 @@ module _ (p : ℕ) (s t : State) (k : KeepsOthers p s t) where
         let other : q ≢ p = λ e. not (subst (λ (x : ℕ). Covers touched (Port x)) (sym e) port) in
         let differs : (p == q) ≡ false = ne_eqb p q (λ e. other (sym e)) in
         record {
-          live = k.live q;
+          live = k.live q other;
           waiting = other_queue q;
           limit = k.limit q;
           sets = k.sets q other;
@@ -77,7 +88,7 @@ module _ (p : ℕ) (s t : State) (k : KeepsOthers p s t) where
 
 sets_change : (p : ℕ) (xs : List ℕ) (old mid : State) → mid ≡ record old { sets_of = at old.sets_of p xs } → KeepsOthers p old mid
 sets_change p xs old mid e = record {
-  live = λ q. ap (λ (x : State). x.live_port q) e;
+  live = λ q not. ap (λ (x : State). x.live_port q) e;
   log = λ q. ap (λ (x : State). x.log q) e;
   taken = λ q. ap (λ (x : State). x.taken q) e;
   limit = λ q. ap (λ (x : State). x.limit q) e;
@@ -103,7 +114,7 @@ right_moves : (b : Bool) (task name p : ℕ) (place : Place) (old new : State) �
     new ≡ record (name_kept b task name old) { sets_of = at old.sets_of p []; make_send = at old.make_send p 0; sequence = at old.sequence p 0; ledger = new.ledger } →
     Moves old.ledger new.ledger (token receive p (in_task task) ∷ []) (token receive p place ∷ []) → KeepsOthers p old new
 right_moves true task name p place old new e m = record {
-  live = λ q. ap (λ (x : State). x.live_port q) e;
+  live = λ q not. ap (λ (x : State). x.live_port q) e;
   log = λ q. ap (λ (x : State). x.log q) e;
   taken = λ q. ap (λ (x : State). x.taken q) e;
   limit = λ q. ap (λ (x : State). x.limit q) e;
@@ -112,7 +123,7 @@ right_moves true task name p place old new e m = record {
   receives = λ test is none. one_moves p task place old.ledger new.ledger test m none;
 }
 right_moves false task name p place old new e m = record {
-  live = λ q. ap (λ (x : State). x.live_port q) e;
+  live = λ q not. ap (λ (x : State). x.live_port q) e;
   log = λ q. ap (λ (x : State). x.log q) e;
   taken = λ q. ap (λ (x : State). x.taken q) e;
   limit = λ q. ap (λ (x : State). x.limit q) e;

@@ -1,9 +1,9 @@
 -- What a request for a notice changes for those that wait: nothing but the queue of its right's port, where it tells at once.
-use Rattle.std.proofs.Common.{◌≡◌, ℕ, ◌⊎◌, [], ◌∷◌, Some, refl, sym, ap, subst, inl, inr, All}
+use Rattle.std.proofs.Common.{◌≡◌, ℕ, ◌⊎◌, [], ◌∷◌, refl, ap, inl, inr}
 use Rattle.std.specs.Prelude.{◌≢◌}
 use Rattle.std.proofs.lemmas.List.Elements.{All-nil}
 use Rattle.mach_types.specs.Numbers.{null_word}
-use Rattle.mach_types.specs.Tokens.{send_once, Request, Place, in_task, in_request, Token, token, count}
+use Rattle.mach_types.specs.Tokens.{send_once, Request, Place, in_task, in_request, token, count}
 use Rattle.mach_types.specs.Messages.{to_port}
 use Rattle.mach_model.specs.State.{State}
 use Rattle.mach_model.specs.CopyIn.{CopyRight}

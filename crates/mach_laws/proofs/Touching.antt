@@ -1,10 +1,9 @@
 -- What a step's own part changes for those that wait.
-use Rattle.std.proofs.Common.{◌≡◌, ℕ, ◌+◌, List, [], ◌∷◌, ◌++◌, Option, Some, None, refl, sym, ap, subst, ◌∙◌, arith, true, false, Bool, inl, inr, All}
-use Rattle.std.specs.Prelude.{◌≢◌, ◌==◌, ◌&&◌, if◌then◌else◌, MatchBool, Contains, nat_lt}
+use Rattle.std.proofs.Common.{◌≡◌, ℕ, ◌+◌, length, List, [], ◌∷◌, ◌++◌, Option, Some, None, refl, sym, ap, subst, ◌∙◌, arith, true, false, Bool, inl, inr, All}
+use Rattle.std.specs.Prelude.{◌≢◌, ◌==◌, ◌&&◌, if◌then◌else◌, MatchBool, Contains, nat_lt, flat_map, map as list_map}
 use Rattle.std.proofs.lemmas.Bool.{false_from_ne_true, ne_eqb}
 use Rattle.std.proofs.lemmas.Bool.Decides.{eqb_tells}
-use Rattle.std.proofs.lemmas.List.{append-nil}
-use Rattle.std.proofs.lemmas.List.Elements.{All-head, All-tail, All-cons, All-nil}
+use Rattle.std.proofs.lemmas.List.Elements.{All-head, All-tail, All-cons, All-nil, All-append}
 use Rattle.mach_types.specs.declared.calls.Waited.TheVariants.{Port, Set}
 use Rattle.mach_types.specs.declared.rights.Disposition.{Disposition}
 use Rattle.mach_types.specs.declared.rights.Disposition.TheVariants.{MoveReceive, MoveSend, MoveSendOnce, CopySend, MakeSend, MakeSendOnce}
@@ -12,9 +11,9 @@ use Rattle.mach_types.specs.declared.touched.Touched.{Touched}
 use Rattle.mach_types.specs.Touching.{Covers}
 use Rattle.mach_types.specs.Numbers.{disposition, kind_sent, null_word, dead_word, most_references, first_limit}
 use Rattle.mach_types.specs.Tokens.{Kind, receive, send, send_once, Request, dead_name, Place, in_task, in_message, in_request, Token, token, weigh, count, same_kind, is_in_task, is_of, is_held, Moves}
-use Rattle.mach_types.specs.Messages.{Mark, to_port, null, dead, ReplyRight, absent, present, Body, Message, Entry}
-use Rattle.mach_types.specs.Grammar.{WireBody, Header}
-use Rattle.mach_types.specs.Bodies.{body_words, body_rights, reply_rights, message_rights, SameReply, SameBody, Through}
+use Rattle.mach_types.specs.Messages.{Mark, to_port, null, dead, ReplyRight, absent, present, Item, plain, rights, Body, Message, Entry}
+use Rattle.mach_types.specs.Grammar.{Wire, data_item, port_item, WireBody, Header}
+use Rattle.mach_types.specs.Bodies.{wire_words, body_words, item_rights, body_rights, reply_rights, message_rights, AllZip, SameItem, SameReply, SameBody, Through}
 use Rattle.mach_model.specs.State.{State, Target, held, at, queue, same_request, without_name, with_name, gives}
 use Rattle.mach_model.specs.Death.{same_place}
 use Rattle.mach_model.specs.Lawful.{IsLawful}
@@ -349,11 +348,10 @@ taken_changes port e old new l t =
       receives = moves_keep old.ledger new.ledger (token e.message.kind port (in_message port (old.taken port)) ∷ []) [] t.tokens (one_token e.message.kind port (in_message port (old.taken port)) not) (All-nil IsNoReceive);
     }
 
--- The text gives no receive right: its reply's right is none, and it has no list of items.
+-- The text gives no receive right, with its reply or in its body.
 pub record ReceivesOthers (header : Header) (written : WireBody) : Type 0 where
   pub reply : IsOther header.remote_kind
-  pub bytes : List ℕ
-  pub simple : written ≡ WireBody.raw bytes
+  pub body : All IsOtherWord (body_words written)
 
 other_received : (number : ℕ) (kind : Kind) → IsReceived number kind → IsOther number → same_kind receive kind ≡ false
 other_received number receive is not = absurd (not is)
@@ -364,14 +362,43 @@ reply_others : (header : Header) (reply : ReplyRight) → SameReply IsReceived h
 reply_others header absent same other = All-nil IsOtherRight
 reply_others header (present kind mark) same other = All-cons IsOtherRight (kind, mark) [] (other_received header.remote_kind kind same other) (All-nil IsOtherRight)
 
-raw_rights : (bytes : List ℕ) (body : Body) → SameBody IsReceived (WireBody.raw bytes) body → body_rights body ≡ []
-raw_rights bytes (Body.raw others) same = refl
-raw_rights bytes (Body.items xs) same = absurd same
+all_left : {A : Type 0} (P : A → Type 0) (xs ys : List A) → All P (xs ++ ys) → All P xs
+all_left P [] ys all = All-nil P
+all_left P (x ∷ xs) ys all = All-cons P x xs (All-head P x (xs ++ ys) all) (all_left P xs ys (All-tail P x (xs ++ ys) all))
+
+all_right : {A : Type 0} (P : A → Type 0) (xs ys : List A) → All P (xs ++ ys) → All P ys
+all_right P [] ys all = all
+all_right P (x ∷ xs) ys all = all_right P xs ys (All-tail P x (xs ++ ys) all)
+
+kinds_other : (number : ℕ) (kind : Kind) (words : List ℕ) (marks : List Mark) → IsReceived number kind → length marks ≡ length words → All IsOtherWord (list_map (λ (w : ℕ). (number, w)) words) → All IsOtherRight (list_map (λ (m : Mark). (kind, m)) marks)
+kinds_other number kind words [] is same other = All-nil IsOtherRight
+kinds_other number kind [] (m ∷ ms) is same other = absurd (omega (arith, same))
+kinds_other number kind (w ∷ ws) (m ∷ ms) is same other =
+    All-cons IsOtherRight (kind, m) (list_map (λ (x : Mark). (kind, x)) ms) (other_received number kind is (All-head IsOtherWord (number, w) (list_map (λ (x : ℕ). (number, x)) ws) other))
+    (kinds_other number kind ws ms is (let e = same in omega (arith, e)) (All-tail IsOtherWord (number, w) (list_map (λ (x : ℕ). (number, x)) ws) other))
+
+item_others : (wire : Wire) (item : Item) → SameItem IsReceived wire item → All IsOtherWord (wire_words wire) → All IsOtherRight (item_rights item)
+item_others (data_item f n s c bytes padding) item same other = subst (λ (x : Item). All IsOtherRight (item_rights x)) (sym same) (All-nil IsOtherRight)
+item_others (port_item f number words) (rights g kind marks) same other = kinds_other number kind words marks same.1 same.2 other
+item_others (port_item f number words) (plain g n s c bytes padding) same other = absurd same
+
+items_others : (wires : List Wire) (items : List Item) → AllZip (SameItem IsReceived) wires items → All IsOtherWord (flat_map wire_words wires) → All IsOtherRight (flat_map item_rights items)
+items_others [] [] same other = All-nil IsOtherRight
+items_others (x ∷ xs) (y ∷ ys) same other =
+    All-append IsOtherRight (item_rights y) (flat_map item_rights ys) (item_others x y same.0 (all_left IsOtherWord (wire_words x) (flat_map wire_words xs) other))
+    (items_others xs ys same.1 (all_right IsOtherWord (wire_words x) (flat_map wire_words xs) other))
+items_others [] (y ∷ ys) same other = absurd same
+items_others (x ∷ xs) [] same other = absurd same
+
+body_others : (written : WireBody) (body : Body) → SameBody IsReceived written body → All IsOtherWord (body_words written) → All IsOtherRight (body_rights body)
+body_others (WireBody.raw bytes) (Body.raw others) same other = All-nil IsOtherRight
+body_others (WireBody.items wires) (Body.items items) same other = items_others wires items same other
+body_others (WireBody.raw bytes) (Body.items items) same other = absurd same
+body_others (WireBody.items wires) (Body.raw bytes) same other = absurd same
 
 receives_others : (header : Header) (written : WireBody) (m : Message) → SameReply IsReceived header.remote_kind header.remote m.reply → SameBody IsReceived written m.body → ReceivesOthers header written → All IsOtherRight (message_rights m)
 receives_others header written m reply body others =
-    let none = raw_rights others.bytes m.body (subst (λ (x : WireBody). SameBody IsReceived x m.body) others.simple body) in
-    subst (All IsOtherRight) (ap (λ (rs : List (Kind × Mark)). reply_rights m.reply ++ rs) (sym none)) (subst (All IsOtherRight) (sym (append-nil (reply_rights m.reply))) (reply_others header m.reply reply others.reply))
+    All-append IsOtherRight (reply_rights m.reply) (body_rights m.body) (reply_others header m.reply reply others.reply) (body_others written m.body body others.body)
 
 pub receives_change : (task port room : ℕ) (bytes : List ℕ) (old mid : State) → IsLawful old → (r : Receives task port room bytes old mid) → ReceivesOthers r.header r.written → Changes old mid (Some port) None
 receives_change task port room bytes old mid l r others =

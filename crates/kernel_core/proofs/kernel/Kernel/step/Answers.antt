@@ -1,10 +1,8 @@
 use Rattle.std.proofs.Common.{◌≡◌, None, refl, sym, ap, subst, inl, inr}
-use Rattle.std.specs.Prelude.{if◌then◌else◌}
 use Rattle.mach_types.specs.declared.calls.Reply.{Reply}
 use Rattle.copyin_base.specs.Serving.{code_number}
 use Rattle.copyin_base.specs.Worlds.{WorldView}
 use Rattle.copyin_base.specs.Shows.{Shows}
-use Rattle.kernel_change.specs.declared.change.Change.TheVariants.{Any}
 use Rattle.kernel_change.specs.Changing.{few, touched_by}
 use Rattle.kernel_core.specs.InTurn.{StepsInTurn}
 use Rattle.kernel_core.specs.Kernels.{KernelView, TakesTurns}
@@ -86,5 +84,5 @@ pub returns-in-Ok-clause-touches : goal.returns-in-Ok-clause-touches
 returns-in-Ok-clause-touches c =
     let same : c.self.inside.world ≡ c.args.self.now.tables = ap (λ (k : KernelView). k.tables) c.self.view_is in
     let e = c.end_step-turns.ensures in
-    rw c.after-self-inside.ensures (subst (λ (w : WorldView). Touches w c.args.event.now c.in-Ok.reply c.end_step-turns.new.world (touched_by c.end_step-turns.new.world (if c.end_step-turns.result.is_quiet then c.act.new.told else Any))) same
-    (touched_after _ _ _ _ _ _ c.in-Ok.ensures.performs.serves e.settles c.act.new.told c.in-Ok.ensures.tells c.end_step-turns.result.is_quiet e.quiet))
+    subst (λ (w : WorldView). Touches w c.args.event.now c.in-Ok.reply c.end_step-turns.new.world (touched_by c.end_step-turns.new.world c.end_step-turns.result.change)) same
+    (touched_after _ _ _ _ _ _ c.in-Ok.ensures.performs.serves e.settles c.act.new.told c.end_step-turns.result.change c.in-Ok.ensures.tells e.change)
