@@ -163,13 +163,12 @@ impl Kernel {
         ensures touches { Touches self.old.tables event.now result self.new.tables self.new.touched }
     {
         check_slots(&self.world);
-        let mut told = Change::Nothing;
-        match act(&mut self.world, self.alloc, event, &mut told) {
+        self.change = Change::Nothing;
+        match act(&mut self.world, self.alloc, event, &mut self.change) {
             Ok(reply) => {
                 check_slots(&self.world);
-                let Ending { turns, change } = end_step(&mut self.world, told);
+                let turns = end_step(&mut self.world, &mut self.change);
                 self.turns = turns;
-                self.change = change;
                 check_slots(&self.world);
                 reply
             }
@@ -262,34 +261,32 @@ impl Kernel {
     }
 }
 
-/// How a step ended.
-#[derive(Clone, Copy)]
-struct Ending {
-    /// In how many turns.
-    turns: u64,
-    /// What the step changed.
-    change: Change,
-}
-
-/// Ends a step whose call changed this by [`settle`], where something is left to do.
+/// Ends a step by [`settle`], where something is left to do, and returns in how many turns. In `told`, which says what
+/// the call changed, it leaves what the step did.
 #[inline(always)]
-fn end_step(world: &mut World, told: Change) -> Ending
+fn end_step(world: &mut World, told: &mut Change) -> u64
     requires { IsMidway world.old }
-    ensures settles { SettlesIn world.old result.turns world.new }
+    ensures settles { SettlesIn world.old result world.new }
     ensures rooms { KeepsRooms world.old world.new }
-    ensures change { EndsIdle world.old told result.change world.new ⊎ EndsAs world.old told result.change }
+    ensures change { EndsIdle world.old told.old told.new world.new ⊎ EndsAs world.old told.old told.new }
 {
     if is_idle(world) {
-        return Ending {
-            turns: 0,
-            change: told,
-        };
+        0
+    } else {
+        end_busy_step(world, told)
     }
-    let change = told.with_end(world);
-    Ending {
-        turns: settle(world),
-        change,
-    }
+}
+
+/// The same where something is left to do. Not in line, as most steps leave nothing.
+#[inline(never)]
+fn end_busy_step(world: &mut World, told: &mut Change) -> u64
+    requires { IsMidway world.old }
+    ensures settles { SettlesIn world.old result world.new }
+    ensures rooms { KeepsRooms world.old world.new }
+    ensures change { EndsAs world.old told.old told.new }
+{
+    *told = told.with_end(world);
+    settle(world)
 }
 
 /// A message slot is spare for each send-once right to which no queued message was sent: before a step, after

@@ -39,7 +39,7 @@ returns-in-Err-clause-answers c =
 
 pub returns-in-Ok-clause-turns : goal.returns-in-Ok-clause-turns
 returns-in-Ok-clause-turns c =
-    subst (λ (w : WorldView). TakesTurns w c.args.event.now c.in-Ok.reply c.end_step-turns.new.world c.end_step-turns.result.turns) (ap (λ (k : KernelView). k.tables) c.self.view_is)
+    subst (λ (w : WorldView). TakesTurns w c.args.event.now c.in-Ok.reply c.end_step-turns.new.world c.end_step-turns.result) (ap (λ (k : KernelView). k.tables) c.self.view_is)
     (acted_turns _ _ _ _ _ _ c.in-Ok.ensures.performs.serves c.end_step-turns.ensures.settles)
 
 pub returns-in-Err-clause-turns : goal.returns-in-Err-clause-turns
@@ -84,5 +84,5 @@ pub returns-in-Ok-clause-touches : goal.returns-in-Ok-clause-touches
 returns-in-Ok-clause-touches c =
     let same : c.self.inside.world ≡ c.args.self.now.tables = ap (λ (k : KernelView). k.tables) c.self.view_is in
     let e = c.end_step-turns.ensures in
-    subst (λ (w : WorldView). Touches w c.args.event.now c.in-Ok.reply c.end_step-turns.new.world (touched_by c.end_step-turns.new.world c.end_step-turns.result.change)) same
-    (touched_after _ _ _ _ _ _ c.in-Ok.ensures.performs.serves e.settles c.act.new.told c.end_step-turns.result.change c.in-Ok.ensures.tells e.change)
+    subst (λ (w : WorldView). Touches w c.args.event.now c.in-Ok.reply c.end_step-turns.new.world (touched_by c.end_step-turns.new.world c.end_step-turns.new.told)) same
+    (touched_after _ _ _ _ _ _ c.in-Ok.ensures.performs.serves e.settles c.act.new.told c.end_step-turns.new.told c.in-Ok.ensures.tells e.change)
