@@ -24,7 +24,11 @@ struct Choice {
 struct Subcommand {
     name: &'static str,
     about: &'static str,
+    // Options that it shares with another, and others.
     choices: &'static [Choice],
+    own: &'static [Choice],
+    // Whether the number of an entry stands before the file.
+    has_number: bool,
     // The help for the file.
     file: &'static str,
 }
@@ -32,8 +36,11 @@ struct Subcommand {
 /// Any number of 64 bits.
 const NUMBER: ValueParser<'static> = ValueParser::Unsigned(0, u64::MAX);
 
-/// The options of `text`.
-const OF_TEXT: &[Choice] = &[
+/// The number of an entry, without the last, so that it can be counted to.
+const ENTRY: ValueParser<'static> = ValueParser::Unsigned(1, u64::MAX - 1);
+
+/// The options of `text`, but for `--live`.
+const OF_ENTRIES: &[Choice] = &[
     Choice {
         value: "TASK",
         long: "task",
@@ -70,13 +77,6 @@ const OF_TEXT: &[Choice] = &[
         help: "Only entries up to this number",
     },
     Choice {
-        value: "LIVE",
-        long: "live",
-        action: ArgAction::SetTrue,
-        parser: ValueParser::Bool,
-        help: "Shows each entry before the next is waited for, without what becomes of it",
-    },
-    Choice {
         value: "LABELS",
         long: "labels",
         action: ArgAction::Set,
@@ -84,6 +84,24 @@ const OF_TEXT: &[Choice] = &[
         help: "A file of labels: lines 'task N WORD', or with port, set, id or caller for task",
     },
 ];
+
+/// The options of `text` alone.
+const OF_TEXT: &[Choice] = &[Choice {
+    value: "LIVE",
+    long: "live",
+    action: ArgAction::SetTrue,
+    parser: ValueParser::Bool,
+    help: "Shows each entry before the next is waited for, without what becomes of it",
+}];
+
+/// The options of `state`.
+const OF_STATE: &[Choice] = &[Choice {
+    value: "LABELS",
+    long: "labels",
+    action: ArgAction::Set,
+    parser: ValueParser::String,
+    help: "A file of labels: lines 'task N WORD', or with port, set, id or caller for task",
+}];
 
 /// The options of `lint`.
 const OF_LINT: &[Choice] = &[Choice {
@@ -99,13 +117,25 @@ const SUBCOMMANDS: &[Subcommand] = &[
     Subcommand {
         name: "text",
         about: "Shows a history entry by entry, with the cause of each refusal",
-        choices: OF_TEXT,
+        choices: OF_ENTRIES,
+        own: OF_TEXT,
+        has_number: false,
+        file: "The history; without it, standard input",
+    },
+    Subcommand {
+        name: "state",
+        about: "Shows the state after an entry: tasks, names, ports and queues",
+        choices: OF_STATE,
+        own: &[],
+        has_number: true,
         file: "The history; without it, standard input",
     },
     Subcommand {
         name: "lint",
         about: "Lists the bad lines of a script or a history, and why they are bad",
         choices: OF_LINT,
+        own: &[],
+        has_number: false,
         file: "The text; without it, standard input",
     },
 ];
@@ -156,14 +186,12 @@ fn request_of<'a>(matches: &ArgMatches<'a>) -> Request<'a> {
 
 /// Returns the job of the subcommand of this name.
 fn job_named(name: &str, of_subcommand: &ArgMatches<'_>) -> Job {
-    if name == "lint" {
-        return Job::Lint(kind_named(of_subcommand.get_str("KIND")));
+    match name {
+        "lint" => Job::Lint(kind_named(of_subcommand.get_str("KIND"))),
+        "state" => Job::State(of_subcommand.get_one::<u64>("N").unwrap_or(1)),
+        _ if of_subcommand.get_flag("LIVE") => Job::Live(filter_named(of_subcommand)),
+        _ => Job::Text(filter_named(of_subcommand)),
     }
-    let filter = filter_named(of_subcommand);
-    if of_subcommand.get_flag("LIVE") {
-        return Job::Live(filter);
-    }
-    Job::Text(filter)
 }
 
 /// Returns the filter that the options name, without the task and the port.
@@ -203,7 +231,21 @@ fn command_of<'a>(alloc: Global, subcommand: &Subcommand) -> Result<Command<'a>,
     for choice in subcommand.choices {
         command = command.arg(option_of(alloc, choice))?;
     }
+    for choice in subcommand.own {
+        command = command.arg(option_of(alloc, choice))?;
+    }
+    if subcommand.has_number {
+        command = command.arg(number_of(alloc))?;
+    }
     command.arg(Arg::new(alloc, "FILE").help(subcommand.file))
+}
+
+/// Makes the argument for the number of an entry.
+fn number_of<'a>(alloc: Global) -> Arg<'a> {
+    Arg::new(alloc, "N")
+        .required(true)
+        .value_parser(ENTRY)
+        .help("The number of the entry, from 1")
 }
 
 /// Makes the argument of an option.

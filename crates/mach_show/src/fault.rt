@@ -20,6 +20,8 @@ pub enum Fault<'a> {
     NoHistory,
     /// The kernel's reply to the entry of this number, from 1, isn't the entry's.
     NotConfirmed(u64),
+    /// The history has so many entries, and less than the entry that is asked for.
+    TooFew(u64, u64),
     /// The line of this number, from 1, is no label.
     BadLabels(u64, LabelFault),
     /// No task is called so.
@@ -87,6 +89,9 @@ fn write_fault(fault: &Fault<'_>, err: &mut Stderr) -> io::Result<()> {
         Fault::NoPort(word) => write_word("no port '", word, "': ", PORTS, err),
         Fault::BadLabels(line, why) => write_number("labels line ", *line, ": ", why.words(), err),
         Fault::BadLine(line) => write_number("bad line ", *line, "", "", err),
+        Fault::TooFew(entries, entry) => {
+            writeln!(err, "{entries} entries: there is no entry {entry}")
+        }
         Fault::NotConfirmed(entry) => write_number("not confirmed at ", *entry, "", "", err),
         Fault::CutLine(line) => {
             write_number("bad line ", *line, "", "", err)?;

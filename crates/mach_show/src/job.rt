@@ -6,6 +6,7 @@ use crate::fault::{Fault, report};
 use crate::filter::Filter;
 use crate::linting::lint_text;
 use crate::reading::READ_AT_ONCE;
+use crate::state::show_state;
 use crate::text::{Shown, show_history};
 use mach_words::Labels;
 use std::alloc::Global;
@@ -31,6 +32,8 @@ pub enum Job {
     Text(Filter),
     /// Shows each of these entries before the next is waited for. What becomes of a message is shown where it comes.
     Live(Filter),
+    /// Shows the state after the entry of this number.
+    State(u64),
     /// Lists the bad lines of a text of this kind. Without a kind the first line decides.
     Lint(Option<Kind>),
 }
@@ -66,6 +69,7 @@ pub(crate) enum Done {
 ///
 /// `Live` takes the time and memory of a kernel that makes the history's calls, and memory for names and queued messages.
 /// `Text` makes the calls twice, and takes memory for the text and for each message too.
+/// `State` makes the calls once, up to its entry, and takes memory for the text too.
 /// `lint` is linear in the text, and takes memory for its longest line.
 pub fn perform<R: Read>(
     alloc: Global,
@@ -117,6 +121,7 @@ fn read_all<'a, R: Read>(
     let done = match job {
         Job::Text(_) => show_whole(&shown, reader, line, out)?,
         Job::Live(_) => show_history(&shown, reader, line, out)?,
+        Job::State(number) => show_state(&shown, number, reader, line, out)?,
         Job::Lint(kind) => lint_text(alloc, (name, kind), reader, line, out)?,
     };
     out.flush()?;
@@ -127,7 +132,7 @@ fn read_all<'a, R: Read>(
 fn filter_of(job: Job) -> Filter {
     match job {
         Job::Text(filter) | Job::Live(filter) => filter,
-        Job::Lint(_) => Filter::all(),
+        Job::State(_) | Job::Lint(_) => Filter::all(),
     }
 }
 

@@ -13,6 +13,7 @@ mod job;
 mod linting;
 mod naming;
 mod reading;
+mod state;
 mod text;
 
 use clap::error::ErrorKind;

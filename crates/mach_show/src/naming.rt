@@ -14,6 +14,7 @@ pub fn job_of<'a>(request: &Request<'a>, labels: &Labels) -> Result<Job, Fault<'
     match request.job {
         Job::Text(filter) => Ok(Job::Text(with_names(filter, request, labels)?)),
         Job::Live(filter) => Ok(Job::Live(with_names(filter, request, labels)?)),
+        Job::State(number) => Ok(Job::State(number)),
         Job::Lint(kind) => Ok(Job::Lint(kind)),
     }
 }

@@ -349,7 +349,7 @@ fn write_answer_of(follower: &Follower, labels: &Labels, entry: &Entry, out: &mu
 }
 
 /// Returns the fault of the line of this number, which is no entry.
-fn bad_line(number: u64, line: &[u8]) -> Fault<'static> {
+pub(crate) fn bad_line(number: u64, line: &[u8]) -> Fault<'static> {
     if line.ends_with(b"\n") {
         return Fault::BadLine(number);
     }
