@@ -6,8 +6,8 @@ use mach_words::Text;
 use name_space::Entry as Standing;
 use std::alloc::AllocError;
 
-/// The column of what a name stands for.
-const THINGS: usize = 9;
+/// The width of the word for what a name stands for.
+const THINGS: usize = 8;
 /// The column of a name's references.
 const REFERENCES: usize = 33;
 /// The column of a name's request.
@@ -94,11 +94,13 @@ impl<'a> State<'a> {
         match standing {
             Standing::Set(set) => {
                 out.fill(end);
+                out.words(" ");
                 self.write_set(*set, out)
             }
             _ => {
                 if let Some(port) = standing.right_port() {
                     out.fill(end);
+                    out.words(" ");
                     self.labels.write_port(port, out);
                 }
                 Ok(())
