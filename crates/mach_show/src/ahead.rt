@@ -3,16 +3,15 @@ ghost use Rattle.std.specs.Prelude.{◌≢◌};
 ghost use Rattle.mach_types.specs.declared.profiles.Profile.TheVariants.{Three};
 
 use crate::fault::Fault;
-use crate::job::Done;
-use crate::reading::{READ_AT_ONCE, next_line};
+use crate::job::{Done, Output};
+use crate::reading::{READ_AT_ONCE, read_line};
 use crate::text::{Shown, show_history};
 use kernel_lock::Entry;
 use mach_fates::{Ends, Fates};
 use mach_follow::{Answered, Follower};
 use mach_types::Profile;
 use std::alloc::{AllocError, Global};
-use std::io;
-use std::io::{BufReader, Read, Write};
+use std::io::{BufReader, Read};
 use tracer::{behind_heading, first_line};
 use tracer_base::TextFault;
 
@@ -27,11 +26,11 @@ struct Ahead {
 
 /// Reads the whole history that the reader has, and then shows it, with what became of each message. If it can't be read to
 /// its end, shows what was read before.
-pub(crate) fn show_whole<'a, R: Read, W: Write>(
+pub(crate) fn show_whole<'a, R: Read>(
     shown: &Shown<'a, '_>,
     reader: &mut BufReader<&mut R>,
     line: &mut Vec<u8>,
-    out: &mut W,
+    out: &mut Output,
 ) -> Result<Done, Fault<'a>> {
     let mut ahead = Ahead {
         alloc: shown.alloc,
@@ -46,11 +45,11 @@ pub(crate) fn show_whole<'a, R: Read, W: Write>(
 
 impl Ahead {
     /// Shows what was read.
-    fn show<'a, W: Write>(
+    fn show<'a>(
         &self,
         shown: &Shown<'a, '_>,
         line: &mut Vec<u8>,
-        out: &mut W,
+        out: &mut Output,
     ) -> Result<Done, Fault<'a>> {
         let mut text = self.text.as_slice();
         match BufReader::with_capacity(self.alloc, READ_AT_ONCE, &mut text) {
@@ -60,12 +59,12 @@ impl Ahead {
     }
 
     /// Shows what was read before the fault, and returns the fault to report.
-    fn show_before<'a, W: Write>(
+    fn show_before<'a>(
         &self,
         fault: Fault<'a>,
         shown: &Shown<'a, '_>,
         line: &mut Vec<u8>,
-        out: &mut W,
+        out: &mut Output,
     ) -> Fault<'a> {
         if self.text.is_empty() {
             return fault;
@@ -108,7 +107,7 @@ impl Ahead {
         reader: &mut BufReader<&mut R>,
         line: &mut Vec<u8>,
     ) -> Result<bool, Fault<'a>> {
-        let length = next_line(name, reader, line, &mut io::sink())?;
+        let length = read_line(name, reader, line)?;
         self.text.extend_from_slice(line.as_slice())?;
         Ok(length != 0)
     }

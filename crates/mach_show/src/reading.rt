@@ -1,5 +1,6 @@
 //! Reads files line by line.
 use crate::fault::{Fault, reason_of};
+use crate::job::Output;
 use mach_words::{LabelFault, Labels};
 use memchr::memchr;
 use std::alloc::Global;
@@ -16,16 +17,25 @@ pub(crate) const TOO_MANY: &str = "it has too many lines";
 /// Reads the next line into `line`, with its line feed, and returns its length: 0 at the end.
 ///
 /// If the reader doesn't have a whole line yet, `out` is flushed first. So the output is seen while the program waits.
-pub(crate) fn next_line<'a, R: Read, W: Write>(
+pub(crate) fn next_line<'a, R: Read>(
     name: &'a str,
     reader: &mut BufReader<&mut R>,
     line: &mut Vec<u8>,
-    out: &mut W,
+    out: &mut Output,
 ) -> Result<usize, Fault<'a>> {
-    line.clear();
     if memchr(b'\n', reader.buffer()).is_none() {
         out.flush()?;
     }
+    read_line(name, reader, line)
+}
+
+/// The same, where no output waits.
+pub(crate) fn read_line<'a, R: Read>(
+    name: &'a str,
+    reader: &mut BufReader<&mut R>,
+    line: &mut Vec<u8>,
+) -> Result<usize, Fault<'a>> {
+    line.clear();
     match reader.read_until(b'\n', line) {
         Ok(count) => Ok(count),
         Err(error) => Err(fault_of(name, &error)),
@@ -66,7 +76,7 @@ fn fill_from<'a>(
     labels: &mut Labels,
 ) -> Result<(), Fault<'a>> {
     for number in 1..u64::MAX {
-        if next_line(name, reader, line, &mut io::sink())? == 0 {
+        if read_line(name, reader, line)? == 0 {
             return Ok(());
         }
         match labels.read_line(text_of(line.as_slice())) {

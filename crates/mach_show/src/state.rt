@@ -4,7 +4,7 @@ ghost use Rattle.mach_types.specs.declared.profiles.Profile.TheVariants.{Three};
 
 use crate::fault::Fault;
 use crate::filter::Filter;
-use crate::job::Done;
+use crate::job::{Done, Output};
 use crate::reading::next_line;
 use crate::text::{Shown, bad_line};
 use kernel_lock::Entry;
@@ -44,12 +44,12 @@ impl<'a> Source<'a> {
 }
 
 /// Shows the state after the entry of this number of the history that the reader has.
-pub(crate) fn show_state<'a, R: Read, W: Write>(
+pub(crate) fn show_state<'a, R: Read>(
     shown: &Shown<'a, '_>,
     number: u64,
     reader: &mut BufReader<&mut R>,
     line: &mut Vec<u8>,
-    out: &mut W,
+    out: &mut Output,
 ) -> Result<Done, Fault<'a>> {
     next_line(shown.name, reader, line, out)?;
     let Some((profile, _)) = behind_heading(line.as_slice()) else {
@@ -71,12 +71,12 @@ struct Asked<'a> {
 }
 
 /// Shows the state of a history of this profile. It owns the stander, and does nothing else.
-fn show_after<'a, R: Read, W: Write>(
+fn show_after<'a, R: Read>(
     asked: &Asked<'a>,
     profile: Profile,
     reader: &mut BufReader<&mut R>,
     line: &mut Vec<u8>,
-    out: &mut W,
+    out: &mut Output,
 ) -> Result<Done, Fault<'a>>
     requires one_set { profile ≢ Three }
 {
@@ -115,11 +115,11 @@ impl<'a> Stander<'a> {
     }
 
     /// Shows the state after the last entry.
-    fn show<R: Read, W: Write>(
+    fn show<R: Read>(
         &mut self,
         reader: &mut BufReader<&mut R>,
         line: &mut Vec<u8>,
-        out: &mut W,
+        out: &mut Output,
     ) -> Result<Done, Fault<'a>> {
         self.read(reader, line, out)?;
         out.write_all(self.text.whole()?)?;
@@ -127,11 +127,11 @@ impl<'a> Stander<'a> {
     }
 
     /// Reads the entries up to the last. Leaves in `text` the state after it.
-    fn read<R: Read, W: Write>(
+    fn read<R: Read>(
         &mut self,
         reader: &mut BufReader<&mut R>,
         line: &mut Vec<u8>,
-        out: &mut W,
+        out: &mut Output,
     ) -> Result<(), Fault<'a>> {
         for number in 1..self.last.saturating_add(1) {
             if next_line(self.shown.name, reader, line, out)? == 0 {

@@ -4,7 +4,7 @@ ghost use Rattle.mach_types.specs.declared.profiles.Profile.TheVariants.{Three};
 
 use crate::fault::Fault;
 use crate::filter::Filter;
-use crate::job::Done;
+use crate::job::{Done, Output};
 use crate::reading::{TOO_MANY, next_line};
 use kernel_lock::Entry;
 use mach_causes::{explain, write_cause};
@@ -41,11 +41,11 @@ pub(crate) struct Shown<'a, 'b> {
 }
 
 /// Shows the history that the reader has. Each entry is written before the next is waited for.
-pub(crate) fn show_history<'a, R: Read, W: Write>(
+pub(crate) fn show_history<'a, R: Read>(
     shown: &Shown<'a, '_>,
     reader: &mut BufReader<&mut R>,
     line: &mut Vec<u8>,
-    out: &mut W,
+    out: &mut Output,
 ) -> Result<Done, Fault<'a>> {
     next_line(shown.name, reader, line, out)?;
     let Some((profile, _)) = behind_heading(line.as_slice()) else {
@@ -56,12 +56,12 @@ pub(crate) fn show_history<'a, R: Read, W: Write>(
 
 /// Shows the entries of a history of this profile. It owns the teller, and does nothing else: each way out of a function
 /// drops what it owns, and the teller has all tables of a kernel.
-fn show_entries<'a, R: Read, W: Write>(
+fn show_entries<'a, R: Read>(
     shown: &Shown<'a, '_>,
     profile: Profile,
     reader: &mut BufReader<&mut R>,
     line: &mut Vec<u8>,
-    out: &mut W,
+    out: &mut Output,
 ) -> Result<Done, Fault<'a>>
     requires one_set { profile ≢ Three }
 {
@@ -70,11 +70,11 @@ fn show_entries<'a, R: Read, W: Write>(
 }
 
 /// Shows the entries that the reader has, one after another.
-fn show_all<'a, R: Read, W: Write>(
+fn show_all<'a, R: Read>(
     teller: &mut Teller<'a, '_>,
     reader: &mut BufReader<&mut R>,
     line: &mut Vec<u8>,
-    out: &mut W,
+    out: &mut Output,
 ) -> Result<Done, Fault<'a>> {
     let name = teller.shown.name;
     for number in 1..u64::MAX - 1 {
