@@ -1,4 +1,5 @@
 //! The command line.
+use crate::chart::Style;
 use crate::filter::Filter;
 use crate::job::{Job, Kind};
 use clap::builder::ValueParser;
@@ -39,7 +40,7 @@ const NUMBER: ValueParser<'static> = ValueParser::Unsigned(0, u64::MAX);
 /// The number of an entry, without the last, so that it can be counted to.
 const ENTRY: ValueParser<'static> = ValueParser::Unsigned(1, u64::MAX - 1);
 
-/// The options of `text`, but for `--live`.
+/// The options of `text` and `chart`.
 const OF_ENTRIES: &[Choice] = &[
     Choice {
         value: "TASK",
@@ -85,6 +86,31 @@ const OF_ENTRIES: &[Choice] = &[
     },
 ];
 
+/// The options of `chart`, beside those of the entries.
+const OF_CHART: &[Choice] = &[
+    Choice {
+        value: "LOOKS",
+        long: "looks",
+        action: ArgAction::SetTrue,
+        parser: ValueParser::Bool,
+        help: "Draws calls too that only look",
+    },
+    Choice {
+        value: "MERMAID",
+        long: "mermaid",
+        action: ArgAction::SetTrue,
+        parser: ValueParser::Bool,
+        help: "Writes a sequence diagram in Mermaid's notation",
+    },
+    Choice {
+        value: "TITLE",
+        long: "title",
+        action: ArgAction::Set,
+        parser: ValueParser::String,
+        help: "The title of the chart",
+    },
+];
+
 /// The options of `text` alone.
 const OF_TEXT: &[Choice] = &[Choice {
     value: "LIVE",
@@ -123,6 +149,14 @@ const SUBCOMMANDS: &[Subcommand] = &[
         file: "The history; without it, standard input",
     },
     Subcommand {
+        name: "chart",
+        about: "Draws a history: lifelines of tasks, and messages in their queues",
+        choices: OF_ENTRIES,
+        own: OF_CHART,
+        has_number: false,
+        file: "The history; without it, standard input",
+    },
+    Subcommand {
         name: "state",
         about: "Shows the state after an entry: tasks, names, ports and queues",
         choices: OF_STATE,
@@ -144,7 +178,7 @@ const SUBCOMMANDS: &[Subcommand] = &[
 #[derive(Clone, Copy)]
 pub struct Request<'a> {
     /// The job. Its filter lacks the task and the port.
-    pub job: Job,
+    pub job: Job<'a>,
     /// The word for the task that is asked for: a number, `T` and a number, or a label.
     pub task: Option<&'a str>,
     /// The word for the port that is asked for: an identity, `p` and an identity, or a label.
@@ -185,12 +219,22 @@ fn request_of<'a>(matches: &ArgMatches<'a>) -> Request<'a> {
 }
 
 /// Returns the job of the subcommand of this name.
-fn job_named(name: &str, of_subcommand: &ArgMatches<'_>) -> Job {
+fn job_named<'a>(name: &str, of_subcommand: &ArgMatches<'a>) -> Job<'a> {
     match name {
         "lint" => Job::Lint(kind_named(of_subcommand.get_str("KIND"))),
         "state" => Job::State(of_subcommand.get_one::<u64>("N").unwrap_or(1)),
+        "chart" => Job::Chart(filter_named(of_subcommand), style_named(of_subcommand)),
         _ if of_subcommand.get_flag("LIVE") => Job::Live(filter_named(of_subcommand)),
         _ => Job::Text(filter_named(of_subcommand)),
+    }
+}
+
+/// Returns how a chart is drawn.
+fn style_named<'a>(of_subcommand: &ArgMatches<'a>) -> Style<'a> {
+    Style {
+        has_looks: of_subcommand.get_flag("LOOKS"),
+        is_mermaid: of_subcommand.get_flag("MERMAID"),
+        title: of_subcommand.get_str("TITLE"),
     }
 }
 

@@ -22,6 +22,10 @@ pub enum Fault<'a> {
     NotConfirmed(u64),
     /// The history has so many entries, and less than the entry that is asked for.
     TooFew(u64, u64),
+    /// The history has so many entries, and their chart too many rows.
+    TooLong(u64),
+    /// The chart has so many lifelines, and that is too many.
+    TooWide(u64),
     /// The line of this number, from 1, is no label.
     BadLabels(u64, LabelFault),
     /// No task is called so.
@@ -92,6 +96,8 @@ fn write_fault(fault: &Fault<'_>, err: &mut Stderr) -> io::Result<()> {
         Fault::TooFew(entries, entry) => {
             writeln!(err, "{entries} entries: there is no entry {entry}")
         }
+        Fault::TooLong(entries) => write_number("", *entries, " entries: ", WINDOW, err),
+        Fault::TooWide(lifelines) => write_number("", *lifelines, " lifelines: ", NARROW, err),
         Fault::NotConfirmed(entry) => write_number("not confirmed at ", *entry, "", "", err),
         Fault::CutLine(line) => {
             write_number("bad line ", *line, "", "", err)?;
@@ -112,6 +118,10 @@ const TASKS: &str = "write a task's number, T and the number, or a label of the 
 /// How a port is named.
 const PORTS: &str =
     "write a port's identity, p and the identity, or a label of the file of --labels";
+/// What a chart of a long history needs.
+const WINDOW: &str = "give --from and --to";
+/// What a chart of many tasks needs.
+const NARROW: &str = "a chart has 64 at most; give --task, --port, or --from and --to";
 /// What a cut line lacks.
 const REST: &str = "the rest of the line and its line feed are missing";
 

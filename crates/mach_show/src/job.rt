@@ -2,6 +2,7 @@
 ghost use Rattle.std.specs.Prelude.{◌≡◌, ◌≤◌};
 
 use crate::ahead::show_whole;
+use crate::chart::{Style, show_chart};
 use crate::fault::{Fault, report};
 use crate::filter::Filter;
 use crate::linting::lint_text;
@@ -27,11 +28,13 @@ pub enum Kind {
 
 /// What the program does.
 #[derive(Clone, Copy)]
-pub enum Job {
+pub enum Job<'a> {
     /// Shows the entries of a history that the filter lets through, with what became of each message.
     Text(Filter),
     /// Shows each of these entries before the next is waited for. What becomes of a message is shown where it comes.
     Live(Filter),
+    /// Draws these entries.
+    Chart(Filter, Style<'a>),
     /// Shows the state after the entry of this number.
     State(u64),
     /// Lists the bad lines of a text of this kind. Without a kind the first line decides.
@@ -42,7 +45,7 @@ pub enum Job {
 #[derive(Clone, Copy)]
 pub struct Work<'a> {
     /// The job.
-    pub job: Job,
+    pub job: Job<'a>,
     /// The name of the file, for faults.
     pub name: &'a str,
     /// The labels.
@@ -69,7 +72,7 @@ pub(crate) enum Done {
 ///
 /// `Live` takes the time and memory of a kernel that makes the history's calls, and memory for names and queued messages.
 /// `Text` makes the calls twice, and takes memory for the text and for each message too.
-/// `State` makes the calls once, up to its entry, and takes memory for the text too.
+/// `Chart` and `State` make the calls once. They take memory for the chart or the text too.
 /// `lint` is linear in the text, and takes memory for its longest line.
 pub fn perform<R: Read>(
     alloc: Global,
@@ -121,6 +124,7 @@ fn read_all<'a, R: Read>(
     let done = match job {
         Job::Text(_) => show_whole(&shown, reader, line, out)?,
         Job::Live(_) => show_history(&shown, reader, line, out)?,
+        Job::Chart(_, style) => show_chart(&shown, &style, reader, line, out)?,
         Job::State(number) => show_state(&shown, number, reader, line, out)?,
         Job::Lint(kind) => lint_text(alloc, (name, kind), reader, line, out)?,
     };
@@ -129,9 +133,9 @@ fn read_all<'a, R: Read>(
 }
 
 /// Returns the job's filter.
-fn filter_of(job: Job) -> Filter {
+fn filter_of(job: Job<'_>) -> Filter {
     match job {
-        Job::Text(filter) | Job::Live(filter) => filter,
+        Job::Text(filter) | Job::Live(filter) | Job::Chart(filter, _) => filter,
         Job::State(_) | Job::Lint(_) => Filter::all(),
     }
 }

@@ -6,6 +6,7 @@
 #![tactic(auto)]
 
 mod ahead;
+mod chart;
 mod command_line;
 mod fault;
 mod filter;
@@ -122,7 +123,7 @@ fn choose(rt: &HostRuntime, request: &Request<'_>, labels: &Labels) -> u8 {
 }
 
 /// Opens the file, or standard input without one, and does the job.
-fn open(rt: &HostRuntime, job: Job, file: Option<&str>, labels: &Labels) -> u8 {
+fn open(rt: &HostRuntime, job: Job<'_>, file: Option<&str>, labels: &Labels) -> u8 {
     let Some(name) = file else {
         let name = "-";
         return start(rt, &Work { job, name, labels }, &mut rt.reader());

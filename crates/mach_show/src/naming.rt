@@ -10,10 +10,11 @@ use tracer_base::Words;
 ///
 /// A word is looked up among the labels first. Returns `NoTask` or `NoPort` for a word that is no label and no number.
 /// Linear in the labels; takes no memory.
-pub fn job_of<'a>(request: &Request<'a>, labels: &Labels) -> Result<Job, Fault<'a>> {
+pub fn job_of<'a>(request: &Request<'a>, labels: &Labels) -> Result<Job<'a>, Fault<'a>> {
     match request.job {
         Job::Text(filter) => Ok(Job::Text(with_names(filter, request, labels)?)),
         Job::Live(filter) => Ok(Job::Live(with_names(filter, request, labels)?)),
+        Job::Chart(filter, style) => Ok(Job::Chart(with_names(filter, request, labels)?, style)),
         Job::State(number) => Ok(Job::State(number)),
         Job::Lint(kind) => Ok(Job::Lint(kind)),
     }
