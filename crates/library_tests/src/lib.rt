@@ -27,4 +27,6 @@ mod requests;
 #[cfg(test)]
 mod sets;
 #[cfg(test)]
+mod shared;
+#[cfg(test)]
 mod tagged;

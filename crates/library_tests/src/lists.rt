@@ -1,5 +1,5 @@
 //! Lists of numbered items.
-use member_lists::{Lists, TwoLists};
+use member_lists::{Lists, MarkedLists, TwoLists};
 use std::alloc::{AllocError, Global};
 
 /// Returns whether the items 2 and 0 stand in list 7, and none in another one.
@@ -39,4 +39,18 @@ fn join_and_leave_two(alloc: Global) -> Result<bool, AllocError> {
 #[test]
 fn items_join_and_leave_one_of_two(rt: HostRuntime) {
     assert!(rt; join_and_leave_two(rt.alloc()) == Ok(true));
+}
+
+fn replace(alloc: Global) -> Result<bool, AllocError> {
+    let mut lists = MarkedLists::new(alloc);
+    lists.reserve(4)?;
+    lists.push(7, 0);
+    lists.mark(7, 0);
+    lists.replace(7, 0, 3, true);
+    Ok(lists.first(7) == Some(3) && lists.first_marked(7) == Some(3))
+}
+
+#[test]
+fn another_item_takes_a_place(rt: HostRuntime) {
+    assert!(rt; replace(rt.alloc()) == Ok(true));
 }

@@ -147,7 +147,7 @@ module _ (links : List Link) (chains : ℕ → Ends) (so : IsSound links chains)
   abbrev held : List ℕ
   held = so.chained l
 
-  stands : times item held ≡ 1
+  pub stands : times item held ≡ 1
   stands =
       let a = times_from_Contains item (list_of v l) inside in
       let b : times item (list_of v l) ≡ times item held = ap (times item) (whole links chains so v sh l) in
@@ -159,7 +159,7 @@ module _ (links : List Link) (chains : ℕ → Ends) (so : IsSound links chains)
   pub item_stands : 0 < times item (so.chained l)
   item_stands = let a = stands in omega arith
 
-  split : IsSplit item held
+  pub split : IsSplit item held
   split = split_at item held stands
 
   abbrev front : List ℕ
@@ -168,13 +168,13 @@ module _ (links : List Link) (chains : ℕ → Ends) (so : IsSound links chains)
   abbrev back : List ℕ
   back = split.back
 
-  times_split : (x : ℕ) → times x held ≡ times x front + times x (item ∷ back)
+  pub times_split : (x : ℕ) → times x held ≡ times x front + times x (item ∷ back)
   times_split x = ap (times x) split.is ∙ times-append x front (item ∷ back)
 
   times_left : (x : ℕ) → times x (front ++ back) ≤ times x held
   times_left x = let a = times_split x in let b = times-append x front back in let c = times_more x item back in omega arith
 
-  linked_split : IsLinked links None (front ++ item ∷ back) None
+  pub linked_split : IsLinked links None (front ++ item ∷ back) None
   linked_split = subst (λ ys. IsLinked links None ys None) split.is ((so.chain l).linked)
 
   module _ (link : Link) (there : slice_get links item ≡ Some link) where
@@ -184,16 +184,16 @@ module _ (links : List Link) (chains : ℕ → Ends) (so : IsSound links chains)
     link_is : between.link ≡ link
     link_is = same_some between.link link (sym between.there ∙ there)
 
-    before_is : link.before ≡ last_or None front
+    pub before_is : link.before ≡ last_or None front
     before_is = sym (ap (λ (k : Link). k.before) link_is) ∙ between.before_is
 
-    behind_is : link.behind ≡ first_or back None
+    pub behind_is : link.behind ≡ first_or back None
     behind_is = sym (ap (λ (k : Link). k.behind) link_is) ∙ between.behind_is
 
-    before_held : (x : ℕ) → link.before ≡ Some x → 0 < times x held
+    pub before_held : (x : ℕ) → link.before ≡ Some x → 0 < times x held
     before_held x e = let a = last_within front x (sym before_is ∙ e) in let b = times_split x in omega arith
 
-    behind_held : (x : ℕ) → link.behind ≡ Some x → 0 < times x held
+    pub behind_held : (x : ℕ) → link.behind ≡ Some x → 0 < times x held
     behind_held x e = let a = first_within back x (sym behind_is ∙ e) in let b = times_split x in let c = times_more x item back in omega arith
 
     pub before_fits : (x : ℕ) → link.before ≡ Some x → x < length links

@@ -206,6 +206,13 @@ module _ (m m' : Ended) (l : ℕ) (f : Ends) (none : f.first ≡ None → m' ≡
   pub is_left : IsLeft
   is_left = by_first f.first refl
 
+-- a list in the map has its ends there
+pub key_there : {P : Type 0} (m : Ended) (l : ℕ) → map.contains_key m l ≡ true → map.get m l ≡ None → P
+key_there m l has none = absurd (no_true (sym (ap is_some none) ∙ has))
+
+pub held_key : (m : Ended) (l : ℕ) (f : Ends) → map.contains_key (map.insert m l f) l ≡ true
+held_key m l f = ap is_some (put_here m l f)
+
 -- ---- how many lists there are, with room for as many more
 
 some_in : {X : Type 0} (m : map.FinMap nat_cmp X) (l : ℕ) → map.contains_key m l ≡ true → 0 < map.len m

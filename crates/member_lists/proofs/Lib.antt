@@ -10,3 +10,4 @@ pub mod Empty
 pub mod Fields
 pub mod Both
 pub mod Marks
+pub mod Replaced

@@ -49,6 +49,16 @@ pub record IsUnlinked (old new : List Link) (item : ℕ) (was now : Ends) : Type
   pub first : now.first ≡ pick link.before link.behind was.first
   pub last : now.last ≡ pick link.behind link.before was.last
 
+-- another item is linked in the place of this one of the list with these ends, which has others then
+pub record IsRelinked (old new : List Link) (item by : ℕ) (was now : Ends) : Type 0 where
+  pub link : Link
+  pub there : slice_get old item ≡ Some link
+  pub between : List Link
+  pub ahead : IsBehindSet (slice_set old by link) between link.before (Some by)
+  pub rear : IsBeforeSet between new link.behind (Some by)
+  pub first : now.first ≡ pick link.before (Some by) was.first
+  pub last : now.last ≡ pick link.behind (Some by) was.last
+
 -- the ends of a list once an item left it that stood between these two
 abbrev pub left_by : (before behind : Option ℕ) → Ends → Ends
 left_by before behind was = record { first = pick before behind was.first; last = pick behind before was.last }

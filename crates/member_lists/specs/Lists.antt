@@ -1,5 +1,5 @@
 -- What contracts see of lists of items: each list that has items, by its number, and how many items there is room for.
-use Rattle.std.specs.Prelude.{ℕ, not, eqb, max, List, [], ◌∷◌, unwrap_or, refl}
+use Rattle.std.specs.Prelude.{ℕ, Bool, true, false, not, cond, eqb, max, map as map_list, List, [], ◌∷◌, unwrap_or, refl}
 use Rattle.std.specs.List.{Contains, filter}
 use Rattle.std.specs.Coded.{Coded, code_by, coded×, coded_ℕ, coded_list}
 use Rattle.std.specs.FinMap as map
@@ -33,6 +33,10 @@ with_list v list (x ∷ xs) = record v { lists = map.insert v.lists list (x ∷ 
 abbrev pub without : ℕ → List ℕ → List ℕ
 without item = filter (λ x. not (eqb x item))
 
+-- the items with another in the place of this one
+abbrev pub exchanged : (item by : ℕ) → List ℕ → List ℕ
+exchanged item by = map_list (λ x. cond (eqb x item) by x)
+
 -- ---- lists of items of which some are marked: all lists, and those of the marked items
 
 pub record MarkedView : Type 0 where
@@ -51,4 +55,16 @@ abbrev pub with_room : MarkedView → (items : ℕ) → MarkedView
 with_room v items = record {
   all = record v.all { items = max v.all.items items };
   marked = record v.marked { items = max v.marked.items items };
+}
+
+-- the item is marked in this list, or it is in none
+abbrev pub IsMarkedIn : MarkedView → (list item : ℕ) → Bool → Type 0
+IsMarkedIn v list item true = Contains (list_of v.marked list) item
+IsMarkedIn v list item false = IsApart v.marked item
+
+-- another item stands in the place of this one of a list, and among the marked ones too where it is marked
+abbrev pub replaced : MarkedView → (list item by : ℕ) → (is_marked : Bool) → MarkedView
+replaced v list item by is_marked = record {
+  all = with_list v.all list (exchanged item by (list_of v.all list));
+  marked = cond is_marked (with_list v.marked list (exchanged item by (list_of v.marked list))) v.marked;
 }

@@ -11,7 +11,7 @@ ghost use Rattle.std.specs.Prelude.{◌≡◌, ◌↔◌, ℕ, ◌+◌, ◌<◌,
 ghost use Rattle.std.specs.List.{Contains};
 ghost use Rattle.std.specs.Option.{option_or};
 ghost use Rattle.std.specs.FinMap as map;
-ghost use Rattle.member_lists.specs.Chains.{IsBehindSet, IsBeforeSet, IsLinkedLast, IsUnlinked, pick, left_by, joined_by, ends_at, blank_ends, blank_link};
+ghost use Rattle.member_lists.specs.Chains.{IsBehindSet, IsBeforeSet, IsLinkedLast, IsUnlinked, IsRelinked, pick, left_by, joined_by, ends_at, blank_ends, blank_link};
 ghost use Rattle.member_lists.specs.declared.Link.{Link as AnyLink};
 ghost use Rattle.member_lists.specs.Fields.{taken};
 
@@ -375,6 +375,27 @@ pub(crate) fn unlink(links: &mut Vec<Link>, item: usize, ends: Ends) -> Ends
     Ends {
         first: end_without(before, behind, ends.first),
         last: end_without(behind, before, ends.last),
+    }
+}
+
+// Links another item, which is in no list, in the place of this one, and answers the ends of its list then.
+#[inline(always)]
+pub(crate) fn relink(links: &mut Vec<Link>, item: usize, by: usize, ends: Ends) -> Ends
+    requires few { by + 1 < 2 ^ 32 }
+    requires room { by < length links.old.items }
+    requires there { item < length links.old.items }
+    requires before { (link : AnyLink) → slice_get links.old.items item ≡ Some link → (x : ℕ) → link.before ≡ Some x → x < length links.old.items }
+    requires behind { (link : AnyLink) → slice_get links.old.items item ≡ Some link → (x : ℕ) → link.behind ≡ Some x → x < length links.old.items }
+    ensures { IsRelinked links.old.items links.new.items item by ends result }
+{
+    let Link { before, behind } = links[item];
+    let place = Place::of(by);
+    links[by] = Link { before, behind };
+    set_behind(&mut *links, before, place);
+    set_before(links, behind, place);
+    Ends {
+        first: end_without(before, place, ends.first),
+        last: end_without(behind, place, ends.last),
     }
 }
 

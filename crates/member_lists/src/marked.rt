@@ -5,7 +5,7 @@ ghost use Rattle.std.specs.FinMap as map;
 ghost use Rattle.member_lists.specs.Chains.{ends_at, blank_ends};
 ghost use Rattle.member_lists.specs.Ended.{AreLengthened};
 
-use crate::{Ends, Link, MOST_ITEMS, link_last, unlink};
+use crate::{Ends, Link, MOST_ITEMS, link_last, relink, unlink};
 use number_map::NumberMap;
 use std::alloc::{AllocError, Global};
 use std::marker::Model;
@@ -172,7 +172,7 @@ impl Model for MarkedLists {
 }
 
 impl MarkedLists {
-    ghost use Rattle.member_lists.specs.Lists.{list_of, with_list, without, with_room, IsApart};
+    ghost use Rattle.member_lists.specs.Lists.{list_of, with_list, without, with_room, replaced, IsApart, IsMarkedIn};
 
     /// No lists, and no items. Allocates nothing; constant time.
     pub fn new(alloc: Global) -> MarkedLists
@@ -258,6 +258,25 @@ impl MarkedLists {
         let ends = self.ends.marked(list);
         let now = unlink(&mut self.marks, item, ends);
         self.ends.mark(list, now);
+    }
+
+    /// Puts another item, which is in no list, in the place of this one, and among the marked ones too where
+    /// it is marked: the order stays. Takes no memory; constant time.
+    pub fn replace(&mut self, list: u64, item: usize, by: usize, is_marked: bool)
+        requires room { by < self.old.all.items }
+        requires there { Contains (list_of self.old.all list) item }
+        requires apart { IsApart self.old.all by }
+        requires marked { IsMarkedIn self.old list item is_marked }
+        ensures { self.new ≡ replaced self.old list item by is_marked }
+    {
+        let all = self.ends.all(list);
+        let now = relink(&mut self.links, item, by, all);
+        self.ends.hold(list, true, now);
+        if is_marked {
+            let marked = self.ends.marked(list);
+            let now = relink(&mut self.marks, item, by, marked);
+            self.ends.mark(list, now);
+        }
     }
 
     /// The first item of a list. Constant time.

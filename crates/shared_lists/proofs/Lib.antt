@@ -1,0 +1,12 @@
+pub mod Rows
+pub mod Seen
+pub mod Standing
+pub mod Joined
+pub mod Roomier
+pub mod Fresh
+pub mod Entered
+pub mod Parted
+pub mod Walk
+pub mod Promoted
+pub mod Marking
+pub mod Leaving

@@ -1,0 +1,4 @@
+pub mod Numbers
+pub mod Marked
+pub mod Shared
+pub mod Places

@@ -1,0 +1,462 @@
+//! Lists of numbered items, each item in any number of them: it joins a list at the end, and leaves from
+//! any place. Some items are ready. In each list the ready ones stand in an order of their own, their
+//! turns.
+//!
+//! The links of [`member_lists`] go between places. An item has a place of its own, so that it joins its
+//! first list without memory. Each further list takes a further place, and a record of which item stands
+//! there, and in which list. When an item leaves its first list and is in others, its own place takes over
+//! the first of its further places: the item keeps its turn there. So an item is in a list exactly when its
+//! own place is.
+//!
+//! Where no item may be in several lists, an item's own place has the item's number. Elsewhere the even
+//! places are the items' own, and the odd ones the further ones.
+#![tactic(auto)]
+
+ghost use Rattle.std.specs.Prelude.{◌≡◌, ◌≢◌, ℕ, ◌+◌, ◌<◌, ◌≤◌, ◌^◌, ◌∷◌, [], cond, Some, None, IsSome, IsOk, OnOk, OnErr, IfSome, IfNone, IfOk, true, false, map as map_list, slice_get};
+ghost use Rattle.std.specs.List.{Contains};
+ghost use Rattle.std.specs.FinMap as map;
+ghost use Rattle.member_lists.specs.Lists.{list_of, IsApart, IsMarkedIn, without};
+ghost use Rattle.shared_lists.specs.Shared.{joined, parted};
+ghost use Rattle.shared_lists.specs.Numbers.{own, far};
+ghost use Rattle.shared_lists.specs.Marked.{joined_at, parted_at, joined_far, parted_far};
+ghost use Rattle.slab.specs.Slab.{get};
+ghost use Rattle.member_lists.specs.Chains.{times};
+ghost use Rattle.shared_lists.specs.Places.{list_at, item_at as item_of, AreLonger, AreAsLong};
+
+use member_lists::{Lists, MarkedLists};
+use slab::Slab;
+use std::alloc::{AllocError, Global};
+use std::marker::Model;
+
+// With more further places than this, their numbers or those of the places would not fit.
+const MOST_FURTHER: usize = 1 << 31;
+
+// With more items than this, their places would not fit.
+const MOST_ITEMS: usize = 1 << 32;
+
+// What stands at a further place: the item, and the list that it is in.
+#[derive(Clone, Copy, Debug, PartialEq, Eq)]
+struct Further {
+    item: usize,
+    list: u64,
+}
+
+// The place that an item has without memory.
+fn own_place(several: bool, item: usize) -> usize
+    requires { own several item < 2 ^ 64 }
+    ensures { result ≡ own several item }
+{
+    if several { 2 * item } else { item }
+}
+
+// The place of this number among the further ones.
+fn further_place(key: usize) -> usize
+    requires { far key < 2 ^ 64 }
+    ensures { result ≡ far key }
+{
+    2 * key + 1
+}
+
+// Puts a place at the end of a list, and at the end of its marked ones, if it is ready.
+fn join(places: &mut MarkedLists, list: u64, place: usize, is_ready: bool)
+    requires room { place < places.old.all.items }
+    requires apart { IsApart places.old.all place }
+    requires unmarked { IsApart places.old.marked place }
+    ensures { places.new ≡ joined_at places.old list place is_ready }
+{
+    places.push(list, place);
+    if is_ready {
+        places.mark(list, place);
+    }
+}
+
+// Takes the mark from a place of a list, if it is marked.
+fn unmark(places: &mut MarkedLists, list: u64, place: usize, is_marked: bool)
+    requires marked { IsMarkedIn places.old list place is_marked }
+    requires single { (other : ℕ) → Contains (list_of places.old.marked other) place → other ≡ list }
+    ensures marks { places.new ≡ record places.old { marked = cond is_marked (parted places.old.marked list place) places.old.marked } }
+    ensures unmarked { IsApart places.new.marked place }
+{
+    if is_marked {
+        places.unmark(list, place);
+    }
+}
+
+// Takes a place out of a list, and out of its marked ones, if it is ready.
+fn part(places: &mut MarkedLists, list: u64, place: usize, is_ready: bool)
+    requires there { Contains (list_of places.old.all list) place }
+    requires marked { IsMarkedIn places.old list place is_ready }
+    requires single { (other : ℕ) → Contains (list_of places.old.marked other) place → other ≡ list }
+    ensures { places.new ≡ parted_at places.old list place is_ready }
+{
+    unmark(&mut *places, list, place, is_ready);
+    places.remove(list, place);
+}
+
+// The further place of an item in this list, by its number.
+fn find(keys: &Lists, further: &Slab<Further>, item: usize, list: u64) -> Option<usize>
+    requires there { (k : ℕ) → Contains (list_of keys.now item) k → IsSome (get further.now k) }
+    requires single { (k : ℕ) → times k (list_of keys.now item) ≤ 1 }
+    ensures some { IfSome result (λ key. Contains (list_of keys.now item) key × (list_at further.now key ≡ list)) }
+    ensures none { IfNone result ((k : ℕ) → Contains (list_of keys.now item) k → list_at further.now k ≢ list) }
+{
+    let mut next = keys.first(item as u64);
+    while let Some(key) = next {
+        if further[key].list == list {
+            return Some(key);
+        }
+        next = keys.after(item as u64, key);
+    }
+    None
+}
+
+// The further place of an item with this index, from 0 on, by its number.
+fn nth(keys: &Lists, item: usize, index: usize) -> Option<usize>
+    ensures { result ≡ slice_get (list_of keys.now item) index }
+{
+    let mut key = keys.first(item as u64)?;
+    for _step in 0..index {
+        key = keys.after(item as u64, key)?;
+    }
+    Some(key)
+}
+
+// Puts the further places of an item at the end of the marked ones of their lists.
+fn mark_each(places: &mut MarkedLists, keys: &Lists, further: &Slab<Further>, item: usize)
+    requires there { (k : ℕ) → Contains (list_of keys.now item) k → IsSome (get further.now k) }
+    requires single { (k : ℕ) → times k (list_of keys.now item) ≤ 1 }
+    requires fit { (k : ℕ) → Contains (list_of keys.now item) k → far k < 2 ^ 64 }
+    requires inside { (k : ℕ) → Contains (list_of keys.now item) k → Contains (list_of places.old.all (list_at further.now k)) (far k) }
+    requires unmarked { (k : ℕ) → Contains (list_of keys.now item) k → IsApart places.old.marked (far k) }
+    ensures { places.new ≡ record places.old { marked = joined_far places.old.marked further.now (list_of keys.now item) } }
+{
+    let mut next = keys.first(item as u64);
+    while let Some(key) = next {
+        let list = further[key].list;
+        places.mark(list, further_place(key));
+        next = keys.after(item as u64, key);
+    }
+}
+
+// Takes the further places of an item out of the marked ones of their lists.
+fn unmark_each(places: &mut MarkedLists, keys: &Lists, further: &Slab<Further>, item: usize)
+    requires there { (k : ℕ) → Contains (list_of keys.now item) k → IsSome (get further.now k) }
+    requires single { (k : ℕ) → times k (list_of keys.now item) ≤ 1 }
+    requires fit { (k : ℕ) → Contains (list_of keys.now item) k → far k < 2 ^ 64 }
+    requires marked { (k : ℕ) → Contains (list_of keys.now item) k → Contains (list_of places.old.marked (list_at further.now k)) (far k) }
+    ensures { places.new ≡ record places.old { marked = parted_far places.old.marked further.now (list_of keys.now item) } }
+{
+    let mut next = keys.first(item as u64);
+    while let Some(key) = next {
+        let list = further[key].list;
+        places.unmark(list, further_place(key));
+        next = keys.after(item as u64, key);
+    }
+}
+
+// The item at a place.
+fn item_at(several: bool, further: &Slab<Further>, place: usize) -> usize
+    requires { (k : ℕ) → several ≡ true → place ≡ far k → IsSome (get further.now k) }
+    ensures { result ≡ item_of several further.now place }
+{
+    if !several {
+        return place;
+    }
+    match place % 2 {
+        0 => place / 2,
+        _ => further[place / 2].item,
+    }
+}
+
+// The items at these places.
+fn items_at(
+    several: bool,
+    further: &Slab<Further>,
+    places: &[usize],
+    alloc: Global,
+) -> Result<Vec<usize>, AllocError>
+    requires { (x : ℕ) → Contains places.now x → (k : ℕ) → several ≡ true → x ≡ far k → IsSome (get further.now k) }
+    ensures { IfOk result (λ items. items.items ≡ map_list (item_of several further.now) places.now) }
+{
+    let mut items = Vec::new(alloc);
+    for place in places {
+        items.push(item_at(several, further, *place))?;
+    }
+    Ok(items)
+}
+
+// Makes room for so many further places.
+fn lengthen(places: &mut MarkedLists, keys: &mut Lists, most: usize) -> Result<(), AllocError>
+    ensures ok { OnOk result (AreLonger places.old places.new keys.old keys.new most) }
+    ensures err { OnErr result (AreAsLong places.old places.new keys.old keys.new) }
+{
+    if most > MOST_FURTHER {
+        return Err(AllocError);
+    }
+    keys.reserve(most)?;
+    places.reserve(2 * most)
+}
+
+/// Lists of items, each in any number of them, some of which are ready. Each item takes what an item of
+/// [`MarkedLists`] takes, or twice that where an item may be in several lists. The room for a further list
+/// takes twice that and some 60 bytes.
+#[derive(Drop)]
+pub struct SharedLists {
+    places: MarkedLists,
+    further: Slab<Further>,
+    // The further places of each item, in the order of its lists, under its number.
+    keys: Lists,
+    // For so many further places there is room among the places and the keys.
+    fits: usize,
+    several: bool,
+}
+
+impl Model for SharedLists {
+    ghost use Rattle.shared_lists.specs.Shared.{SharedView, shared_code};
+
+    ghost Value = { SharedView };
+
+    ghost coded = { shared_code };
+
+    ghost use Rattle.shared_lists.specs.Places.{seen, IsShared};
+
+    ghost view = { λ a. seen a.several a.places a.further a.keys a.fits };
+
+    ghost invariant = { λ a. IsShared a.several a.places a.further a.keys a.fits };
+}
+
+impl SharedLists {
+    ghost use Rattle.shared_lists.specs.Shared.{more_of, empty, with_items, roomier, entered, with_further, left, without_further, joined_each, parted_each, left_each, with_first, OthersKeep, IsFirst, IsReady};
+
+    /// No lists, and no items. `several` says whether an item may be in several lists. Allocates nothing;
+    /// constant time.
+    pub fn new(alloc: Global, several: bool) -> SharedLists
+        ensures { result ≡ empty several }
+    {
+        SharedLists {
+            places: MarkedLists::new(alloc),
+            further: Slab::new(alloc),
+            keys: Lists::new(alloc),
+            fits: 0,
+            several,
+        }
+    }
+
+    /// Makes room for so many items in all: those below this number. Constant time, but where the
+    /// links move to a larger place.
+    ///
+    /// An error means that memory was refused, or that the items are 2^32 or more, or 2^31 or more where an
+    /// item may be in several lists; all is then as before.
+    pub fn reserve(&mut self, items: usize) -> Result<(), AllocError>
+        ensures ok { OnOk result (self.new ≡ with_items self.old items) }
+        ensures err { OnErr result (self.new ≡ self.old) }
+    {
+        if items > MOST_ITEMS {
+            return Err(AllocError);
+        }
+        let places = own_place(self.several, items);
+        self.places.reserve(places)?;
+        Ok(())
+    }
+
+    /// Makes room for one further list of an item, and perhaps for more items. No other call takes memory
+    /// for a list. Constant time, but where what is kept moves to a larger place.
+    ///
+    /// An error means that memory was refused, or that the further lists are 2^31 or more; there may be room
+    /// for more items then, and all else is as before. It never comes where there is room already.
+    pub fn reserve_further(&mut self) -> Result<(), AllocError>
+        ensures room { OnOk result (0 < self.new.room) }
+        ensures had_room { 0 < self.old.room → IsOk result }
+        ensures items { self.old.all.items ≤ self.new.all.items }
+        ensures rest_kept { self.new ≡ roomier self.old self.new.all.items self.new.room }
+    {
+        self.further.reserve(1)?;
+        let most = self.further.capacity();
+        if most > self.fits {
+            lengthen(&mut self.places, &mut self.keys, most)?;
+            self.fits = most;
+        }
+        Ok(())
+    }
+
+    /// Puts an item that is in no list at the end of this one, and at the end of its ready ones, if it is
+    /// ready. Takes no memory; constant time.
+    pub fn enter(&mut self, list: u64, item: usize, is_ready: bool)
+        requires room { item < self.old.all.items }
+        requires apart { IsApart self.old.all item }
+        ensures { self.new ≡ entered self.old list item is_ready }
+    {
+        let place = own_place(self.several, item);
+        join(&mut self.places, list, place, is_ready);
+    }
+
+    /// Puts an item that is in other lists at the end of this one too, for which there is room, and at the
+    /// end of its ready ones, if it is ready. Takes no memory; constant time.
+    pub fn enter_further(&mut self, list: u64, item: usize, is_ready: bool)
+        requires several { self.old.several ≡ true }
+        requires room { 0 < self.old.room }
+        requires elsewhere { (first : ℕ) × IsFirst self.old first item }
+        requires apart { ¬ (Contains (list_of self.old.all list) item) }
+        ensures { self.new ≡ with_further (entered self.old list item is_ready) list item }
+    {
+        let key = self.further.insert_reserved(Further { item, list });
+        self.keys.push(item as u64, key);
+        join(&mut self.places, list, further_place(key), is_ready);
+    }
+
+    /// Takes an item out of its first list, and returns the first of its lists then. It keeps its turns in
+    /// the others. Takes no memory; constant time.
+    pub fn leave_first(&mut self, own: u64, item: usize, is_ready: bool) -> Option<u64>
+        requires first { IsFirst self.old own item }
+        requires ready { IsReady self.old item is_ready }
+        ensures result { result ≡ slice_get (more_of self.old item) 0 }
+        ensures none { IfNone result (self.new ≡ left self.old own item is_ready) }
+        ensures some { IfSome result (λ first. self.new ≡ without_further (left self.old own item is_ready) first item self.new.room) }
+        ensures room { self.old.room ≤ self.new.room }
+        ensures first { IfSome result (λ first. IsFirst self.new first item) }
+        ensures apart { IfNone result (IsApart self.new.all item) }
+        ensures lists { with_first result (more_of self.new item) ≡ more_of self.old item }
+    {
+        let place = own_place(self.several, item);
+        part(&mut self.places, own, place, is_ready);
+        let key = self.keys.first(item as u64)?;
+        self.keys.remove(item as u64, key);
+        let list = self.further.remove(key).list;
+        let further = further_place(key);
+        self.places.replace(list, further, place, is_ready);
+        Some(list)
+    }
+
+    /// Takes an item out of one of its further lists. It keeps its turns in the others. Takes no memory;
+    /// linear in the number of the item's lists.
+    pub fn leave_further(&mut self, list: u64, item: usize, is_ready: bool)
+        requires further { Contains (more_of self.old item) list }
+        requires ready { IsReady self.old item is_ready }
+        ensures after { self.new ≡ without_further (left self.old list item is_ready) list item self.new.room }
+        ensures room { self.old.room ≤ self.new.room }
+    {
+        if let Some(key) = find(&self.keys, &self.further, item, list) {
+            part(&mut self.places, list, further_place(key), is_ready);
+            self.keys.remove(item as u64, key);
+            self.further.remove(key);
+        }
+    }
+
+    /// Takes an item out of one of its lists, of which `own` is the first, and returns the first of its
+    /// lists then. It keeps its turns in the others. Takes no memory; linear in the number of the item's
+    /// lists.
+    pub fn leave(&mut self, own: u64, list: u64, item: usize, is_ready: bool) -> Option<u64>
+        requires first { IsFirst self.old own item }
+        requires there { Contains (own ∷ more_of self.old item) list }
+        requires ready { IsReady self.old item is_ready }
+        ensures lists { with_first result (more_of self.new item) ≡ without list (own ∷ more_of self.old item) }
+        ensures after { self.new ≡ record (left self.old list item is_ready) { more = self.new.more; room = self.new.room } }
+        ensures others { OthersKeep self.old self.new item }
+        ensures room { self.old.room ≤ self.new.room }
+        ensures first { IfSome result (λ first. IsFirst self.new first item) }
+        ensures apart { IfNone result (IsApart self.new.all item) }
+    {
+        if list == own {
+            return self.leave_first(own, item, is_ready);
+        }
+        self.leave_further(list, item, is_ready);
+        Some(own)
+    }
+
+    /// Takes an item out of all its lists, of which `own` is the first. Takes no memory; linear in their
+    /// number.
+    pub fn leave_all(&mut self, own: u64, item: usize, is_ready: bool)
+        requires first { IsFirst self.old own item }
+        requires ready { IsReady self.old item is_ready }
+        ensures after { self.new ≡ record (left_each self.old (own ∷ more_of self.old item) item is_ready) { more = self.new.more; room = self.new.room } }
+        ensures none { more_of self.new item ≡ [] }
+        ensures apart { IsApart self.new.all item }
+        ensures others { OthersKeep self.old self.new item }
+        ensures room { self.old.room ≤ self.new.room }
+    {
+        let mut first = Some(own);
+        while let Some(list) = first {
+            first = self.leave_first(list, item, is_ready);
+        }
+    }
+
+    /// Makes an item ready that isn't: it joins the ready ones of each of its lists, of which `own` is the
+    /// first, at their end. Takes no memory; linear in the number of the item's lists.
+    pub fn make_ready(&mut self, own: u64, item: usize)
+        requires first { IsFirst self.old own item }
+        requires unready { IsReady self.old item false }
+        ensures { self.new ≡ record self.old { ready = joined_each self.old.ready (own ∷ more_of self.old item) item } }
+    {
+        let place = own_place(self.several, item);
+        self.places.mark(own, place);
+        mark_each(&mut self.places, &self.keys, &self.further, item);
+    }
+
+    /// Makes a ready item unready: it leaves the ready ones of each of its lists, of which `own` is the
+    /// first. Takes no memory; linear in the number of the item's lists.
+    pub fn make_unready(&mut self, own: u64, item: usize)
+        requires first { IsFirst self.old own item }
+        requires ready { IsReady self.old item true }
+        ensures { self.new ≡ record self.old { ready = parted_each self.old.ready (own ∷ more_of self.old item) item } }
+    {
+        let place = own_place(self.several, item);
+        self.places.unmark(own, place);
+        unmark_each(&mut self.places, &self.keys, &self.further, item);
+    }
+
+    /// The ready item of a list whose turn it is. Constant time.
+    pub fn first_ready(&self, list: u64) -> Option<usize>
+        ensures { result ≡ slice_get (list_of self.now.ready list) 0 }
+    {
+        let place = self.places.first_marked(list)?;
+        Some(item_at(self.several, &self.further, place))
+    }
+
+    /// Puts the ready item of a list whose turn it is behind the other ready ones of this list, and returns
+    /// it. Takes no memory; constant time.
+    pub fn pass_turn(&mut self, list: u64) -> Option<usize>
+        ensures result { result ≡ slice_get (list_of self.old.ready list) 0 }
+        ensures none { IfNone result (self.new ≡ self.old) }
+        ensures some { IfSome result (λ item. self.new ≡ record self.old { ready = joined (parted self.old.ready list item) list item }) }
+    {
+        let place = self.places.first_marked(list)?;
+        self.places.unmark(list, place);
+        self.places.mark(list, place);
+        Some(item_at(self.several, &self.further, place))
+    }
+
+    /// The first item of a list. Constant time.
+    pub fn first(&self, list: u64) -> Option<usize>
+        ensures { result ≡ slice_get (list_of self.now.all list) 0 }
+    {
+        let place = self.places.first(list)?;
+        Some(item_at(self.several, &self.further, place))
+    }
+
+    /// Returns whether a list is one of an item's further ones. Linear in the number of the item's lists.
+    pub fn is_further(&self, list: u64, item: usize) -> bool
+        ensures yes { result ≡ true → Contains (more_of self.now item) list }
+        ensures no { result ≡ false → ¬ (Contains (more_of self.now item) list) }
+    {
+        find(&self.keys, &self.further, item, list).is_some()
+    }
+
+    /// One of an item's further lists: the one of this index, from 0 on, in the order in which the item
+    /// entered them. Linear in the index.
+    pub fn further_list(&self, item: usize, index: usize) -> Option<u64>
+        ensures { result ≡ slice_get (more_of self.now item) index }
+    {
+        let key = nth(&self.keys, item, index)?;
+        Some(self.further[key].list)
+    }
+
+    /// The items of a list, in order. Linear in their number.
+    ///
+    /// An error means that memory was refused.
+    pub fn items(&self, list: u64, alloc: Global) -> Result<Vec<usize>, AllocError>
+        ensures { IfOk result (λ items. items.items ≡ list_of self.now.all list) }
+    {
+        let places = self.places.items(list, alloc)?;
+        items_at(self.several, &self.further, &places, alloc)
+    }
+}
