@@ -2,17 +2,14 @@
 ghost use Rattle.std.specs.Prelude.{◌≢◌};
 ghost use Rattle.mach_types.specs.declared.profiles.Profile.TheVariants.{Three};
 
-use crate::fault::Fault;
-use crate::job::{Done, Output};
-use crate::reading::{TOO_MANY, next_line};
 use crate::state::Source;
-use crate::text::{Shown, bad_line};
 use kernel_lock::Entry;
 use mach_causes::{explain, write_cause};
 use mach_chart::{Layout, MOST_LIFELINES, Mermaid, Pen};
 use mach_chart_base::{Chart, Told, handed_port};
 use mach_fates::Fates;
 use mach_follow::{Answered, Follower, describe_before, is_answer_about, is_call_about};
+use mach_show_base::{Done, Fault, Output, Shown, TOO_MANY, bad_line, next_line};
 use mach_types::{Event, PortId, Profile, Reply};
 use mach_words::Text;
 use std::alloc::AllocError;

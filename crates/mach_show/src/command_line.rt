@@ -1,9 +1,9 @@
 //! The command line.
 use crate::chart::Style;
-use crate::filter::Filter;
-use crate::job::{Job, Kind};
+use crate::job::Job;
 use clap::builder::ValueParser;
 use clap::{Arg, ArgAction, ArgMatches, Command, Error};
+use mach_show_base::{Filter, Kind};
 use std::alloc::{AllocError, Global};
 
 /// The kinds of text that `lint` reads.

@@ -1,30 +1,16 @@
 //! The jobs of the program.
 ghost use Rattle.std.specs.Prelude.{◌≡◌, ◌≤◌};
 
-use crate::ahead::show_whole;
 use crate::chart::{Style, show_chart};
-use crate::fault::{Fault, report};
-use crate::filter::Filter;
-use crate::linting::lint_text;
-use crate::reading::READ_AT_ONCE;
 use crate::state::show_state;
-use crate::text::{Shown, show_history};
+use mach_show_base::{
+    Done, Fault, Filter, Kind, Output, READ_AT_ONCE, Shown, lint_text, report, show_history,
+    show_whole,
+};
 use mach_words::Labels;
 use std::alloc::Global;
-use std::io::{BufReader, BufWriter, Read, Write};
-use std::rt::{Stderr, Stdout};
-
-/// Standard output, behind a buffer.
-pub(crate) type Output = BufWriter<Stdout>;
-
-/// The kind of a text.
-#[derive(Clone, Copy)]
-pub enum Kind {
-    /// A script.
-    Script,
-    /// A history.
-    History,
-}
+use std::io::{BufReader, Read, Write};
+use std::rt::Stderr;
 
 /// What the program does.
 #[derive(Clone, Copy)]
@@ -50,17 +36,6 @@ pub struct Work<'a> {
     pub name: &'a str,
     /// The labels.
     pub labels: &'a Labels,
-}
-
-/// How a job ended.
-#[derive(Clone, Copy)]
-pub(crate) enum Done {
-    /// It was done, and no line is bad.
-    Well,
-    /// A line is bad.
-    BadLines,
-    /// None of so many entries was shown.
-    Unseen(u64),
 }
 
 /// Does the job on its file, and returns the program's status: 0 if it is done and no line is bad, otherwise 1.

@@ -1,29 +1,22 @@
-//! The program `mach_show`: shows histories of Mach 3 port IPC in words, and lists bad lines with the reason for each.
+//! The program `mach_show`: shows histories of Mach 3 port IPC in words and as charts, and lists bad lines with the reason
+//! for each.
 //!
-//! `main` reads the command line and opens the files. [`perform`] does the job over any reader. Its job `text`
-//! shows a history entry by entry as it is read: the caller, the call, the reply, and the cause of a refusal. Its job `lint`
-//! lists the bad lines of a script or a history, with the reason for each.
+//! `main` reads the command line and opens the files. [`perform`] does the job over any reader. The jobs `text` and `lint` are
+//! in `mach_show_base`.
 #![tactic(auto)]
 
-mod ahead;
 mod chart;
 mod command_line;
-mod fault;
-mod filter;
 mod job;
-mod linting;
 mod naming;
-mod reading;
 mod state;
-mod text;
 
 use clap::error::ErrorKind;
 use command_line::{Request, read_words};
-use fault::{Fault, reason_of, report};
 use job::{Job, Work, perform};
+use mach_show_base::{Fault, read_labels, reason_of, report};
 use mach_words::Labels;
 use naming::job_of;
-use reading::read_labels;
 use std::fs::File;
 use std::io::{BufWriter, Read, Write};
 use std::process::ExitCode;

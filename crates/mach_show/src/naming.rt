@@ -1,8 +1,7 @@
 //! The task and the port that the command line names.
 use crate::command_line::Request;
-use crate::fault::Fault;
-use crate::filter::Filter;
 use crate::job::Job;
+use mach_show_base::{Fault, Filter};
 use mach_words::Labels;
 use tracer_base::Words;
 

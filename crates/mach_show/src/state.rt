@@ -2,14 +2,10 @@
 ghost use Rattle.std.specs.Prelude.{◌≢◌};
 ghost use Rattle.mach_types.specs.declared.profiles.Profile.TheVariants.{Three};
 
-use crate::fault::Fault;
-use crate::filter::Filter;
-use crate::job::{Done, Output};
-use crate::reading::next_line;
-use crate::text::{Shown, bad_line};
 use kernel_lock::Entry;
 use mach_fates::Fates;
 use mach_follow::{Answered, Follower, describe_after, describe_before, write_answer};
+use mach_show_base::{Done, Fault, Filter, Output, Shown, bad_line, next_line};
 use mach_state::{Deaths, State, write_state};
 use mach_types::{Profile, TaskId};
 use mach_words::{Labels, Text, task_of};

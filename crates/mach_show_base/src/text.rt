@@ -4,7 +4,7 @@ ghost use Rattle.mach_types.specs.declared.profiles.Profile.TheVariants.{Three};
 
 use crate::fault::Fault;
 use crate::filter::Filter;
-use crate::job::{Done, Output};
+use crate::output::{Done, Output};
 use crate::reading::{TOO_MANY, next_line};
 use kernel_lock::Entry;
 use mach_causes::{explain, write_cause};
@@ -27,21 +27,26 @@ const ANSWERS: usize = 73;
 
 /// What to show, and with which labels.
 #[derive(Clone, Copy)]
-pub(crate) struct Shown<'a, 'b> {
+pub struct Shown<'a, 'b> {
     /// The name of the file, for faults.
-    pub(crate) name: &'a str,
+    pub name: &'a str,
     /// The allocator.
-    pub(crate) alloc: Global,
+    pub alloc: Global,
     /// Which entries are shown.
-    pub(crate) filter: Filter,
+    pub filter: Filter,
     /// The labels.
-    pub(crate) labels: &'a Labels,
+    pub labels: &'a Labels,
     /// What became of messages, if the history was read ahead.
-    pub(crate) ends: Option<&'b Ends>,
+    pub ends: Option<&'b Ends>,
 }
 
 /// Shows the history that the reader has. Each entry is written before the next is waited for.
-pub(crate) fn show_history<'a, R: Read>(
+///
+/// Returns `Unseen` if no entry was shown. What was written before a fault stays. The faults are `NoHistory` for a first line
+/// that is no heading, `BadLine` or `CutLine` for a line that is no entry, and `NotConfirmed` for an entry to which the kernel
+/// replies otherwise. Others are those of the file, the output and memory. Takes the time and memory of a kernel that makes
+/// the history's calls, and memory for names and queued messages.
+pub fn show_history<'a, R: Read>(
     shown: &Shown<'a, '_>,
     reader: &mut BufReader<&mut R>,
     line: &mut Vec<u8>,
@@ -348,8 +353,8 @@ fn write_answer_of(follower: &Follower, labels: &Labels, entry: &Entry, out: &mu
     out.words("\n");
 }
 
-/// Returns the fault of the line of this number, which is no entry.
-pub(crate) fn bad_line(number: u64, line: &[u8]) -> Fault<'static> {
+/// Returns the fault of the line of this number, which is no entry: `CutLine` if it lacks its line feed. Constant time.
+pub fn bad_line(number: u64, line: &[u8]) -> Fault<'static> {
     if line.ends_with(b"\n") {
         return Fault::BadLine(number);
     }

@@ -19,7 +19,7 @@ pub struct Filter {
 }
 
 impl Filter {
-    /// Shows every entry.
+    /// Shows every entry. Takes no memory.
     pub fn all() -> Filter {
         Filter {
             task: None,
@@ -30,8 +30,8 @@ impl Filter {
         }
     }
 
-    /// Whether the entry of this number is shown, as far as its port isn't asked for.
-    pub(crate) fn shows(&self, number: u64, entry: &Entry) -> bool {
+    /// Whether the entry of this number is shown, as far as its port isn't asked for. Constant time.
+    pub fn shows(&self, number: u64, entry: &Entry) -> bool {
         if number < self.from || self.to < number {
             return false;
         }

@@ -1,6 +1,6 @@
 //! The job `lint`: lists the bad lines of scripts and histories.
 use crate::fault::Fault;
-use crate::job::{Done, Kind, Output};
+use crate::output::{Done, Output};
 use crate::reading::{TOO_MANY, next_line};
 use mach_lint::{
     Blocks, Fault as LineFault, Made, Note, history_fault, script_fault, script_note, write_fault,
@@ -11,6 +11,15 @@ use std::alloc::Global;
 use std::io::{BufReader, Read, Write};
 use tracer::{behind_heading, first_line};
 use tracer_base::{ScriptLine, TextFault};
+
+/// The kind of a text.
+#[derive(Clone, Copy)]
+pub enum Kind {
+    /// A script.
+    Script,
+    /// A history.
+    History,
+}
 
 /// How a history begins.
 const HEADING: &[u8] = b"mach-history";
@@ -29,7 +38,10 @@ struct Seen<'a> {
 }
 
 /// Lists the bad lines that the reader has. Without a kind the first line decides.
-pub(crate) fn lint_text<'a, R: Read>(
+///
+/// Returns `BadLines` if there are some. Returns the faults `CannotRead`, `CannotWrite`, `Closed` and `OutOfMemory`; what was
+/// written before stays. Linear in the text. Takes memory for the longest line.
+pub fn lint_text<'a, R: Read>(
     alloc: Global,
     work: (&'a str, Option<Kind>),
     reader: &mut BufReader<&mut R>,

@@ -1,6 +1,6 @@
 //! Reads files line by line.
 use crate::fault::{Fault, reason_of};
-use crate::job::Output;
+use crate::output::Output;
 use mach_words::{LabelFault, Labels};
 use memchr::memchr;
 use std::alloc::Global;
@@ -9,15 +9,18 @@ use std::io;
 use std::io::{BufRead, BufReader, ErrorKind, Read, Write};
 
 /// How many bytes of a file are read at once.
-pub(crate) const READ_AT_ONCE: usize = 131_072;
+pub const READ_AT_ONCE: usize = 131_072;
 
 /// Why a text without end can't be read.
-pub(crate) const TOO_MANY: &str = "it has too many lines";
+pub const TOO_MANY: &str = "it has too many lines";
 
 /// Reads the next line into `line`, with its line feed, and returns its length: 0 at the end.
 ///
 /// If the reader doesn't have a whole line yet, `out` is flushed first. So the output is seen while the program waits.
-pub(crate) fn next_line<'a, R: Read>(
+///
+/// Returns `CannotRead` if the file can't be read, the faults of the output, and `OutOfMemory`. Linear in the line. Takes
+/// memory for it.
+pub fn next_line<'a, R: Read>(
     name: &'a str,
     reader: &mut BufReader<&mut R>,
     line: &mut Vec<u8>,

@@ -3,7 +3,7 @@ ghost use Rattle.std.specs.Prelude.{◌≢◌};
 ghost use Rattle.mach_types.specs.declared.profiles.Profile.TheVariants.{Three};
 
 use crate::fault::Fault;
-use crate::job::{Done, Output};
+use crate::output::{Done, Output};
 use crate::reading::{READ_AT_ONCE, read_line};
 use crate::text::{Shown, show_history};
 use kernel_lock::Entry;
@@ -26,7 +26,10 @@ struct Ahead {
 
 /// Reads the whole history that the reader has, and then shows it, with what became of each message. If it can't be read to
 /// its end, shows what was read before.
-pub(crate) fn show_whole<'a, R: Read>(
+///
+/// Returns `Unseen` if no entry was shown. Faults are those of [`show_history`]. Makes the history's calls twice. Takes
+/// memory for the text, and for each message.
+pub fn show_whole<'a, R: Read>(
     shown: &Shown<'a, '_>,
     reader: &mut BufReader<&mut R>,
     line: &mut Vec<u8>,

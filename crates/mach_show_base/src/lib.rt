@@ -1,0 +1,19 @@
+//! The jobs `text` and `lint` of the program `mach_show`, and what all its jobs share: faults, filters of entries, lines of
+//! files, and standard output.
+#![tactic(auto)]
+
+mod ahead;
+mod fault;
+mod filter;
+mod linting;
+mod output;
+mod reading;
+mod text;
+
+pub use ahead::show_whole;
+pub use fault::{Fault, reason_of, report};
+pub use filter::Filter;
+pub use linting::{Kind, lint_text};
+pub use output::{Done, Output};
+pub use reading::{READ_AT_ONCE, TOO_MANY, next_line, read_labels};
+pub use text::{Shown, bad_line, show_history};
