@@ -13,7 +13,9 @@ mod board;
 mod entries;
 mod entry;
 mod lock;
+mod same;
 
 pub use board::{Board, Watch};
 pub use entry::Entry;
 pub use lock::{Held, LockedKernel, Pass, Shared};
+pub use same::are_same_replies;

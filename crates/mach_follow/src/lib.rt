@@ -15,7 +15,6 @@ mod names;
 mod ports;
 mod remember;
 mod replay;
-mod same;
 mod seen;
 
 pub use answer::{describe_after, write_answer};

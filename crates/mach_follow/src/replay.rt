@@ -6,8 +6,7 @@ ghost use Rattle.mach_follow.specs.declared.replay.Answered.TheVariants.{AsSaid}
 ghost use Rattle.mach_follow.specs.Replaying.{IsRefusal, Replays};
 
 use crate::follower::Follower;
-use crate::same::are_same;
-use kernel_lock::Entry;
+use kernel_lock::{Entry, are_same_replies};
 use mach_types::{Event, Name, Reply};
 use mach_words::word_at;
 use std::alloc::AllocError;
@@ -38,7 +37,7 @@ impl Follower {
         let has_room = self.kernel.has_room_for(&entry.event);
         self.give_turn(entry);
         let reply = self.kernel.step(&entry.event);
-        if are_same(&reply, &entry.reply) {
+        if are_same_replies(&reply, &entry.reply) {
             return Ok(Answered::AsSaid);
         }
         if has_room && self.may_lack_memory(&entry.event, &reply)? {

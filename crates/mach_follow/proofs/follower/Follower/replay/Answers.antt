@@ -17,12 +17,12 @@ returns-then-branch c = record {
       subst (λ (k : KernelView). Replays k.tables e.event e.reply c.remember.new.self.kernel) same (refusal_replays c.remember.new.self.kernel e.event e.reply r);
 }
 
-pub returns-then-are_same : goal.returns-then-are_same
-returns-then-are_same c = record {
+pub returns-then-are_same_replies : goal.returns-then-are_same_replies
+returns-then-are_same_replies c = record {
   said = λ _.
       let e = c.args.entry.now in
       let old = c.args.self.now.kernel in
-      let told : c.step-reply.result ≡ e.reply = c.are_same.ensures.same c.if-are_same.true in
+      let told : c.step-reply.result ≡ e.reply = c.are_same_replies.ensures.same c.if-are_same_replies.true in
       let turned : (s : State) → Shows old.tables s → Shows c.give_turn.new.self.kernel.tables s = λ s shown. c.give_turn.ensures s (subst (λ (k : KernelView). Shows k.tables s) (sym c.remember.ensures) shown) in
       subst (λ (r : Reply). Replays old.tables e.event r c.step-reply.new.self) told
       (step_replays old.tables c.give_turn.new.self.kernel.tables e.event c.step-reply.result c.step-reply.new.self turned c.step-reply.ensures.touches);

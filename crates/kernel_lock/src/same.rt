@@ -3,8 +3,8 @@ ghost use Rattle.std.specs.Prelude.{◌≡◌, true};
 
 use mach_types::{NameTypes, Reply, Status, Waited};
 
-/// Returns whether the two replies are the same.
-pub(crate) fn are_same(one: &Reply, other: &Reply) -> bool
+/// Returns whether the two replies are the same. Linear in their bytes and names.
+pub fn are_same_replies(one: &Reply, other: &Reply) -> bool
     ensures same { result ≡ true → one.now ≡ other.now }
     ensures other { one.now ≡ other.now → result ≡ true }
 {
