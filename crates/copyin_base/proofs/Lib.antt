@@ -11,6 +11,8 @@ pub mod Taking
 pub mod Putting
 pub mod Reading
 pub mod Written
+pub mod Lost
+pub mod Removed
 pub mod Changing
 pub mod NamesChanged
 pub mod Holders

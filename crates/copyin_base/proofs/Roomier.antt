@@ -3,7 +3,7 @@ use Rattle.std.proofs.Common.{◌≡◌, ℕ, Option, Some, None, refl, sym, ap,
 use Rattle.std.specs.Prelude.{is_some}
 use Rattle.std.specs.Option.{option_map}
 use Rattle.std.specs.FinMap as map
-use Rattle.mach_model.specs.State.{State, given_with, gives}
+use Rattle.mach_model.specs.State.{State, gives}
 use Rattle.tagged_names.specs.Names.{Given}
 use Rattle.name_space.specs.Names.{Names, SpaceView, given_after}
 use Rattle.port.specs.Ports.{PortsView}

@@ -112,20 +112,27 @@ module _ (old : WorldView) {profile : Profile} (spaces : List (Option SpaceView)
   pub ports_written : (new : PortsView Kept) → SamePorts ports new → tables profile spaces new ledger sets requests ≡ record old { ports = new }
   ports_written new s = same_world _ _ _ _ _ _ _ _ _ _ _ _ (same_read spaces ports new s ∙ ap (λ (w : WorldView). w.spaces) view) refl (ap (λ (w : WorldView). w.ledger) view) (ap (λ (w : WorldView). w.sets) view) (ap (λ (w : WorldView). w.requests) view) (ap (λ (w : WorldView). w.profile) view)
 
-  -- One port was put again.
-  module _ (p : ℕ) (v v2 : PortView Kept) (new : PortsView Kept) (there : map.get old.ports.ports p ≡ Some v)
-      (put : map.get ports.ports p ≡ Some v → new ≡ with_port ports p v2) where
+  -- One port was put again, and beside it no port came or went.
+  module _ (p : ℕ) (v : PortView Kept) (become : PortsView Kept → PortsView Kept) (keeps : (x : PortsView Kept) → map.get x.ports p ≡ Some v → SamePorts x (become x)) (new : PortsView Kept)
+      (there : map.get old.ports.ports p ≡ Some v) (is : map.get ports.ports p ≡ Some v → new ≡ become ports) where
     here : map.get ports.ports p ≡ Some v
     here = ap (λ (w : WorldView). map.get w.ports.ports p) view ∙ there
 
     port_same : SamePorts ports new
-    port_same = subst (SamePorts ports) (sym (put here)) (port_put ports p v v2 here)
+    port_same = subst (SamePorts ports) (sym (is here)) (keeps ports here)
 
+    pub changed_given : AreGiven spaces ports → AreGiven spaces new
+    changed_given = same_given spaces ports new port_same
+
+    pub changed_written : tables profile spaces new ledger sets requests ≡ record old { ports = become old.ports }
+    changed_written = ports_written new port_same ∙ ap (λ (x : PortsView Kept). record old { ports = x }) (is here ∙ ap (λ (w : WorldView). become w.ports) view)
+
+  module _ (p : ℕ) (v v2 : PortView Kept) (new : PortsView Kept) (there : map.get old.ports.ports p ≡ Some v) (is : map.get ports.ports p ≡ Some v → new ≡ with_port ports p v2) where
     pub port_given : AreGiven spaces ports → AreGiven spaces new
-    port_given = same_given spaces ports new port_same
+    port_given = changed_given p v (λ x. with_port x p v2) (λ x at. port_put x p v v2 at) new there is
 
     pub port_written : tables profile spaces new ledger sets requests ≡ record old { ports = with_port old.ports p v2 }
-    port_written = ports_written new port_same ∙ ap (λ (x : PortsView Kept). record old { ports = x }) (put here ∙ ap (λ (w : WorldView). with_port w.ports p v2) view)
+    port_written = changed_written p v (λ x. with_port x p v2) (λ x at. port_put x p v v2 at) new there is
 
 -- A port was made: it has a new identity, so no name that is kept is read otherwise.
 module _ (old : WorldView) {profile : Profile} (spaces : List (Option SpaceView)) (ports : PortsView Kept) (ledger : LedgerView) (sets : SetsView) (requests : RequestTablesView) (view : tables profile spaces ports ledger sets requests ≡ old)

@@ -1,6 +1,8 @@
 pub mod Carrying
 pub mod Envelope
 pub mod Kept
+pub mod Leaving
+pub mod Losing
 pub mod Queued
 pub mod Reading
 pub mod Requests

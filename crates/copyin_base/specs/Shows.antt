@@ -1,5 +1,5 @@
 -- When the kernel's tables show a state of the machine: they agree with it at each task, name, port and request.
-use Rattle.std.specs.Prelude.{◌≡◌, ℕ, ◌+◌, ◌<◌, ◌≤◌, ◌^◌, ◌%◌, Bool, true, List, [], ◌∷◌, length, Option, Some, is_some, IfSome, Contains}
+use Rattle.std.specs.Prelude.{◌≡◌, ℕ, ◌+◌, ◌<◌, ◌≤◌, ◌^◌, ◌%◌, Bool, true, List, [], ◌∷◌, length, Option, Some, is_some, Contains}
 use Rattle.std.specs.Option.{option_map, option_to_list}
 use Rattle.std.specs.FinMap as map
 use Rattle.mach_types.specs.declared.profiles.Profile.{Profile}

@@ -11,6 +11,7 @@ mod code;
 mod entries;
 mod envelope;
 mod find;
+mod losing;
 mod message;
 mod notice;
 mod queued;

@@ -1,7 +1,14 @@
 //! Requests for notices.
+ghost use Rattle.std.specs.Prelude.{◌≡◌, [], IfSome, IfNone};
+ghost use Rattle.std.specs.FinMap as map;
+ghost use Rattle.request_table.specs.Requests.{name_key};
+ghost use Rattle.copyin_base.specs.Leaving.{TakesWent, without_no_senders, without_on_name, without_port_destroyed};
+ghost use Rattle.copyin_base.specs.Requests.{request_left};
+
+use crate::world::World;
 use mach_types::{Name, PortId, TaskId};
 use number_map::NumberMap;
-use request_table::Requests;
+use request_table::{Request, Requests};
 use std::alloc::Global;
 use std::marker::Model;
 
@@ -53,5 +60,57 @@ impl RequestTables {
         if !self.names.is_empty() {
             self.names.leave(task, name);
         }
+    }
+}
+
+impl World {
+    /// The port's request to be told of no senders ends, if it stands. Returns its notify port. Takes no
+    /// memory. Constant time.
+    #[inline(always)]
+    pub fn take_no_senders(&mut self, port: PortId) -> Option<PortId>
+        ensures notify { result ≡ map.get self.old.requests.no_senders.map port }
+        ensures ended { self.new ≡ without_no_senders self.old port }
+    {
+        self.requests.no_senders.remove(port.number())
+    }
+
+    /// The port's request to be sent away ends, if it stands. Returns its notify port. Takes no memory.
+    /// Constant time.
+    #[inline(always)]
+    pub fn take_port_destroyed(&mut self, port: PortId) -> Option<PortId>
+        ensures notify { result ≡ map.get self.old.requests.port_destroyed.map port }
+        ensures ended { self.new ≡ without_port_destroyed self.old port }
+    {
+        self.requests.port_destroyed.remove(port.number())
+    }
+
+    /// The request on the task's name ends, if one stands, and is returned; its place is room for another.
+    /// Takes no memory. Constant time.
+    #[inline(always)]
+    pub fn take_on_name(&mut self, task: TaskId, name: Name) -> Option<Request>
+        ensures request { result ≡ map.get self.old.requests.names.requests (name_key task name) }
+        ensures some { IfSome result (λ r. self.new ≡ without_on_name self.old r) }
+        ensures none { IfNone result (self.new ≡ self.old) }
+    {
+        self.requests.names.remove(task, name)
+    }
+
+    /// Takes out the first of the requests whose names went, if there is one; its place is room for another.
+    /// Takes no memory. Constant time.
+    #[inline(always)]
+    pub fn take_went(&mut self) -> Option<Request>
+        ensures some { IfSome result (λ r. TakesWent self.old r self.new) }
+        ensures none { IfNone result ((self.old.requests.names.went ≡ []) × (self.new ≡ self.old)) }
+    {
+        self.requests.names.take_went()
+    }
+
+    /// The task's name goes, or is about to: the request on it, if there is one, ends, and is the last of
+    /// those whose right waits to pay. Takes no memory. Constant time.
+    #[inline(always)]
+    pub fn leave_name(&mut self, task: TaskId, name: Name)
+        ensures { self.new ≡ record self.old { requests = request_left self.old.requests task name } }
+    {
+        self.requests.leave(task, name);
     }
 }

@@ -8,7 +8,6 @@ use Rattle.std.specs.Option.{option_map}
 use Rattle.std.proofs.lemmas.Bool.{eq-eqb, lt-ltb, ltb-true}
 use Rattle.std.specs.FinMap.{len-insert}
 use Rattle.std.specs.Cmp.{nat_cmp_total}
-use Rattle.mach_types.specs.declared.profiles.Profile.{Profile}
 use Rattle.mach_types.specs.Numbers.{most_references}
 use Rattle.mach_types.specs.Tokens.{send, Request, Token, no_senders, port_destroyed, dead_name}
 use Rattle.mach_model.proofs.Names.{removed_own, alike, at_own, at_other, get_own, get_other}
@@ -19,20 +18,17 @@ use Rattle.mach_model.specs.Turns.{Ending, is_among, lives_after, IsRequestOf, I
 use Rattle.mach_model.proofs.SettledEnd.{settled_port}
 use Rattle.mach_model.proofs.SettledReceives.{and_false, or_left}
 use Rattle.mach_model.proofs.TurnsMade.{bury}
-use Rattle.number_map.specs.Maps.{MapView}
-use Rattle.rights.specs.Ledger.{LedgerView, IsEntered, left}
-use Rattle.rights.specs.Unused.{IsUnusedOfAll}
+use Rattle.rights.specs.Ledger.{IsEntered, left}
 use Rattle.name_space.specs.Names.{SpaceView}
 use Rattle.name_space.specs.declared.Entry.{Entry}
 use Rattle.name_space.specs.declared.Entry.TheVariants as named
 use Rattle.name_space.specs.Entry.{port_of, port_named, has_receive, send_references}
 use Rattle.name_space.specs.declared.Entry.TheVariants.{Receive, Send, ReceiveAndSend, SendOnce, DeadName, Set}
 use Rattle.member_lists.specs.Lists.{without}
-use Rattle.port.specs.Ports.{PortsView, PortView}
+use Rattle.port.specs.Ports.{PortView}
 use Rattle.port.specs.declared.Holder.TheVariants as holder
 use Rattle.port.specs.Holding.{IsHeldBy, NoneHeldBy}
-use Rattle.port_set.specs.Sets.{SetsView}
-use Rattle.request_table.specs.Requests.{RequestsView, name_key, key_of, without_request as taken_out, NoneOn}
+use Rattle.request_table.specs.Requests.{name_key, key_of, without_request as taken_out, NoneOn}
 use Rattle.request_table.specs.declared.Request.{Request as NameRequest}
 use Rattle.copyin_base.specs.Kept.{Kept}
 use Rattle.copyin_base.specs.Worlds.{WorldView, space_at, entry_in, entry_at, port_at, put}
@@ -42,12 +38,13 @@ use Rattle.copyin_base.specs.declared.notice.Notice.TheVariants as notice
 use Rattle.copyin_base.specs.Queued.{notice_kept}
 use Rattle.copyin_base.specs.Requests.{RequestTablesView, notify_of}
 use Rattle.copyin_base.specs.Shows.{target_of, CarriesReceive, IsOnName}
-use Rattle.copyin_base.proofs.Reading.{named_port, get_read}
+use Rattle.copyin_base.proofs.Reading.{named_port}
 use Rattle.copyin_base.proofs.Requesting.{same_key}
 use Rattle.copyin_base.proofs.Spaces.{space-set_same, space-set_other}
 use Rattle.copyin_base.specs.Changes.{CanPutLeft, PutsLeft}
-use Rattle.copyin_base.specs.Reading.{reading, read_names, read_space, read_spaces, live_in, AreGiven}
-use Rattle.notifications.specs.Posting.{CanPost}
+use Rattle.copyin_base.specs.Reading.{read_spaces, live_in}
+use Rattle.copyin_base.specs.Leaving.{port_removed, without_no_senders, without_on_name, without_port_destroyed}
+use Rattle.copyin_base.specs.Losing.{CanPost}
 use Rattle.destroy.specs.Burying.{dead_count, IsDueOn, EndsRequests, IsNone, IsNextToBury, IsAny, IsOnName as IsRequestOnName, without_port, buried}
 use Rattle.destroy.specs.Paying.{LivesIn, Pays, PaysMany}
 use Rattle.destroy.proofs.BuryEnd.{of_settled, buried_between, buried_told, gone_ended, listed_now, there_now, unburied}
@@ -78,33 +75,11 @@ pub is_none : {A : Type 0} (o : Option A) → ((x : A) → o ≡ Some x → ⊥)
 is_none None none = refl
 is_none (Some x) none = absurd (none x refl)
 
-abbrev pub no_senders_less : WorldView → ℕ → WorldView
-no_senders_less w p = record w { requests = record w.requests { no_senders = record w.requests.no_senders { map = map.remove w.requests.no_senders.map p } } }
-
-abbrev pub saving_less : WorldView → ℕ → WorldView
-saving_less w p = record w { requests = record w.requests { port_destroyed = record w.requests.port_destroyed { map = map.remove w.requests.port_destroyed.map p } } }
-
-pub senders_absent : (w : WorldView) (p : ℕ) → map.get w.requests.no_senders.map p ≡ None → no_senders_less w p ≡ w
+pub senders_absent : (w : WorldView) (p : ℕ) → map.get w.requests.no_senders.map p ≡ None → without_no_senders w p ≡ w
 senders_absent w p none = ap (λ m. record w { requests = record w.requests { no_senders = record w.requests.no_senders { map = m } } }) (absent_stays w.requests.no_senders.map p none)
 
-pub saving_absent : (w : WorldView) (p : ℕ) → map.get w.requests.port_destroyed.map p ≡ None → saving_less w p ≡ w
+pub saving_absent : (w : WorldView) (p : ℕ) → map.get w.requests.port_destroyed.map p ≡ None → without_port_destroyed w p ≡ w
 saving_absent w p none = ap (λ m. record w { requests = record w.requests { port_destroyed = record w.requests.port_destroyed { map = m } } }) (absent_stays w.requests.port_destroyed.map p none)
-
-module _ (old : WorldView) {profile : Profile} (spaces : List (Option SpaceView)) (ports : PortsView Kept) (ledger : LedgerView) (sets : SetsView) (names : RequestsView) (senders saving : MapView ℕ)
-    (view : tables profile spaces ports ledger sets (record { names = names; no_senders = senders; port_destroyed = saving }) ≡ old) (k p : ℕ) (key : k ≡ p) (new : MapView ℕ) where
-  pub senders_taken : new ≡ record senders { map = map.remove senders.map k } → tables profile spaces ports ledger sets (record { names = names; no_senders = new; port_destroyed = saving }) ≡ no_senders_less old p
-  senders_taken is = ap (λ (x : MapView ℕ). tables profile spaces ports ledger sets (record { names = names; no_senders = x; port_destroyed = saving })) is
-      ∙ ap (λ (w : WorldView). no_senders_less w k) view ∙ ap (no_senders_less old) key
-
-  pub saving_taken : new ≡ record saving { map = map.remove saving.map k } → tables profile spaces ports ledger sets (record { names = names; no_senders = senders; port_destroyed = new }) ≡ saving_less old p
-  saving_taken is = ap (λ (x : MapView ℕ). tables profile spaces ports ledger sets (record { names = names; no_senders = senders; port_destroyed = x })) is
-      ∙ ap (λ (w : WorldView). saving_less w k) view ∙ ap (saving_less old) key
-
-  pub senders_found : (o : Option ℕ) → o ≡ map.get senders.map k → o ≡ map.get old.requests.no_senders.map p
-  senders_found o is = is ∙ (λ i. map.get ((ap (λ (w : WorldView). w.requests.no_senders.map) view) i) (key i))
-
-  pub saving_found : (o : Option ℕ) → o ≡ map.get saving.map k → o ≡ map.get old.requests.port_destroyed.map p
-  saving_found o is = is ∙ (λ i. map.get ((ap (λ (w : WorldView). w.requests.port_destroyed.map) view) i) (key i))
 
 -- ---- A request on a name of a doomed port ends: the name is dead at once.
 
@@ -113,10 +88,6 @@ counts_dead n some = omega (arith, some)
 
 bare : (name q : ℕ) → ¬ (CarriesReceive (notice_kept (notice.DeadName name)) q)
 bare name q (i, below, is) = absurd (omega (arith, below))
-
--- the tables without the request
-abbrev pub name_less : WorldView → NameRequest → WorldView
-name_less w q = record w { requests = record w.requests { names = taken_out w.requests.names q } }
 
 module _ (now : ℕ) (tables : WorldView) (old mid : State) (owed : Owed) (e : Ending) (w : WorldView) (b : Between now tables old mid owed e w) (told : AreTold mid e w) (port : ℕ) (held_by : IsHeldBy w.ports port holder.Doomed)
     (q : NameRequest) (is_kept : map.get w.requests.names.requests (key_of q) ≡ Some q) (is_port : q.port ≡ port) where
@@ -307,7 +278,7 @@ module _ (now : ℕ) (tables : WorldView) (old mid : State) (owed : Owed) (e : E
         let c = can_pay now tables old mid owed e w b told port held_by r q.notify was is_of_port (record { v = there.v; there = there.there; undoomed = there.undoomed }) in
         record { live = c.live; paid = c.paid; slots = c.slots }
 
-    pub name_ends : IsUnusedOfAll w.ledger → (number : ℕ) (new : WorldView) → Pays ended q.notify (notice.DeadName q.name) new → PaysMany ended q.notify number →
+    pub name_ends : (number : ℕ) (new : WorldView) → Pays ended q.notify (notice.DeadName q.name) new → PaysMany ended q.notify number →
         (f : Ending) × Between now tables old mid owed f new × IsCount e.turns f.turns number × SameSlots e w f new × AreTold mid f new
         × ((x : Request) → is_among e.ended x ≡ true → is_among f.ended x ≡ true) × (is_among f.ended r ≡ true)
     name_ends = ends_so now tables old mid owed e w b told port held_by r q.notify was is_of_port spaces rq naming named_so agrees framed (λ p h. h) (notice.DeadName q.name) refl (λ at. refl) (bare q.name)
@@ -315,17 +286,9 @@ module _ (now : ℕ) (tables : WorldView) (old mid : State) (owed : Owed) (e : E
 -- ---- What ending a request on a name of a doomed port asks of the tables, and what it promises.
 
 -- the request was taken out of the tables
-module _ (old : WorldView) {profile : Profile} (spaces : List (Option SpaceView)) (ports : PortsView Kept) (ledger : LedgerView) (sets : SetsView) (names : RequestsView) (senders saving : MapView ℕ)
-    (view : tables profile spaces ports ledger sets (record { names = names; no_senders = senders; port_destroyed = saving }) ≡ old) (q : NameRequest) (is_kept : map.get old.requests.names.requests (key_of q) ≡ Some q) (new : RequestsView)
-    (o : Option NameRequest) (kept : o ≡ map.get names.requests (key_of q)) (some : IfSome o (λ r. new ≡ taken_out names r)) where
-  found_named : o ≡ Some q
-  found_named = kept ∙ ap (λ (w : WorldView). map.get w.requests.names.requests (key_of q)) view ∙ is_kept
-
-  is : new ≡ taken_out names q
-  is = subst (λ (x : Option NameRequest). IfSome x (λ r. new ≡ taken_out names r)) found_named some
-
-  pub name_taken : tables profile spaces ports ledger sets (record { names = new; no_senders = senders; port_destroyed = saving }) ≡ name_less old q
-  name_taken = ap (λ (x : RequestsView). tables profile spaces ports ledger sets (record { names = x; no_senders = senders; port_destroyed = saving })) is ∙ ap (λ (w : WorldView). name_less w q) view
+pub name_taken : (old : WorldView) (q : NameRequest) (o : Option NameRequest) (new : WorldView) → o ≡ map.get old.requests.names.requests (key_of q) → map.get old.requests.names.requests (key_of q) ≡ Some q →
+    IfSome o (λ r. new ≡ without_on_name old r) → new ≡ without_on_name old q
+name_taken old q o new kept there some = subst (λ (x : Option NameRequest). IfSome x (λ r. new ≡ without_on_name old r)) (kept ∙ there) some
 
 -- a map that has a key has more
 some_fewer : (m : map.FinMap nat_cmp NameRequest) (k : ℕ) (v : NameRequest) → map.get m k ≡ Some v → map.len (map.remove m k) < map.len m
@@ -349,13 +312,13 @@ one_entry : (a b : Entry) → Some a ≡ Some b → a ≡ b
 one_entry a b e = cc
 
 -- something stands under the name
-pub entry_there : (port : ℕ) (q : NameRequest) (w : WorldView) → IsDueOn port q w → (u : WorldView) → u ≡ name_less w q → (x : Entry) × (entry_at u q.task q.name ≡ Some x)
+pub entry_there : (port : ℕ) (q : NameRequest) (w : WorldView) → IsDueOn port q w → (u : WorldView) → u ≡ without_on_name w q → (x : Entry) × (entry_at u q.task q.name ≡ Some x)
 entry_there port q w due u is_u =
     let a = due.next.at in
     let o = a.between.requested.on_names (key_of q) q due.is_on.there in
     (o.entry, ap (λ (y : WorldView). entry_at y q.task q.name) is_u ∙ o.found)
 
-module _ (port : ℕ) (q : NameRequest) (w : WorldView) (due : IsDueOn port q w) (u : WorldView) (is_u : u ≡ name_less w q) (x : Entry) (at : entry_at u q.task q.name ≡ Some x)
+module _ (port : ℕ) (q : NameRequest) (w : WorldView) (due : IsDueOn port q w) (u : WorldView) (is_u : u ≡ without_on_name w q) (x : Entry) (at : entry_at u q.task q.name ≡ Some x)
     (d : Entry) (is_d : d ≡ named.DeadName (dead_count (send_references x))) where
   pub can_put : CanPutLeft u q.task q.name (Some d)
   can_put =
@@ -393,19 +356,19 @@ module _ (port : ℕ) (q : NameRequest) (w : WorldView) (due : IsDueOn port q w)
       post : LivesIn z q.notify → CanPost z q.notify
       post = subst (λ (y : WorldView). LivesIn y q.notify → CanPost y q.notify) (sym z_as) (name_post now tables old mid owed e w b told port due.next.doomed q due.is_on.there due.is_on.is p.space there)
 
-      ends : IsUnusedOfAll w.ledger → (many : ℕ) (v : WorldView) → Pays z q.notify (notice.DeadName q.name) v → PaysMany z q.notify many →
+      ends : (many : ℕ) (v : WorldView) → Pays z q.notify (notice.DeadName q.name) v → PaysMany z q.notify many →
           (f : Ending) × Between now tables old mid owed f v × IsCount e.turns f.turns many × SameSlots e w f v × AreTold mid f v
           × ((x : Request) → is_among e.ended x ≡ true → is_among f.ended x ≡ true) × (is_among f.ended (dead_name q.task q.name) ≡ true)
-      ends all many v pays counts = name_ends now tables old mid owed e w b told port due.next.doomed q due.is_on.there due.is_on.is p.space there all many v
+      ends many v pays counts = name_ends now tables old mid owed e w b told port due.next.doomed q due.is_on.there due.is_on.is p.space there many v
           (subst (λ (y : WorldView). Pays y q.notify (notice.DeadName q.name) v) z_as pays) (subst (λ (y : WorldView). PaysMany y q.notify many) z_as counts)
 
     pub named_post : LivesIn z q.notify → CanPost z q.notify
     named_post = let a = due.next.at in post a.now a.tables a.old a.mid a.owed a.ending a.between a.stage_is
 
-    module _ (all : IsUnusedOfAll w.ledger) (v : WorldView) (pays : Pays z q.notify (notice.DeadName q.name) v) where
+    module _ (v : WorldView) (pays : Pays z q.notify (notice.DeadName q.name) v) where
       pub named_ends : (many : ℕ) → PaysMany z q.notify many → EndsRequests port IsNone w many v
       named_ends many pays_many = record {
-        goes_on = λ now tables old mid owed e b told. let g = ends now tables old mid owed e b told all many v pays pays_many in (g.0, g.1, g.2, g.3, g.4, g.5, (λ r none. absurd none));
+        goes_on = λ now tables old mid owed e b told. let g = ends now tables old mid owed e b told many v pays pays_many in (g.0, g.1, g.2, g.3, g.4, g.5, (λ r none. absurd none));
         doomed = pays_doomed z q.notify (notice.DeadName q.name) v pays (lives_or_not z q.notify) port (subst (λ (y : WorldView). IsHeldBy y.ports port holder.Doomed) (sym z_is) (record { view = due.next.doomed.view; there = due.next.doomed.there; holder_is = due.next.doomed.holder_is }));
         ports = pays_ports z q.notify (notice.DeadName q.name) v pays (lives_or_not z q.notify) ∙ ap (λ (y : WorldView). map.len y.ports.ports) z_is;
         rooms = renamed_rooms w v q.task p.space _ there (pays_spaces z q.notify (notice.DeadName q.name) v pays (lives_or_not z q.notify) ∙ ap (λ (y : WorldView). y.spaces) z_is);
@@ -604,45 +567,13 @@ all_buried w t v c none all now tables old mid owed e b told =
 
 -- ---- the tables of a port that left
 
--- what is read with fewer ports is what is read of what was read before
-read_twice : (live live2 : ℕ → Bool) (x : Entry) → ((p : ℕ) → live2 p ≡ true → live p ≡ true) → reading live2 (reading live x) ≡ reading live2 x
-read_twice live live2 (Receive p) fewer = grind arith
-read_twice live live2 (Send p n) fewer = grind arith
-read_twice live live2 (ReceiveAndSend p n) fewer = grind arith
-read_twice live live2 (SendOnce p) fewer = grind arith
-read_twice live live2 (DeadName n) fewer = refl
-read_twice live live2 (Set x) fewer = refl
-
-spaces_twice : (live live2 : ℕ → Bool) → ((p : ℕ) → live2 p ≡ true → live p ≡ true) → (xs : List (Option SpaceView)) → read_spaces live2 (read_spaces live xs) ≡ read_spaces live2 xs
-spaces_twice live live2 fewer [] = refl
-spaces_twice live live2 fewer (x ∷ xs) = let h = one x in let t = spaces_twice live live2 fewer xs in λ i. h i ∷ t i
-  where
-    each : (o : Option Entry) → option_map (reading live2) (option_map (reading live) o) ≡ option_map (reading live2) o
-    each None = refl
-    each (Some y) = ap Some (read_twice live live2 y fewer)
-
-    one : (o : Option SpaceView) → option_map (read_space live2) (option_map (read_space live) o) ≡ option_map (read_space live2) o
-    one None = refl
-    one (Some y) = ap (λ m. Some (record y { names = m })) (alike _ _ (λ n. get_read live2 (read_names live y.names) n ∙ ap (option_map (reading live2)) (get_read live y.names n) ∙ each (map.get y.names n) ∙ sym (get_read live2 y.names n)))
-
-module _ (old : WorldView) {profile : Profile} (spaces : List (Option SpaceView)) (ports : PortsView Kept) (ledger : LedgerView) (sets : SetsView) (requests : RequestTablesView) (view : tables profile spaces ports ledger sets requests ≡ old)
-    (port : ℕ) (new : PortsView Kept) (doomed : List ℕ) (is : new ≡ without_port ports port doomed) where
-  fewer : (p : ℕ) → live_in new p ≡ true → live_in ports p ≡ true
-  fewer p h = grind (arith, removed_own, get_removed)
-
-  pub left_given : AreGiven spaces ports → AreGiven spaces new
-  left_given g = record {
-    kept = λ task name space entry p there found for. let h = g.kept task name space entry p there found for in let m : new.made ≡ ports.made = ap (λ (x : PortsView Kept). x.made) is in omega (arith, h, m);
-    there = λ p lives. let h = g.there p (fewer p lives) in let m : new.made ≡ ports.made = ap (λ (x : PortsView Kept). x.made) is in omega (arith, h, m);
-  }
-
-  pub port_left : (counts : LedgerView) → counts ≡ left ledger port → tables profile spaces new counts sets requests ≡ buried old port doomed
-  port_left counts e =
-      (λ i. record { spaces = sym (spaces_twice (live_in ports) (live_in new) fewer spaces) i; ports = new; ledger = e i; sets = sets; requests = requests; profile = profile })
-      ∙ (λ i. record { spaces = read_spaces (live_in (is i)) (read_spaces (live_in ports) spaces); ports = is i; ledger = left ledger port; sets = sets; requests = requests; profile = profile })
-      ∙ ap (λ (w : WorldView). buried w port doomed) view
-
--- the ports that are left, where none was lost or noted
-pub left_ports : (w : WorldView) {profile : Profile} (spaces : List (Option SpaceView)) (ports : PortsView Kept) (ledger : LedgerView) (sets : SetsView) (requests : RequestTablesView) → tables profile spaces ports ledger sets requests ≡ w → (port : ℕ) → IsNextToBury port w →
-    (new : PortsView Kept) → new ≡ record ports { ports = map.remove ports.ports port; lost = without port ports.lost; doomed = without port ports.doomed; noted = without port ports.noted } → new ≡ without_port ports port (without port ports.doomed)
-left_ports w {profile} spaces ports ledger sets requests view port i new is = grind arith
+-- none was lost or noted
+pub removed_buried : (w : WorldView) (port : ℕ) → IsNextToBury port w → port_removed w port ≡ buried w port (without port w.ports.doomed)
+removed_buried w port i =
+    let lost : without port w.ports.lost ≡ [] = ap (without port) i.at.stage_is.lost.judged.none_lost in
+    let noted : without port w.ports.noted ≡ [] = ap (without port) i.at.stage_is.none_noted in
+    λ k. record w {
+      spaces = read_spaces (live_in (record (without_port w.ports port (without port w.ports.doomed)) { lost = lost k; noted = noted k })) w.spaces;
+      ports = record (without_port w.ports port (without port w.ports.doomed)) { lost = lost k; noted = noted k };
+      ledger = left w.ledger port;
+    }

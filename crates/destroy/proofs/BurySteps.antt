@@ -15,7 +15,6 @@ use Rattle.mach_model.proofs.Names.{removed_own}
 use Rattle.mach_model.proofs.TurnsCounted.{one_all}
 use Rattle.mach_model.proofs.TurnsMade.{same_request_is, among_later}
 use Rattle.rights.specs.Ledger.{counts_of}
-use Rattle.rights.specs.Unused.{IsUnusedOfAll}
 use Rattle.name_space.specs.Names.{SpaceView}
 use Rattle.port.specs.declared.Holder.TheVariants as holder
 use Rattle.port.specs.Holding.{IsHeldBy}
@@ -35,9 +34,9 @@ use Rattle.copyin_base.specs.declared.notice.Notice.TheVariants.{SendOnce, NoSen
 use Rattle.copyin_base.specs.declared.message.Carried.{Carried}
 use Rattle.copyin_base.specs.declared.message.Mark.{Mark}
 use Rattle.copyin_base.specs.declared.message.Mark.TheVariants as mark
-use Rattle.notifications.specs.Posting.{CanPost}
+use Rattle.copyin_base.specs.Leaving.{without_no_senders}
+use Rattle.copyin_base.specs.Losing.{CanPost}
 use Rattle.notifications.specs.SoFar.{AgreesOf}
-use Rattle.notifications.proofs.NoticePosted.{some_spare}
 use Rattle.destroy.specs.Between.{Between}
 use Rattle.destroy.specs.Burying.{AsksNone, IsAny, IsNextToBury, EndsRequests}
 use Rattle.destroy.specs.Paying.{LivesIn, Pays, PaysMany}
@@ -50,7 +49,7 @@ use Rattle.destroy.proofs.RequestEnds.{may_post, all_off, none_off, dead_ending,
 use Rattle.destroy.proofs.TellTurns.{ended as senders_less, own_ended, others_stay}
 use Rattle.destroy.specs.Stages.{AreTold, IsCount, SameSlots}
 use Rattle.destroy.proofs.Rooms.{same_rooms, pays_spaces}
-use Rattle.destroy.specs.Telling.{TellsOf, taken_out, without_no_senders}
+use Rattle.destroy.specs.Telling.{TellsOf, taken_out}
 
 -- ---- A request of a doomed port ends, in a turn, and the tables are between turns again.
 
@@ -111,12 +110,11 @@ module _ (now : ℕ) (tables : WorldView) (old mid : State) (owed : Owed) (e : E
         let has = fewer q (ap (λ (x : RequestTablesView). map.contains_key x.no_senders.map q) (sym requests) ∙ s.asked) in
         b.noted q alive some (record { live = b.requested.no_senders q has; asked = has; none = sends q s.none })
 
-    pub ends_so : IsUnusedOfAll w.ledger → (number : ℕ) (new : WorldView) → Pays (record w { spaces = spaces; requests = rq }) notify notice new → PaysMany (record w { spaces = spaces; requests = rq }) notify number →
+    pub ends_so : (number : ℕ) (new : WorldView) → Pays (record w { spaces = spaces; requests = rq }) notify notice new → PaysMany (record w { spaces = spaces; requests = rq }) notify number →
         (f : Ending) × Between now tables old mid owed f new × IsCount e.turns f.turns number × SameSlots e w f new × AreTold mid f new
         × ((q : Request) → is_among e.ended q ≡ true → is_among f.ended q ≡ true) × (is_among f.ended r ≡ true)
-    ends_so all number new pays many =
-        let g = request_ends now tables old mid owed e w l b.tied.waiting b.unlost r notify asked spaces rq naming (r ∷ e.ended) e.told notice stands_now named agrees framed none bare paid_turn dead_turn told.lost noted b.had
-        (λ there. let c = can_pay there in some_spare w notify all c.paid c.slots) number new pays many in (
+    ends_so number new pays many =
+        let g = request_ends now tables old mid owed e w l b.tied.waiting b.unlost r notify asked spaces rq naming (r ∷ e.ended) e.told notice stands_now named agrees framed none bare paid_turn dead_turn told.lost noted b.had number new pays many in (
           g.0,
           g.1,
           g.2,
@@ -167,7 +165,7 @@ module _ (port : ℕ) (w : WorldView) (next : IsNextToBury port w) (n : ℕ) whe
       let c = can_pay next.at.now next.at.tables next.at.old next.at.mid next.at.owed next.at.ending w next.at.between next.at.stage_is port next.doomed (port_destroyed port) n was refl (record { v = there.v; there = there.there; undoomed = there.undoomed }) in
       record { live = c.live; paid = c.paid; slots = c.slots }
 
-  module _ (all : IsUnusedOfAll w.ledger) (v : WorldView) (many : ℕ) where
+  module _ (v : WorldView) (many : ℕ) where
     -- so such a request ends, if it ends so from wherever the tables are between turns
     one_ended : (r : Request) (rq : RequestTablesView) → Pays (record w { requests = rq }) n SendOnce v →
         ((now : ℕ) (tables : WorldView) (old mid : State) (owed : Owed) (e : Ending) → Between now tables old mid owed e w → AreTold mid e w →
@@ -187,7 +185,7 @@ module _ (port : ℕ) (w : WorldView) (next : IsNextToBury port w) (n : ℕ) whe
         (λ xs g. request_ended (lives_after mid e) w b.tied.state b.tied.agrees (senders_less w.requests port) (no_senders port) n xs (own_ended w.requests port) was (others_stay w.requests port) b.went b.went g (λ q h. same_request_is q (no_senders port) h))
         (framed_stays w (without_no_senders w port) (same_ports w (without_no_senders w port) refl refl refl refl (λ q h. kept_has w.requests.no_senders.map port q h) refl) mid e e refl refl refl
         (loose_of now tables old mid owed e w b).framed)
-        (λ q h. kept_has w.requests.no_senders.map port q h) SendOnce refl (λ at. refl) no_bare all many v pays counts)
+        (λ q h. kept_has w.requests.no_senders.map port q h) SendOnce refl (λ at. refl) no_bare many v pays counts)
 
     pub saving_ended : map.get w.requests.port_destroyed.map port ≡ Some n → Pays (record w { requests = saving_less w.requests port }) n SendOnce v → PaysMany (record w { requests = saving_less w.requests port }) n many →
         EndsRequests port (λ r. r ≡ port_destroyed port) w many v
@@ -196,7 +194,7 @@ module _ (port : ℕ) (w : WorldView) (next : IsNextToBury port w) (n : ℕ) whe
         (names_stay mid e.ended b.tied.state.live_port b.tied.state.naming (port_destroyed port) (λ task name. refl) b.tied.so_far.names)
         (λ xs g. request_ended (lives_after mid e) w b.tied.state b.tied.agrees (saving_less w.requests port) (port_destroyed port) n xs (removed_own w.requests.port_destroyed.map port) was (saving_other w.requests port) b.went b.went g (λ q h. same_request_is q (port_destroyed port) h))
         (saving_framed mid e (loose_of now tables old mid owed e w b).framed)
-        (λ q h. h) SendOnce refl (λ at. refl) no_bare all many v pays counts)
+        (λ q h. h) SendOnce refl (λ at. refl) no_bare many v pays counts)
       where
         saving_framed : (mid : State) (e : Ending) → Framed mid e w → Framed mid e (record w { requests = saving_less w.requests port })
         saving_framed mid e f = record {
@@ -255,7 +253,7 @@ same w v is = ap (λ (x : WorldView). x.spaces) is
 of_kind : (kind : Kind) (port : ℕ) (w : WorldView) (turns : ℕ) (v : WorldView) → LosesOf kind port w turns v → v.spaces ≡ w.spaces
 of_kind receive port w turns v h = same w v h.1
 of_kind send port w turns v h = let a = h.1 in ap (λ (x : WorldView). x.spaces) a.rest
-of_kind send_once port w turns v h = let a = h.2 in ap (λ (x : WorldView). x.spaces) a.rest
+of_kind send_once port w turns v h = let a = h.1 in ap (λ (x : WorldView). x.spaces) a.rest
 
 of_mark : (kind : Kind) (m : Mark) (w : WorldView) (turns : ℕ) (v : WorldView) → LosesMark kind m w turns v → v.spaces ≡ w.spaces
 of_mark kind (mark.Port p) w turns v (inl h) = of_kind kind p w turns v h.1

@@ -7,11 +7,11 @@ use Rattle.port.specs.Holding.{NoneHeldBy}
 use Rattle.port.specs.Idle.{IsIdle as AreIdle}
 use Rattle.request_table.specs.declared.Request.{Request as NameRequest}
 use Rattle.copyin_base.specs.Worlds.{WorldView, IsIdle}
-use Rattle.destroy.specs.Stages.{IsJudged, AreLost, AreTold, AreBuried, IsStarted, Continues, Starts, SettlesIn}
-use Rattle.destroy.proofs.EndSteps.{TellsDoomed, settles}
+use Rattle.destroy.specs.Stages.{IsJudged, AreLost, AreTold, AreBuried, IsStarted, Continues, Starts, SettlesIn, TellsDoomed, TellsLost}
+use Rattle.destroy.proofs.EndSteps.{settles}
 use Rattle.destroy.proofs.Counting.{count_none}
 use Rattle.destroy.proofs.JudgeDoomed.{judges_all}
-use Rattle.destroy.proofs.PayTurns.{TellsLost, pays_all, pays_first}
+use Rattle.destroy.proofs.PayTurns.{pays_all, pays_first}
 
 -- ---- what is told of ports and of requests is told of the tables
 

@@ -42,7 +42,7 @@ use Rattle.notifications.specs.SoFar.{due_so_far, entries_at, posted_from, poste
 use Rattle.destroy.proofs.LoseCounts.{none_taken, buried_doomed}
 use Rattle.destroy.proofs.PayLives.{kept_live}
 use Rattle.destroy.specs.Between.{Between}
-use Rattle.destroy.specs.Stages.{AreBuried, IsJudged, AreLost, AreTold, IsStarted, IsAt, SameSlots, Continues, IsMidway, Starts, SettlesIn}
+use Rattle.destroy.specs.Stages.{AreBuried, IsJudged, AreLost, AreTold, IsStarted, IsAt, SameSlots, Continues, IsMidway, Starts, SettlesIn, TellsDoomed}
 
 -- ---- How a chain of turns began.
 
@@ -541,10 +541,6 @@ continued before after w so_many v at goes =
     record { now = at.now; tables = at.tables; old = at.old; mid = at.mid; owed = at.owed; ending = a.0; between = a.1; stage_is = a.4 }
 
 -- ---- the end
-
--- The list of doomed ports is just of those that are held so.
-abbrev pub TellsDoomed : WorldView → Type 0
-TellsDoomed w = (port : ℕ) → Contains w.ports.doomed port ↔ IsHeldBy w.ports port holder.Doomed
 
 pub tells_doomed : (w : WorldView) (ports : PortsView Kept) → ports ≡ w.ports → ((port : ℕ) → Contains ports.doomed port ↔ IsHeldBy ports port holder.Doomed) → TellsDoomed w
 tells_doomed w ports is all = subst (λ (p : PortsView Kept). (port : ℕ) → Contains p.doomed port ↔ IsHeldBy p port holder.Doomed) is all

@@ -15,7 +15,6 @@ use Rattle.mach_model.specs.State.{State}
 use Rattle.mach_model.specs.Notices.{Owed, port_sent}
 use Rattle.mach_model.specs.Turns.{Ending}
 use Rattle.mach_model.proofs.TurnsMade.{kept_right}
-use Rattle.rights.specs.Unused.{IsUnusedOfAll}
 use Rattle.port.specs.declared.Holder.{Holder}
 use Rattle.port.specs.declared.Holder.TheVariants as holder
 use Rattle.port.specs.Holding.{held}
@@ -27,9 +26,9 @@ use Rattle.copyin_base.specs.Worlds.{WorldView, port_at}
 use Rattle.copyin_base.proofs.Gets.{of_some, same_found}
 use Rattle.copyin_base.proofs.Putting.{each_put}
 use Rattle.copyin_base.specs.declared.notice.Notice.TheVariants.{PortDestroyed}
-use Rattle.notifications.specs.Posting.{CanPost, Posts}
-use Rattle.notifications.proofs.NoticePosted.{some_spare}
-use Rattle.destroy.specs.Judging.{receive_right, CarriesAmong, IsQueued, LosesPort, LosesAt, LosesAmong, last_destroyed, CanSend, EndsRequest, ResetsPort, HoldsPort, brought}
+use Rattle.copyin_base.specs.Leaving.{without_port_destroyed}
+use Rattle.copyin_base.specs.Losing.{CanPost, Posts}
+use Rattle.destroy.specs.Judging.{receive_right, CarriesAmong, IsQueued, LosesPort, LosesAt, LosesAmong, last_destroyed, CanSend, ResetsPort, HoldsPort, brought}
 use Rattle.destroy.specs.Between.{Between}
 use Rattle.destroy.specs.Stages.{IsStarted, IsEmptied, Continues}
 use Rattle.destroy.proofs.Counting.{count_one}
@@ -219,13 +218,10 @@ module _ (m : Kept) (old : WorldView) (last : last_destroyed old ≡ Some m) whe
 
 -- ---- A port was sent away: that is a turn, and the tables are again as between two.
 
-module _ (w : WorldView) (p n : ℕ) (c : CanSend w p n) (all : IsUnusedOfAll w.ledger) (w1 : WorldView) (posts : Posts w n (PortDestroyed p) w1) (w2 : WorldView) (ends : EndsRequest w1 p w2)
+module _ (w : WorldView) (p n : ℕ) (c : CanSend w p n) (w1 : WorldView) (posts : Posts w n (PortDestroyed p) w1) (w2 : WorldView) (ends : w2 ≡ without_port_destroyed w1 p)
     (w3 : WorldView) (resets : ResetsPort w2 p w3) (w4 : WorldView) (holds : HoldsPort w3 p n w4) (w5 : WorldView) (is : w5 ≡ record w4 { ledger = brought w4.ledger p }) where
   able : CanPost w n
   able = can_post w p n c
-
-  some : 0 < w.ports.spare
-  some = some_spare w n all able.paid able.slots
 
   module _ (now : ℕ) (tables : WorldView) (old mid : State) (owed : Owed) (e : Ending) (b : Between now tables old mid owed e w) (started : IsStarted mid e w) where
     abbrev v : WorldView
@@ -256,6 +252,6 @@ module _ (w : WorldView) (p n : ℕ) (c : CanSend w p n) (all : IsUnusedOfAll w.
         f now tables old mid owed e w b p n c.lost c.goes,
         between now tables old mid owed e b started,
         count_one e.turns _ refl,
-        (let a = length-append e.paid ((kept_right n p, port_sent p) ∷ []) in let d = some in omega (arith, a, d)),
+        (let a = length-append e.paid ((kept_right n p, port_sent p) ∷ []) in let d = posts.spare in omega (arith, a, d)),
         emptied now tables old mid owed e b started,
       ))

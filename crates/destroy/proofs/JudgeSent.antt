@@ -46,11 +46,13 @@ use Rattle.copyin_base.proofs.Listed.{listed_one}
 use Rattle.copyin_base.specs.Requests.{RequestTablesView, notify_of, rights_kept, rights_went, RequestsAgree}
 use Rattle.copyin_base.proofs.Counting.{counts_agree, counts_same}
 use Rattle.copyin_base.proofs.Requesting.{ended_more}
-use Rattle.notifications.specs.Posting.{CanPost, Posts}
+use Rattle.copyin_base.specs.Leaving.{without_port_destroyed}
+use Rattle.copyin_base.specs.Losing.{CanPost, Posts}
 use Rattle.notifications.specs.SoFar.{IsHolder, IsWithNobody, HoldersTell, due_so_far, entries_at, AgreesOf}
-use Rattle.notifications.proofs.NoticePosted.{posted_agrees, with_message}
+use Rattle.notifications.proofs.NoticePosted.{posted_agrees}
+use Rattle.copyin_base.proofs.Lost.{with_message}
 use Rattle.destroy.specs.Between.{Between, HasLost}
-use Rattle.destroy.specs.Judging.{CanSend, HasSent, HasLeft, EndsRequest, ResetsPort, HoldsPort, brought, can_be_doomed, is_undoomed, remaining, GoesTo, receive_right}
+use Rattle.destroy.specs.Judging.{CanSend, HasSent, HasLeft, ResetsPort, HoldsPort, brought, can_be_doomed, is_undoomed, remaining, GoesTo, receive_right}
 use Rattle.destroy.proofs.LoseCounts.{can_pay, none_taken}
 use Rattle.destroy.proofs.JudgeDoomed.{same_receive, there_live, there_mid, number_less, false_or}
 use Rattle.destroy.proofs.JudgeSaved.{unjudged, judging_still, target_lives, differs, kept_there, turn, room, sent, place, moved, f, sent_so_far, sent_waiting, sent_unlost, sent_held, sent_counts, sent_own, sent_total, sent_kept}
@@ -83,9 +85,9 @@ module _ (w : WorldView) (p n : ℕ) (c : CanSend w p n) where
       (target_lives c.at.now c.at.tables c.at.old c.at.mid c.at.owed e w b p n c.lost c.goes) whole b.tied.slots (in_request (port_destroyed p)) (λ k. refl)
       (kept_there c.at.now c.at.tables c.at.old c.at.mid c.at.owed e w b p n c.lost c.goes)
 
-  module _ (w1 : WorldView) (posts : Posts w n (PortDestroyed p) w1) (w2 : WorldView) (ends : EndsRequest w1 p w2) where
+  module _ (w1 : WorldView) (posts : Posts w n (PortDestroyed p) w1) (w2 : WorldView) (ends : w2 ≡ without_port_destroyed w1 p) where
     pub port_then : port_at w2 p ≡ Some c.lost.view
-    port_then = ap (λ (x : WorldView). port_at x p) ends.rest ∙ ap (λ (x : WorldView). port_at x p) posts.rest
+    port_then = ap (λ (x : WorldView). port_at x p) ends ∙ ap (λ (x : WorldView). port_at x p) posts.rest
         ∙ put_other w.ports.ports n (Some (record posts.v { queue = posts.v.queue ++ notice_kept (PortDestroyed p) ∷ [] })) p apart ∙ c.lost.there
 
     pub live_then : IsLive w2.ports p
@@ -101,7 +103,7 @@ module _ (w : WorldView) (p n : ℕ) (c : CanSend w p n) where
 
       module _ (w4 : WorldView) (holds : HoldsPort w3 p n w4) where
         ledger_then : w4.ledger ≡ shifted w.ledger n
-        ledger_then = ap (λ (x : WorldView). x.ledger) holds.rest ∙ ap (λ (x : WorldView). x.ledger) resets.rest ∙ ap (λ (x : WorldView). x.ledger) ends.rest ∙ ap (λ (x : WorldView). x.ledger) posts.rest
+        ledger_then = ap (λ (x : WorldView). x.ledger) holds.rest ∙ ap (λ (x : WorldView). x.ledger) resets.rest ∙ ap (λ (x : WorldView). x.ledger) ends ∙ ap (λ (x : WorldView). x.ledger) posts.rest
 
         counts_then : map.get w4.ledger.counts p ≡ map.get w.ledger.counts p
         counts_then = ap (λ (l : LedgerView). map.get l.counts p) ledger_then ∙ put_other w.ledger.counts n (Some (one_shifted (counts_of w.ledger n))) p apart
@@ -133,11 +135,11 @@ module _ (w : WorldView) (p n : ℕ) (c : CanSend w p n) where
             omega (arith, a, d, f)
           where
             made : w5.ports.made ≡ w.ports.made
-            made = ap (λ (x : WorldView). x.ports.made) is ∙ ap (λ (x : WorldView). x.ports.made) holds.rest ∙ ap (λ (x : WorldView). x.ports.made) resets.rest ∙ ap (λ (x : WorldView). x.ports.made) ends.rest ∙ ap (λ (x : WorldView). x.ports.made) posts.rest
+            made = ap (λ (x : WorldView). x.ports.made) is ∙ ap (λ (x : WorldView). x.ports.made) holds.rest ∙ ap (λ (x : WorldView). x.ports.made) resets.rest ∙ ap (λ (x : WorldView). x.ports.made) ends ∙ ap (λ (x : WorldView). x.ports.made) posts.rest
 
             asked : w5.requests.port_destroyed.map ≡ map.remove w.requests.port_destroyed.map p
             asked = ap (λ (x : WorldView). x.requests.port_destroyed.map) is ∙ ap (λ (x : WorldView). x.requests.port_destroyed.map) holds.rest ∙ ap (λ (x : WorldView). x.requests.port_destroyed.map) resets.rest
-                ∙ ap (λ (x : WorldView). x.requests.port_destroyed.map) ends.rest ∙ ap (λ (x : WorldView). map.remove x.requests.port_destroyed.map p) posts.rest
+                ∙ ap (λ (x : WorldView). x.requests.port_destroyed.map) ends ∙ ap (λ (x : WorldView). map.remove x.requests.port_destroyed.map p) posts.rest
 
             below : p < w.ports.made
             below =
@@ -160,7 +162,7 @@ module _ (w : WorldView) (p n : ℕ) (c : CanSend w p n) where
                 ∙ undoomed_put w3.ports.ports p holds.v (held holds.v (holder.QueueOf n)) holds.there (sym (ap can_be_doomed was_nobody)) q
                 ∙ ap (λ (x : WorldView). is_undoomed (port_at x q)) resets.rest
                 ∙ undoomed_put w2.ports.ports p resets.v (record resets.v { attributes = record resets.v.attributes { make_send = 0; sequence = 0; set = None } }) resets.there refl q
-                ∙ ap (λ (x : WorldView). is_undoomed (port_at x q)) ends.rest
+                ∙ ap (λ (x : WorldView). is_undoomed (port_at x q)) ends
                 ∙ ap (λ (x : WorldView). is_undoomed (port_at x q)) posts.rest
                 ∙ undoomed_put w.ports.ports n posts.v (record posts.v { queue = posts.v.queue ++ notice_kept (PortDestroyed p) ∷ [] }) posts.there refl q
 
@@ -449,7 +451,7 @@ module _ (now : ℕ) (tables : WorldView) (old mid : State) (owed : Owed) (e : E
 abbrev reset_view : PortView Kept → PortView Kept
 reset_view v = record v { attributes = record v.attributes { make_send = 0; sequence = 0; set = None } }
 
-module _ (w : WorldView) (p n : ℕ) (c : CanSend w p n) (w1 : WorldView) (posts : Posts w n (PortDestroyed p) w1) (w2 : WorldView) (ends : EndsRequest w1 p w2) (w3 : WorldView) (resets : ResetsPort w2 p w3)
+module _ (w : WorldView) (p n : ℕ) (c : CanSend w p n) (w1 : WorldView) (posts : Posts w n (PortDestroyed p) w1) (w2 : WorldView) (ends : w2 ≡ without_port_destroyed w1 p) (w3 : WorldView) (resets : ResetsPort w2 p w3)
     (w4 : WorldView) (holds : HoldsPort w3 p n w4) (w5 : WorldView) (is : w5 ≡ record w4 { ledger = brought w4.ledger p }) where
   apart_after : p ≡ n → ⊥
   apart_after = differs c.at.now c.at.tables c.at.old c.at.mid c.at.owed c.at.ending w c.at.between p n c.lost c.goes
@@ -461,7 +463,7 @@ module _ (w : WorldView) (p n : ℕ) (c : CanSend w p n) (w1 : WorldView) (posts
       ∙ put_other w3.ports.ports p (Some (held holds.v (holder.QueueOf n))) q differs
       ∙ ap (λ (x : WorldView). port_at x q) resets.rest
       ∙ put_other w2.ports.ports p (Some (reset_view resets.v)) q differs
-      ∙ ap (λ (x : WorldView). port_at x q) ends.rest
+      ∙ ap (λ (x : WorldView). port_at x q) ends
 
   pub others_after : (q : ℕ) → q ≢ p → q ≢ n → port_at w5 q ≡ port_at w q
   others_after q not_p not_n = not_own q not_p ∙ ap (λ (x : WorldView). port_at x q) posts.rest
@@ -487,21 +489,21 @@ module _ (w : WorldView) (p n : ℕ) (c : CanSend w p n) (w1 : WorldView) (posts
   -- The tables are those of before, but for these.
   pub after_is : w5 ≡ after c.at.now c.at.tables c.at.old c.at.mid c.at.owed c.at.ending w c.at.between p n c.lost c.goes w5.ports.ports w5.ports.ready w5.ports.lost w5.ports.doomed own_after told_after others_after
   after_is = λ i. record {
-    profile = (same_field (λ x. x.profile) refl (ap (λ (x : WorldView). x.profile) holds.rest) (ap (λ (x : WorldView). x.profile) resets.rest) (ap (λ (x : WorldView). x.profile) ends.rest) ∙ ap (λ (x : WorldView). x.profile) posts.rest) i;
-    spaces = (same_field (λ x. x.spaces) refl (ap (λ (x : WorldView). x.spaces) holds.rest) (ap (λ (x : WorldView). x.spaces) resets.rest) (ap (λ (x : WorldView). x.spaces) ends.rest) ∙ ap (λ (x : WorldView). x.spaces) posts.rest) i;
+    profile = (same_field (λ x. x.profile) refl (ap (λ (x : WorldView). x.profile) holds.rest) (ap (λ (x : WorldView). x.profile) resets.rest) (ap (λ (x : WorldView). x.profile) ends) ∙ ap (λ (x : WorldView). x.profile) posts.rest) i;
+    spaces = (same_field (λ x. x.spaces) refl (ap (λ (x : WorldView). x.spaces) holds.rest) (ap (λ (x : WorldView). x.spaces) resets.rest) (ap (λ (x : WorldView). x.spaces) ends) ∙ ap (λ (x : WorldView). x.spaces) posts.rest) i;
     ports = record {
       ports = w5.ports.ports;
       ready = w5.ports.ready;
-      made = (same_field (λ x. x.ports.made) refl (ap (λ (x : WorldView). x.ports.made) holds.rest) (ap (λ (x : WorldView). x.ports.made) resets.rest) (ap (λ (x : WorldView). x.ports.made) ends.rest) ∙ ap (λ (x : WorldView). x.ports.made) posts.rest) i;
-      spare = (same_field (λ x. x.ports.spare) refl (ap (λ (x : WorldView). x.ports.spare) holds.rest) (ap (λ (x : WorldView). x.ports.spare) resets.rest) (ap (λ (x : WorldView). x.ports.spare) ends.rest) ∙ ap (λ (x : WorldView). x.ports.spare) posts.rest) i;
-      destroyed = (same_field (λ x. x.ports.destroyed) refl (ap (λ (x : WorldView). x.ports.destroyed) holds.rest) (ap (λ (x : WorldView). x.ports.destroyed) resets.rest) (ap (λ (x : WorldView). x.ports.destroyed) ends.rest) ∙ ap (λ (x : WorldView). x.ports.destroyed) posts.rest) i;
+      made = (same_field (λ x. x.ports.made) refl (ap (λ (x : WorldView). x.ports.made) holds.rest) (ap (λ (x : WorldView). x.ports.made) resets.rest) (ap (λ (x : WorldView). x.ports.made) ends) ∙ ap (λ (x : WorldView). x.ports.made) posts.rest) i;
+      spare = (same_field (λ x. x.ports.spare) refl (ap (λ (x : WorldView). x.ports.spare) holds.rest) (ap (λ (x : WorldView). x.ports.spare) resets.rest) (ap (λ (x : WorldView). x.ports.spare) ends) ∙ ap (λ (x : WorldView). x.ports.spare) posts.rest) i;
+      destroyed = (same_field (λ x. x.ports.destroyed) refl (ap (λ (x : WorldView). x.ports.destroyed) holds.rest) (ap (λ (x : WorldView). x.ports.destroyed) resets.rest) (ap (λ (x : WorldView). x.ports.destroyed) ends) ∙ ap (λ (x : WorldView). x.ports.destroyed) posts.rest) i;
       lost = w5.ports.lost;
       doomed = w5.ports.doomed;
-      noted = (same_field (λ x. x.ports.noted) refl (ap (λ (x : WorldView). x.ports.noted) holds.rest) (ap (λ (x : WorldView). x.ports.noted) resets.rest) (ap (λ (x : WorldView). x.ports.noted) ends.rest) ∙ ap (λ (x : WorldView). x.ports.noted) posts.rest) i;
+      noted = (same_field (λ x. x.ports.noted) refl (ap (λ (x : WorldView). x.ports.noted) holds.rest) (ap (λ (x : WorldView). x.ports.noted) resets.rest) (ap (λ (x : WorldView). x.ports.noted) ends) ∙ ap (λ (x : WorldView). x.ports.noted) posts.rest) i;
     };
-    ledger = (ap (λ (x : WorldView). x.ledger) is ∙ ap (λ (l : LedgerView). brought l p) (ap (λ (x : WorldView). x.ledger) holds.rest ∙ ap (λ (x : WorldView). x.ledger) resets.rest ∙ ap (λ (x : WorldView). x.ledger) ends.rest ∙ ap (λ (x : WorldView). x.ledger) posts.rest)) i;
-    sets = (same_field (λ x. x.sets) refl (ap (λ (x : WorldView). x.sets) holds.rest) (ap (λ (x : WorldView). x.sets) resets.rest) (ap (λ (x : WorldView). x.sets) ends.rest) ∙ ap (λ (x : WorldView). x.sets) posts.rest) i;
-    requests = (ap (λ (x : WorldView). x.requests) is ∙ ap (λ (x : WorldView). x.requests) holds.rest ∙ ap (λ (x : WorldView). x.requests) resets.rest ∙ ap (λ (x : WorldView). x.requests) ends.rest
+    ledger = (ap (λ (x : WorldView). x.ledger) is ∙ ap (λ (l : LedgerView). brought l p) (ap (λ (x : WorldView). x.ledger) holds.rest ∙ ap (λ (x : WorldView). x.ledger) resets.rest ∙ ap (λ (x : WorldView). x.ledger) ends ∙ ap (λ (x : WorldView). x.ledger) posts.rest)) i;
+    sets = (same_field (λ x. x.sets) refl (ap (λ (x : WorldView). x.sets) holds.rest) (ap (λ (x : WorldView). x.sets) resets.rest) (ap (λ (x : WorldView). x.sets) ends) ∙ ap (λ (x : WorldView). x.sets) posts.rest) i;
+    requests = (ap (λ (x : WorldView). x.requests) is ∙ ap (λ (x : WorldView). x.requests) holds.rest ∙ ap (λ (x : WorldView). x.requests) resets.rest ∙ ap (λ (x : WorldView). x.requests) ends
         ∙ ap (λ (x : WorldView). record x.requests { port_destroyed = record x.requests.port_destroyed { map = map.remove x.requests.port_destroyed.map p } }) posts.rest) i;
   }
 

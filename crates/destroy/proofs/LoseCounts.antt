@@ -27,7 +27,7 @@ use Rattle.rights.specs.Ledger.{counts_of}
 use Rattle.copyin_base.specs.Shows.{SlotsSuffice}
 use Rattle.copyin_base.specs.Worlds.{WorldView}
 use Rattle.notifications.specs.SoFar.{due_so_far, entries_at, posted_from, buried_alone, IsSoFar, AgreesOf}
-use Rattle.notifications.specs.Posting.{CanPost}
+use Rattle.copyin_base.specs.Losing.{CanPost}
 
 -- ---- What a chain of turns says of the ports that were buried and of the rights that are left, and what a notice more comes to.
 

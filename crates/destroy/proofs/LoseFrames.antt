@@ -39,7 +39,8 @@ use Rattle.copyin_base.specs.Requests.{RequestTablesView}
 use Rattle.copyin_base.proofs.Counting.{counts_same}
 use Rattle.copyin_base.proofs.SendersNoted.{counts_own, counts_other}
 use Rattle.notifications.specs.SoFar.{due_so_far, entries_at, posted_so_far, posted_from, buried_alone, seen_for, IsSoFar, AgreesOf, IsWithNobody, IsHolder, HoldersTell}
-use Rattle.notifications.proofs.NoticePosted.{PaysFrom, posted_agrees, with_message, slots_posted}
+use Rattle.notifications.proofs.NoticePosted.{PaysFrom, posted_agrees}
+use Rattle.copyin_base.proofs.Lost.{with_message}
 use Rattle.destroy.specs.Between.{HasLost, TellsSenders, HadSenders}
 use Rattle.destroy.specs.Losing.{Framed, Loose}
 use Rattle.destroy.proofs.LoseCounts.{alone_lives, none_taken, due_more, entries_more, ends_after, ends_are, posted_more, log_longer}
@@ -277,7 +278,7 @@ module _ (now : ℕ) (tables : WorldView) (old mid : State) (owed : Owed) (e : E
       so_far = noticed_so_far now mid e s so p there_is place (notice_of notice) none ended2 left2 told2 turns2 naming tokens stands parts moved stood named;
       agrees = posted_agrees (lives_after mid e) w (record s { naming = naming; ledger = tokens; stands = stands }) agrees p v there notice now within alive paid;
       holders = holders_stay s (record s { ledger = tokens }) e.destroyed (same_receives moved) w _ shape holders;
-      slots = slots_posted w p notice _ slots (record { v = v; there = there; rest = refl });
+      slots = omega (arith, slots);
       framed = framed_stays w _ shape mid e f refl refl refl framed;
       senders = senders;
       receivers = few;

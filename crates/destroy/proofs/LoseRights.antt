@@ -45,14 +45,18 @@ use Rattle.copyin_base.proofs.SendersNoted.{counts_own, counts_other, sends_else
 use Rattle.copyin_base.specs.Queued.{notice_kept}
 use Rattle.notifications.specs.SoFar.{AreEntries, AwaitLoss}
 use Rattle.notifications.proofs.NoticePosted.{pays_from, filter_weigh}
-use Rattle.notifications.specs.Posting.{CanPost}
+use Rattle.copyin_base.specs.Losing.{CanPost}
 use Rattle.destroy.specs.Between.{Between, IsUnlost}
 use Rattle.destroy.specs.Paying.{LivesIn}
 use Rattle.destroy.specs.Stages.{IsEmptied, SameSlots, IsCount}
 use Rattle.destroy.proofs.LoseCounts.{alone_lives, left_within, can_pay}
 use Rattle.destroy.proofs.LoseFrames.{same_ports, framed_stays, SameShape, with_notice, Goes, SameReceives, holders_stay, rekept, loose_posted}
-use Rattle.destroy.specs.Losing.{Loose, Amid, CanLoseOf, CanLoseMark, CanLose, without_send, IsLosing, LosesOf, LosesMark, LosesRight, LosesTo, carried_in, rights_of}
+use Rattle.destroy.specs.Losing.{Loose, Amid, CanLoseOf, CanLoseMark, CanLose, IsLosing, LosesOf, LosesMark, LosesRight, LosesTo, carried_in, rights_of}
 use Rattle.destroy.proofs.Counting.{count_none, count_one, count_joined}
+
+-- the tables with a send right of the port gone
+abbrev without_send : WorldView → (port : ℕ) → WorldView
+without_send w port = record w { ledger = taken w.ledger port right.Send 1 }
 
 -- ---- What is so between turns: which ports live in the tables, which messages wait, and what a turn keeps of both.
 
@@ -609,7 +613,7 @@ module _ (now : ℕ) (tables : WorldView) (old mid : State) (owed : Owed) (e : E
     living_step : (so_many : ℕ) (v : WorldView) (k : Kind) → kind ≡ k → LosesOf k p w so_many v → Stepped so_many v
     living_step so_many v receive kind_is (none, same) = subst (λ (t : ℕ). Stepped t v) (sym none) (subst (Stepped 0) (sym same) (receive_stays kind_is))
     living_step so_many v send kind_is (one, n) = subst (λ (t : ℕ). Stepped t v) (sym one) (subst (Stepped 1) (sym n.rest) (send_gone kind_is n.noted n.stay n.notes n.only))
-    living_step so_many v send_once kind_is (one, spare, posts) = subst (λ (t : ℕ). Stepped t v) (sym one) (subst (Stepped 1) (sym posts.rest) (once_paid kind_is spare posts.v posts.there))
+    living_step so_many v send_once kind_is (one, posts) = subst (λ (t : ℕ). Stepped t v) (sym one) (subst (Stepped 1) (sym posts.rest) (once_paid kind_is posts.spare posts.v posts.there))
 
   -- The right is lost where it is to be.
   pub step : (so_many : ℕ) (v : WorldView) → LosesRight w c so_many v → Stepped so_many v

@@ -28,7 +28,6 @@ use Rattle.mach_model.proofs.Settling.{is_at, own_test}
 use Rattle.mach_model.proofs.TurnsSettle.{tokens_joined_settle as tokens_joined}
 use Rattle.rights.specs.Counts.{one_shifted, no_rights}
 use Rattle.rights.specs.Ledger.{counts_of, shifted}
-use Rattle.rights.specs.Unused.{IsUnusedOfAll}
 use Rattle.port.specs.Ports.{PortView, PortsView}
 use Rattle.port.specs.declared.Holder.TheVariants as holder
 use Rattle.port.specs.Holding.{IsHeldBy, NoneHeldBy}
@@ -54,15 +53,17 @@ use Rattle.copyin_base.proofs.Requesting.{requests_stay}
 use Rattle.copyin_base.proofs.Gets.{seen}
 use Rattle.notifications.specs.SoFar.{IsSoFar, entries_at, posted_from, IsHolder, AgreesOf, AreEntries}
 use Rattle.notifications.proofs.MessageRights.{posted_is, entry_with, brought, log_with, logs_longer, logs_more, rights_more, rights_with, rights_weigh}
-use Rattle.notifications.proofs.NoticePosted.{first_so_far, told_agrees, with_message, slots_posted, some_spare}
+use Rattle.copyin_base.proofs.Lost.{with_message}
+use Rattle.notifications.proofs.NoticePosted.{first_so_far, told_agrees}
 use Rattle.notifications.proofs.RequestBegun.{requests_changed}
-use Rattle.notifications.specs.Posting.{CanPost}
+use Rattle.copyin_base.specs.Losing.{CanPost}
 use Rattle.destroy.proofs.JudgeCarried.{counted_carries}
 use Rattle.destroy.specs.Between.{Between, HadSenders, HasLost}
-use Rattle.destroy.specs.Stages.{IsEmptied, IsMidway, Starts}
+use Rattle.destroy.specs.Stages.{IsEmptied, IsMidway, Starts, TellsDoomed, TellsLost}
 use Rattle.destroy.proofs.PayLives.{kept_live}
-use Rattle.destroy.specs.Paying.{LivesIn, Pays, TakesWent}
-use Rattle.destroy.proofs.EndSteps.{TellsDoomed, none_held}
+use Rattle.copyin_base.specs.Leaving.{TakesWent}
+use Rattle.destroy.specs.Paying.{LivesIn, Pays}
+use Rattle.destroy.proofs.EndSteps.{none_held}
 use Rattle.destroy.proofs.LoseFrames.{one_queued, shape_held, shape_was_held}
 
 -- ---- The state midway with all that it owes posted is the state so far as the chain of turns starts.
@@ -367,29 +368,26 @@ module _ (now : ℕ) (tables v : WorldView) (m : State) (owed : Owed) (s : Shows
       counts_other v.ledger p (one_shifted (counts_of v.ledger p)) (shifted v.ledger p) refl q,
     )
 
-    shows : ShowsMid now tables v2 after (owed ++ paid ∷ [])
-    shows = record {
-      agrees = subst (Agrees v2) (sym posted_state) (told_agrees (without_first v) (record shown { ledger = on_way ∷ tokens }) taken_out p (PortDeleted r.name) v2 (record { v = y; there = there; rest = refl })
-          now within pays_yet (in_message 0 0) (λ r. refl) (length (shown.log p)) (came ∷ tokens) (λ h. omega arith));
-      holders = holders_ports v v2 s.holders refl (put_holders v.ports.ports p y (record y { queue = y.queue ++ notice_kept (PortDeleted r.name) ∷ [] }) there refl);
-      carriers = carriers_queued v v2 s.carriers p y (record y { queue = y.queue ++ notice_kept (PortDeleted r.name) ∷ [] }) (notice_kept (PortDeleted r.name)) there refl refl refl refl
-          (λ q carries. absurd (let below = carries.1 in omega (arith, below)));
-      slots = slots_posted (without_first v) p (PortDeleted r.name) v2 s.slots (record { v = y; there = there; rest = refl });
-      requested = requested_put (without_first v) v2 unasked p (record y { queue = y.queue ++ notice_kept (PortDeleted r.name) ∷ [] }) refl refl refl;
-      notes = senders_kept tables v v2 s.notes (keeps_senders v v2 s.requested refl (sends_shifted v.ledger p) refl);
-      makes = λ lost among q. let a = s.makes lost among q in let b = fewer_sends q in omega (arith, a, b);
-      left = grind (arith, s.left, receives_stay m owed s.lawful p r.task r.name live (port_deleted r.name) (λ place. refl) left parts);
-      lawful = lawful;
-    }
+    module _ (counted : 0 < v.ledger.unused) (spare : 0 < v.ports.spare) where
+      shows : ShowsMid now tables v2 after (owed ++ paid ∷ [])
+      shows = record {
+        agrees = subst (Agrees v2) (sym posted_state) (told_agrees (without_first v) (record shown { ledger = on_way ∷ tokens }) taken_out p (PortDeleted r.name) v2 (record { v = y; there = there; counted = counted; spare = spare; rest = refl })
+            now within pays_yet (in_message 0 0) (λ r. refl) (length (shown.log p)) (came ∷ tokens) (λ h. omega arith));
+        holders = holders_ports v v2 s.holders refl (put_holders v.ports.ports p y (record y { queue = y.queue ++ notice_kept (PortDeleted r.name) ∷ [] }) there refl);
+        carriers = carriers_queued v v2 s.carriers p y (record y { queue = y.queue ++ notice_kept (PortDeleted r.name) ∷ [] }) (notice_kept (PortDeleted r.name)) there refl refl refl refl
+            (λ q carries. absurd (let below = carries.1 in omega (arith, below)));
+        slots = let slots = s.slots in omega (arith, slots);
+        requested = requested_put (without_first v) v2 unasked p (record y { queue = y.queue ++ notice_kept (PortDeleted r.name) ∷ [] }) refl refl refl;
+        notes = senders_kept tables v v2 s.notes (keeps_senders v v2 s.requested refl (sends_shifted v.ledger p) refl);
+        makes = λ lost among q. let a = s.makes lost among q in let b = fewer_sends q in omega (arith, a, b);
+        left = grind (arith, s.left, receives_stay m owed s.lawful p r.task r.name live (port_deleted r.name) (λ place. refl) left parts);
+        lawful = lawful;
+      }
 
-    pub pays_one : Paid now tables m owed r (with_told v r y)
-    pays_one = record { left = left; parts = parts; shows = shows }
+      pub pays_one : Paid now tables m owed r (with_told v r y)
+      pays_one = record { left = left; parts = parts; shows = shows }
 
 -- ---- As a step's end starts each port knows who has its receive right.
-
--- Of a port that is there, just those that were lost have nobody.
-abbrev pub TellsLost : WorldView → Type 0
-TellsLost w = (port : ℕ) → Contains w.ports.lost port ↔ IsHeldBy w.ports port holder.Nobody
 
 -- What is owed brings no right but those that pay.
 none_owed : (lives : ℕ → Bool) (h : Token → ℕ) → ((p : ℕ) (place : Place) → h (token send_once p place) ≡ 0) → (ends : ℕ → ℕ) (owed : Owed) → All (IsOwed lives) owed →
@@ -653,7 +651,7 @@ module _ (w v v1 : WorldView) (on : PaysOn w v) (r : NameRequest) (takes : Takes
         slots = s_pays.shows.slots;
       })
 
-  module _ (all : IsUnusedOfAll v1.ledger) (now : ℕ) (tables : WorldView) (mid : State) (owed : Owed) (shows : ShowsMid now tables w mid owed) where
+  module _ (now : ℕ) (tables : WorldView) (mid : State) (owed : Owed) (shows : ShowsMid now tables w mid owed) where
     abbrev left_pays : List Token
     left_pays = (on now tables mid owed shows).0
 
@@ -672,11 +670,10 @@ module _ (w v v1 : WorldView) (on : PaysOn w v) (r : NameRequest) (takes : Takes
     over : port_at v r.notify ≡ None → HavePaid (without_first v)
     over gone = (left_pays, paid_pays, let shows = passes_over now tables v m_pays (owed ++ paid_pays) s_pays.shows r v1.requests.names.went takes.went gone in assumption (shows, s_pays))
 
-    one : (y : PortView Kept) (there : port_at v r.notify ≡ Some y) → HavePaid (with_told v r y)
-    one y there =
-        let more = pays_one now tables v m_pays (owed ++ paid_pays) s_pays.shows r v1.requests.names.went takes.went y there in
+    one : (y : PortView Kept) (there : port_at v r.notify ≡ Some y) → 0 < v.ledger.unused → 0 < v.ports.spare → HavePaid (with_told v r y)
+    one y there counted some =
+        let more = pays_one now tables v m_pays (owed ++ paid_pays) s_pays.shows r v1.requests.names.went takes.went y there counted some in
         let this : Token × Notice = (token send_once r.notify (in_request (dead_name r.task r.name)), port_deleted r.name) in
-        let some = some_spare v r.notify (subst (λ (x : WorldView). IsUnusedOfAll x.ledger) takes.rest all) (pays_yet now tables v m_pays (owed ++ paid_pays) s_pays.shows r v1.requests.names.went takes.went y there) s_pays.shows.slots in
         let shape = one_queued (without_first v) (with_told v r y) r.notify y there (notice_kept (PortDeleted r.name)) (λ q c. let below = c.1 in omega (arith, below)) refl refl refl refl in (
           more.left,
           paid_pays ++ this ∷ [],
@@ -693,8 +690,8 @@ module _ (w v v1 : WorldView) (on : PaysOn w v) (r : NameRequest) (takes : Takes
         ended : mid.stands (dead_name r.task r.name) ≡ false
         ended = sym (ap (λ (z : State). z.stands (dead_name r.task r.name)) (posted_is now m_pays (owed ++ paid_pays))) ∙ (subst (λ xs. AreEnded (with_posted now m_pays (owed ++ paid_pays)).stands xs) takes.went s_pays.shows.agrees.of_requests.ended_went).0
 
-  pub pays_more : (v2 : WorldView) → IsUnusedOfAll v1.ledger → Pays v1 r.notify (PortDeleted r.name) v2 → PaysOn w v2
-  pays_more v2 all pays now tables mid owed shows = go (seen (port_at v r.notify))
+  pub pays_more : (v2 : WorldView) → Pays v1 r.notify (PortDeleted r.name) v2 → PaysOn w v2
+  pays_more v2 pays now tables mid owed shows = go (seen (port_at v r.notify))
     where
       first : Pays (without_first v) r.notify (PortDeleted r.name) v2
       first = subst (λ (x : WorldView). Pays x r.notify (PortDeleted r.name) v2) takes.rest pays
@@ -702,11 +699,11 @@ module _ (w v v1 : WorldView) (on : PaysOn w v) (r : NameRequest) (takes : Takes
       gone : port_at v r.notify ≡ None → ¬ (LivesIn (without_first v) r.notify)
       gone none lives = let f : None ≡ Some lives.v = sym none ∙ lives.there in cc
 
-      go : ((y : PortView Kept) × (port_at v r.notify ≡ Some y)) ⊎ (port_at v r.notify ≡ None) → HavePaid all now tables mid owed shows v2
-      go (inr none) = subst (HavePaid all now tables mid owed shows) (sym (first.stays (gone none))) (over all now tables mid owed shows none)
+      go : ((y : PortView Kept) × (port_at v r.notify ≡ Some y)) ⊎ (port_at v r.notify ≡ None) → HavePaid now tables mid owed shows v2
+      go (inr none) = subst (HavePaid now tables mid owed shows) (sym (first.stays (gone none))) (over now tables mid owed shows none)
       go (inl (y, at)) =
           let posts = first.posts record { v = y; there = at; undoomed = (on now tables mid owed shows).2.undoomed r.notify y at } in
-          subst (HavePaid all now tables mid owed shows) (sym posts.rest) (one all now tables mid owed shows posts.v posts.there)
+          subst (HavePaid now tables mid owed shows) (sym posts.rest) (one now tables mid owed shows posts.v posts.there posts.counted posts.spare)
 
 pub pays_all : (w v : WorldView) → PaysOn w v → v.requests.names.went ≡ [] → Starts w v
 pays_all w v on none now tables old mid owed shown shows =

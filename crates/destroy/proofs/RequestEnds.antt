@@ -31,7 +31,7 @@ use Rattle.copyin_base.specs.Shows.{CarriesReceive}
 use Rattle.copyin_base.specs.Worlds.{WorldView, port_at}
 use Rattle.copyin_base.proofs.Gets.{same_found}
 use Rattle.copyin_base.proofs.SendersNoted.{sends_shifted}
-use Rattle.notifications.specs.Posting.{CanPost}
+use Rattle.copyin_base.specs.Losing.{CanPost}
 use Rattle.notifications.specs.SoFar.{buried_alone, posted_so_far, IsSoFar, AgreesOf, AwaitLoss}
 use Rattle.notifications.proofs.NoticePosted.{filter_weigh}
 use Rattle.destroy.proofs.BuryRequest.{GoesOn}
@@ -273,7 +273,7 @@ module _ (now : ℕ) (tables : WorldView) (old mid : State) (owed : Owed) (e : E
           (paid_turn : lives_after mid e notify ≡ true → Turn old mid e paid_ending) (dead_turn : lives_after mid e notify ≡ false → Turn old mid e dead_ending) (stage : AreLost mid e w)
           (noted : (u : WorldView) → u.requests ≡ rq → ((q : ℕ) → (counts_of u.ledger q).send ≡ 0 → (counts_of w.ledger q).send ≡ 0) →
           (q : ℕ) → lives_after mid e q ≡ true → 0 < (counts_of tables.ledger q).send → IsSenderless u q → Contains w.ports.noted q)
-          (had : (q : ℕ) → Contains w.ports.noted q → 0 < (counts_of tables.ledger q).send) (spare : LivesIn w notify → 0 < w.ports.spare) where
+          (had : (q : ℕ) → Contains w.ports.noted q → 0 < (counts_of tables.ledger q).send) where
         abbrev pub Ended : (number : ℕ) → WorldView → Type 0
         Ended number u = (f : Ending) × Between now tables old mid owed f u × IsCount e.turns f.turns number × SameSlots e w f u × AreLost mid f u × (f.ended ≡ ended2) × (u.ports.noted ≡ w.ports.noted)
 
@@ -289,14 +289,14 @@ module _ (now : ℕ) (tables : WorldView) (old mid : State) (owed : Owed) (e : E
               refl,
             )
 
-        ended_paid : lives_after mid e notify ≡ true → (v : PortView Kept) → port_at w notify ≡ Some v → LivesIn w notify → Ended 1 (with_notice w1 notify v notice)
-        ended_paid alive v there lives =
+        ended_paid : lives_after mid e notify ≡ true → (v : PortView Kept) → port_at w notify ≡ Some v → LivesIn w notify → 0 < w.ports.spare → Ended 1 (with_notice w1 notify v notice)
+        ended_paid alive v there lives spare =
             let g = paid_loose alive none bare v there (paid_turn alive) in (
               paid_ending,
               between_of now tables old mid owed paid_ending (with_notice w1 notify v notice) g.0 (awaits_on w.ports.destroyed e paid_ending s g.0.state refl refl fewer g.1 waiting)
                   (noted (with_notice w1 notify v notice) refl (sends_shifted w.ledger notify)) had unlost_paid,
               count_one e.turns _ refl,
-              (let a = spare lives in let c = length-append e.paid ((x, notice_of notice) ∷ []) in omega (arith, a, c)),
+              (let a = spare in let c = length-append e.paid ((x, notice_of notice) ∷ []) in omega (arith, a, c)),
               record { judged = record { emptied = emptied_posted w1 notify v notice there undead stage.judged.emptied; judged = stage.judged.judged; none_lost = stage.judged.none_lost }; none_destroyed = stage.none_destroyed },
               refl,
               refl,
@@ -323,7 +323,7 @@ module _ (now : ℕ) (tables : WorldView) (old mid : State) (owed : Owed) (e : E
                 let there = lives_there now tables old mid owed e w l notify alive in
                 let lives : LivesIn w1 notify = record { v = there.v; there = there.there; undoomed = there.undoomed } in
                 let posts = pays.posts lives in
-                subst (λ (n : ℕ). Ended n new) (sym (many.0 lives)) (subst (Ended 1) (sym posts.rest) (ended_paid alive posts.v posts.there there))
+                subst (λ (n : ℕ). Ended n new) (sym (many.0 lives)) (subst (Ended 1) (sym posts.rest) (ended_paid alive posts.v posts.there there posts.spare))
             go false dead = subst (λ (n : ℕ). Ended n new) (sym (many.1 dies)) (subst (Ended 0) (sym (pays.stays dies)) (ended_dead dead))
               where
                 no : true ≡ false → ⊥

@@ -12,7 +12,6 @@ use Rattle.mach_model.proofs.Names.{removed_own, pos_or_zero, alike}
 use Rattle.mach_model.proofs.TurnsMade.{same_request_is}
 use Rattle.mach_model.proofs.TurnsCounted.{one_all}
 use Rattle.rights.specs.Ledger.{counts_of}
-use Rattle.rights.specs.Unused.{IsUnusedOfAll}
 use Rattle.port.specs.declared.Attributes.{Attributes}
 use Rattle.copyin_base.specs.Requests.{RequestTablesView, notify_of}
 use Rattle.copyin_base.specs.Worlds.{WorldView}
@@ -21,9 +20,9 @@ use Rattle.copyin_base.specs.declared.notice.Notice.TheVariants.{NoSenders}
 use Rattle.copyin_base.specs.Changes.{HasAttributes, IsSenderless}
 use Rattle.copyin_base.proofs.Listed.{none_listed, listed_later}
 use Rattle.notifications.specs.SoFar.{buried_alone, AgreesOf, AwaitLoss}
-use Rattle.notifications.proofs.NoticePosted.{some_spare}
 use Rattle.destroy.specs.Paying.{LivesIn, Pays, PaysMany}
-use Rattle.destroy.specs.Telling.{without_no_senders, CanTell, TellsOf, taken_out, TellsNoSenders}
+use Rattle.copyin_base.specs.Leaving.{without_no_senders}
+use Rattle.destroy.specs.Telling.{CanTell, TellsOf, taken_out, TellsNoSenders}
 use Rattle.destroy.specs.Between.{IsUnlost, Between}
 use Rattle.destroy.proofs.LoseFrames.{same_ports, framed_stays, kept_has, StandsSoFar}
 use Rattle.destroy.proofs.RequestEnds.{yet_stands, stood, may_post, all_off, none_off, dead_ending, paid_ending, dead_takes, paid_takes, Ended, ended as request_ends, lives_or_not}
@@ -68,9 +67,9 @@ module _ (old : WorldView) (port : ℕ) where
       no e = cc
 
   pub told_one : (mid new : WorldView) (attributes : Attributes) (found : Option ℕ) (notify : ℕ) → LivesIn old port → (0 < (counts_of old.ledger port).send → IsTrue false) → HasAttributes old port attributes →
-      found ≡ map.get old.requests.no_senders.map port → found ≡ Some notify → mid ≡ without_no_senders old port → IsUnusedOfAll mid.ledger → CanTell old port →
+      found ≡ map.get old.requests.no_senders.map port → found ≡ Some notify → mid ≡ without_no_senders old port →
       Pays mid notify (NoSenders attributes.make_send) new → (number : ℕ) → PaysMany mid notify number → TellsOf old port number new
-  told_one mid new attributes found notify lives none has is some ended all can pays number many = inl
+  told_one mid new attributes found notify lives none has is some ended pays number many = inl
       record {
         v = has.v;
         there = has.there;
@@ -78,7 +77,6 @@ module _ (old : WorldView) (port : ℕ) where
         none = zero_of (λ some. no (none some));
         notify = notify;
         asked = sym is ∙ some;
-        spare = λ there. let c = can lives notify (sym is ∙ some) there in some_spare old notify (subst (λ (w : WorldView). IsUnusedOfAll w.ledger) ended all) c.paid c.slots;
         pays = subst (λ (w : WorldView). Pays w notify (NoSenders has.v.attributes.make_send) new) ended (subst (λ (a : Attributes). Pays mid notify (NoSenders a.make_send) new) (sym has.are) pays);
         many = subst (λ (w : WorldView). PaysMany w notify number) ended many;
       }
@@ -177,12 +175,12 @@ module _ (now : ℕ) (tables : WorldView) (old mid : State) (owed : Owed) (e : E
       module _ (stage : AreLost mid e w)
           (noted : (u : WorldView) → u.requests ≡ rq → ((q : ℕ) → (counts_of u.ledger q).send ≡ 0 → (counts_of w.ledger q).send ≡ 0) →
           (q : ℕ) → lives_after mid e q ≡ true → 0 < (counts_of tables.ledger q).send → IsSenderless u q → Contains w.ports.noted q)
-          (had_noted : (q : ℕ) → Contains w.ports.noted q → 0 < (counts_of tables.ledger q).send) (spare : LivesIn w notify → 0 < w.ports.spare) where
+          (had_noted : (q : ℕ) → Contains w.ports.noted q → 0 < (counts_of tables.ledger q).send) where
         pub told_ended : (number : ℕ) (new : WorldView) → Pays (without_no_senders w p) notify (NoSenders n) new → PaysMany (without_no_senders w p) notify number →
             Ended now tables old mid owed e w l waiting unlost r notify asked w.spaces rq s.naming e.ended (p ∷ e.told) (NoSenders n) stands_now l.so_far.names agrees_now framed
-            (λ at. refl) (λ q c. none_listed [] refl _ c) paid_turn dead_turn stage noted had_noted spare number new
+            (λ at. refl) (λ q c. none_listed [] refl _ c) paid_turn dead_turn stage noted had_noted number new
         told_ended = request_ends now tables old mid owed e w l waiting unlost r notify asked w.spaces rq s.naming e.ended (p ∷ e.told) (NoSenders n) stands_now l.so_far.names agrees_now framed
-            (λ at. refl) (λ q c. none_listed [] refl _ c) paid_turn dead_turn stage noted had_noted spare
+            (λ at. refl) (λ q c. none_listed [] refl _ c) paid_turn dead_turn stage noted had_noted
 
 -- ---- Each port that was noted is told of in turn: between two of them the tables are between turns.
 
@@ -250,7 +248,7 @@ module _ (now : ℕ) (tables : WorldView) (old mid : State) (owed : Owed) (e : E
     told =
         let g = told_ended now tables old mid owed e w l b.tied.waiting b.unlost p t.notify t.asked stage.judged.judged t.lives had t.none t.v.attributes.make_send made lost_still
         (λ u requests sends q alive some s. let f = senderless_was u requests sends q s in contains_without p w0.ports.noted q f.0 (b.noted q alive some f.1))
-        (λ q c. b.had q (without_contains p w0.ports.noted q c)) t.spare number new t.pays t.many in
+        (λ q c. b.had q (without_contains p w0.ports.noted q c)) number new t.pays t.many in
         (g.0, g.1, g.2, g.3, g.4)
 
 -- ---- the loop

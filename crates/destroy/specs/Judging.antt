@@ -144,10 +144,6 @@ pub record CanSend (w : WorldView) (port notify : ℕ) : Type 0 where
   pub lost : IsHeldBy w.ports port holder.Nobody
   pub goes : GoesTo w port notify
 
--- The port's request to be sent away ends.
-pub record EndsRequest (old : WorldView) (port : ℕ) (new : WorldView) : Type 0 where
-  pub rest : new ≡ record old { requests = record old.requests { port_destroyed = record old.requests.port_destroyed { map = map.remove old.requests.port_destroyed.map port } } }
-
 -- It leaves its set, and its counts start again.
 pub record ResetsPort (old : WorldView) (port : ℕ) (new : WorldView) : Type 0 where
   pub v : PortView Kept

@@ -12,27 +12,22 @@ use Rattle.mach_model.specs.Turns.{Ending, IsReached, listed, lives_after, is_ju
 use Rattle.port.specs.declared.Holder.TheVariants as holder
 use Rattle.port.specs.Holding.{IsHeldBy}
 use Rattle.port.specs.Ports.{PortView}
-use Rattle.rights.specs.declared.RightKind.TheVariants as right
-use Rattle.rights.specs.Ledger.{counts_of, IsEntered, taken}
+use Rattle.rights.specs.Ledger.{counts_of, IsEntered}
 use Rattle.copyin_base.specs.declared.message.Carried.{Carried}
 use Rattle.copyin_base.specs.declared.message.Mark.{Mark}
 use Rattle.copyin_base.specs.declared.message.Mark.TheVariants as mark
 use Rattle.copyin_base.specs.declared.notice.Notice.TheVariants.{SendOnce}
-use Rattle.copyin_base.specs.Changes.{IsSenderless, NotesSenderless}
+use Rattle.copyin_base.specs.Changes.{IsSenderless}
 use Rattle.copyin_base.specs.Kept.{Kept, mark_of}
 use Rattle.copyin_base.specs.Shows.{HoldersAgree, CarriersAgree, RequestsStand, SlotsSuffice}
 use Rattle.copyin_base.specs.Worlds.{WorldView, port_at}
-use Rattle.notifications.specs.Posting.{CanPost, Posts}
+use Rattle.copyin_base.specs.Losing.{CanPost, LosesSends, Posts}
 use Rattle.notifications.specs.SoFar.{IsSoFar, AgreesOf, HoldersTell, AreEntries}
 use Rattle.destroy.specs.Between.{HasLost, TellsSenders, IsUnlost, HadSenders}
 use Rattle.destroy.specs.Paying.{LivesIn}
 use Rattle.destroy.specs.Stages.{IsJudged, IsCount, SameSlots}
 
 -- ---- one right, in the tables
-
--- the tables with a send right of the port gone
-abbrev pub without_send : WorldView → (port : ℕ) → WorldView
-without_send w port = record w { ledger = taken w.ledger port right.Send 1 }
 
 -- The right can be lost: its port lives.
 abbrev pub CanLoseOf : Kind → (port : ℕ) → WorldView → Type 0
@@ -43,8 +38,8 @@ CanLoseOf send_once port w = CanPost w port
 -- It goes, or its port is told, in one turn; a receive right stays.
 abbrev pub LosesOf : Kind → (port : ℕ) → (old : WorldView) → (turns : ℕ) → (new : WorldView) → Type 0
 LosesOf receive port old turns new = (turns ≡ 0) × (new ≡ old)
-LosesOf send port old turns new = (turns ≡ 1) × NotesSenderless (without_send old port) port new
-LosesOf send_once port old turns new = (turns ≡ 1) × (0 < old.ports.spare) × Posts old port SendOnce new
+LosesOf send port old turns new = (turns ≡ 1) × LosesSends old port 1 new
+LosesOf send_once port old turns new = (turns ≡ 1) × Posts old port SendOnce new
 
 abbrev pub CanLoseMark : Kind → Mark → WorldView → Type 0
 CanLoseMark kind (mark.Port p) w = LivesIn w p → CanLoseOf kind p w

@@ -1,13 +1,11 @@
 -- A right that a request kept pays for a notice, where its port lives.
-use Rattle.std.specs.Prelude.{◌≡◌, ◌≢◌, ℕ, ◌∷◌, Some}
+use Rattle.std.specs.Prelude.{◌≡◌, ◌≢◌, ℕ, Some}
 use Rattle.port.specs.declared.Holder.TheVariants as holder
 use Rattle.port.specs.Ports.{PortView}
-use Rattle.request_table.specs.declared.Request.{Request}
-use Rattle.request_table.specs.Requests.{without_first_went}
 use Rattle.copyin_base.specs.declared.notice.Notice.{Notice}
 use Rattle.copyin_base.specs.Kept.{Kept}
 use Rattle.copyin_base.specs.Worlds.{WorldView, port_at}
-use Rattle.notifications.specs.Posting.{Posts}
+use Rattle.copyin_base.specs.Losing.{Posts}
 
 -- The port is there, and isn't doomed.
 pub record LivesIn (w : WorldView) (port : ℕ) : Type 0 where
@@ -23,8 +21,3 @@ pub record Pays (old : WorldView) (port : ℕ) (notice : Notice) (new : WorldVie
 -- So many rights pay: one where the port lives.
 abbrev pub PaysMany : (old : WorldView) (port many : ℕ) → Type 0
 PaysMany old port many = (LivesIn old port → many ≡ 1) × (¬ (LivesIn old port) → many ≡ 0)
-
--- This request is no longer among those whose names went, of which it was the first.
-pub record TakesWent (old : WorldView) (r : Request) (new : WorldView) : Type 0 where
-  pub went : old.requests.names.went ≡ r ∷ new.requests.names.went
-  pub rest : new ≡ record old { requests = record old.requests { names = without_first_went old.requests.names } }

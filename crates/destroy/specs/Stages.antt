@@ -1,11 +1,12 @@
 -- How far a step's end is, part by part, and what each part comes to (this project's own).
-use Rattle.std.specs.Prelude.{◌≡◌, ℕ, ◌≤◌, ◌+◌, ◌-◌, ◌^◌, min, [], length, Some}
+use Rattle.std.specs.Prelude.{◌≡◌, ℕ, ◌≤◌, ◌+◌, ◌-◌, ◌^◌, ◌↔◌, min, [], length, Some, Contains}
 use Rattle.mach_model.specs.State.{State}
 use Rattle.mach_model.specs.Notices.{Owed}
 use Rattle.mach_model.specs.Settles.{Settles}
 use Rattle.mach_model.specs.Turns.{Ending, IsReached, IsDone, AreJudged, Begins, went_in}
 use Rattle.mach_model.specs.Work.{IsBounded, deaths}
 use Rattle.port.specs.declared.Holder.TheVariants as holder
+use Rattle.port.specs.Holding.{IsHeldBy}
 use Rattle.port.specs.Ports.{PortView}
 use Rattle.copyin_base.specs.Serving.{ShowsMid}
 use Rattle.copyin_base.specs.Kept.{Kept}
@@ -83,6 +84,14 @@ pub record IsMidway (w : WorldView) : Type 0 where
   pub owed : Owed
   pub shown : Shows tables old
   pub shows : ShowsMid now tables w mid owed
+
+-- The list of ports that were lost tells whom nobody holds.
+abbrev pub TellsLost : WorldView → Type 0
+TellsLost w = (port : ℕ) → Contains w.ports.lost port ↔ IsHeldBy w.ports port holder.Nobody
+
+-- The list of doomed ports tells which are doomed.
+abbrev pub TellsDoomed : WorldView → Type 0
+TellsDoomed w = (port : ℕ) → Contains w.ports.doomed port ↔ IsHeldBy w.ports port holder.Doomed
 
 -- The first part starts there, and no turn was made yet.
 abbrev pub Starts : WorldView → WorldView → Type 0

@@ -4,7 +4,7 @@ ghost use Rattle.std.specs.FinMap as map;
 ghost use Rattle.mach_types.specs.Tokens.{no_senders, port_destroyed};
 ghost use Rattle.name_space.specs.declared.Entry.TheVariants.{DeadName};
 ghost use Rattle.destroy.specs.Burying.{dead_count, AsksNone, IsAny, IsNone, IsOnName, IsDueOn, IsNextToBury, EndsRequests};
-ghost use Rattle.destroy.specs.Stages.{AreTold, AreBuried, IsAt, Continues, KeepsRooms};
+ghost use Rattle.destroy.specs.Stages.{AreTold, AreBuried, IsAt, Continues, KeepsRooms, TellsDoomed};
 
 use crate::paying::pay;
 use copyin_base::{Notice, World};
@@ -19,6 +19,7 @@ pub(crate) fn bury_ports(world: &mut World) -> u64
     requires { IsAt AreTold world.old }
     ensures continues { Continues AreTold AreBuried world.old result world.new }
     ensures rooms { KeepsRooms world.old world.new }
+    ensures doomed { TellsDoomed world.new }
 {
     if asks_none(world) {
         bury_unasked(world);
@@ -47,6 +48,7 @@ fn bury_asked(world: &mut World) -> u64
     requires { IsAt AreTold world.old }
     ensures continues { Continues AreTold AreBuried world.old result world.new }
     ensures rooms { KeepsRooms world.old world.new }
+    ensures doomed { TellsDoomed world.new }
 {
     let mut turns: u64 = 0;
     while let Some(port) = world.ports.first_doomed() {
@@ -62,6 +64,7 @@ fn bury_unasked(world: &mut World)
     requires unasked { AsksNone world.old }
     ensures continues { Continues AreTold AreBuried world.old 0 world.new }
     ensures rooms { KeepsRooms world.old world.new }
+    ensures doomed { TellsDoomed world.new }
 {
     while let Some(port) = world.ports.last_doomed() {
         bury_silently(world, port);
@@ -78,8 +81,7 @@ fn bury_silently(world: &mut World, port: PortId)
     ensures fewer { map.len world.new.ports.ports < map.len world.old.ports.ports }
     ensures rooms { KeepsRooms world.old world.new }
 {
-    world.ports.remove(port);
-    world.ledger.leave(port);
+    world.remove_port(port);
 }
 
 // A doomed port leaves.
@@ -90,8 +92,7 @@ fn bury(world: &mut World, port: PortId) -> u64
     ensures rooms { KeepsRooms world.old world.new }
 {
     let turns = end_requests(world, port);
-    world.ports.remove(port);
-    world.ledger.leave(port);
+    world.remove_port(port);
     turns
 }
 
@@ -110,9 +111,7 @@ fn end_no_senders(world: &mut World, port: PortId) -> u64
     requires { IsNextToBury port world.old }
     ensures { EndsRequests port (λ r. r ≡ no_senders port) world.old result world.new }
 {
-    // So it is seen that a slot is spare.
-    let _ = world.ledger.unused();
-    let Some(notify) = world.requests.no_senders.remove(port.number()) else {
+    let Some(notify) = world.take_no_senders(port) else {
         return 0;
     };
     pay(world, notify, Notice::SendOnce)
@@ -122,9 +121,7 @@ fn end_port_destroyed(world: &mut World, port: PortId) -> u64
     requires { IsNextToBury port world.old }
     ensures { EndsRequests port (λ r. r ≡ port_destroyed port) world.old result world.new }
 {
-    // So it is seen that a slot is spare.
-    let _ = world.ledger.unused();
-    let Some(notify) = world.requests.port_destroyed.remove(port.number()) else {
+    let Some(notify) = world.take_port_destroyed(port) else {
         return 0;
     };
     pay(world, notify, Notice::SendOnce)
@@ -153,9 +150,7 @@ fn end_name(world: &mut World, port: PortId, request: Request) -> u64
         notify,
         ..
     } = request;
-    // So it is seen that a slot is spare.
-    let _ = world.ledger.unused();
-    world.requests.names.remove(task, name);
+    world.take_on_name(task, name);
     let entry = world.lookup(task, name);
     if let Some(entry) = entry {
         world.put_left(task, name, Some(dead_name(entry.send_references())));

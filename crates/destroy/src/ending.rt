@@ -1,11 +1,8 @@
 //! The end of a step.
-ghost use Rattle.std.specs.Prelude.{◌≡◌, ◌↔◌, ℕ, IsTrue, slice_get};
-ghost use Rattle.std.specs.List.{Contains};
-ghost use Rattle.port.specs.declared.Holder.TheVariants as Holder;
-ghost use Rattle.port.specs.Holding.{IsHeldBy};
+ghost use Rattle.std.specs.Prelude.{◌≡◌, ◌↔◌, IsTrue, slice_get};
 ghost use Rattle.port.specs.Idle.{IsIdle as AreIdle};
 ghost use Rattle.copyin_base.specs.Worlds.{IsIdle};
-ghost use Rattle.destroy.specs.Stages.{IsMidway, KeepsRooms, SettlesIn};
+ghost use Rattle.destroy.specs.Stages.{IsMidway, KeepsRooms, SettlesIn, TellsDoomed, TellsLost};
 
 use crate::burials::bury_ports;
 use crate::judging::judge_ports;
@@ -38,8 +35,8 @@ pub fn settle(world: &mut World) -> u64
 /// time.
 pub fn is_idle(world: &World) -> bool
     ensures idle { IsTrue result ↔ IsIdle world.now }
-    ensures lost { (port : ℕ) → Contains world.now.ports.lost port ↔ IsHeldBy world.now.ports port Holder.Nobody }
-    ensures doomed { (port : ℕ) → Contains world.now.ports.doomed port ↔ IsHeldBy world.now.ports port Holder.Doomed }
+    ensures lost { TellsLost world.now }
+    ensures doomed { TellsDoomed world.now }
 {
     are_ports_idle(world) & first_went(world).is_none()
 }
@@ -47,8 +44,8 @@ pub fn is_idle(world: &World) -> bool
 // Whether no port and no destroyed message waits for the end of the step.
 fn are_ports_idle(world: &World) -> bool
     ensures idle { IsTrue result ↔ AreIdle world.now.ports }
-    ensures lost { (port : ℕ) → Contains world.now.ports.lost port ↔ IsHeldBy world.now.ports port Holder.Nobody }
-    ensures doomed { (port : ℕ) → Contains world.now.ports.doomed port ↔ IsHeldBy world.now.ports port Holder.Doomed }
+    ensures lost { TellsLost world.now }
+    ensures doomed { TellsDoomed world.now }
 {
     world.ports.is_idle()
 }
@@ -63,7 +60,9 @@ fn first_went(world: &World) -> Option<Request>
 // Ends a step, part by part.
 #[inline(never)]
 fn settle_parts(world: &mut World) -> u64
-    requires { IsMidway world.old }
+    requires midway { IsMidway world.old }
+    requires lost { TellsLost world.old }
+    requires doomed { TellsDoomed world.old }
     ensures settles { SettlesIn world.old result world.new }
     ensures rooms { KeepsRooms world.old world.new }
 {
@@ -72,8 +71,6 @@ fn settle_parts(world: &mut World) -> u64
     let lost = lose_messages(world);
     let told = tell_senderless(world);
     let ended = bury_ports(world);
-    // So it is seen that no port that is there is doomed.
-    let _ = world.ports.first_doomed();
     judged
         .saturating_add(lost)
         .saturating_add(told)

@@ -7,12 +7,11 @@ ghost use Rattle.rights.specs.Ledger.{IsEntered, counts_of};
 ghost use Rattle.copyin_base.specs.Kept.{Kept, receive_of};
 ghost use Rattle.port.specs.Holding.{IsHeldBy, NoneHeldBy};
 ghost use Rattle.port.specs.declared.Holder.TheVariants as Holder;
-ghost use Rattle.destroy.specs.Judging.{DoomsPort, IsWithTask, GoesTo, LosesPort, IsQueued, CarriesAmong, LosesAmong, DestroysNext, last_destroyed, Empties, remaining, CanSend, EndsRequest, ResetsPort, HoldsPort, brought};
+ghost use Rattle.destroy.specs.Judging.{DoomsPort, IsWithTask, GoesTo, LosesPort, IsQueued, CarriesAmong, LosesAmong, DestroysNext, last_destroyed, Empties, remaining, CanSend, ResetsPort, HoldsPort, brought};
 ghost use Rattle.destroy.specs.Stages.{IsStarted, IsJudged, IsAt, Continues};
 
 use copyin_base::{Mark, Notice, Slot, World};
 use mach_types::PortId;
-use notifications::post;
 use port::{Attributes, Holder};
 use rights::RightKind;
 
@@ -90,20 +89,11 @@ fn send_away(world: &mut World, port: PortId, notify: PortId)
     ensures fewer { remaining world.new < remaining world.old }
     ensures spaces { world.new.spaces ≡ world.old.spaces }
 {
-    // So it is seen that a slot is spare.
-    let _ = world.ledger.unused();
-    post(world, notify, Notice::PortDestroyed(port));
-    end_request(world, port);
+    world.post(notify, Notice::PortDestroyed(port));
+    world.take_port_destroyed(port);
     reset(world, port);
     hold_in(world, port, notify);
     bring_receive(world, port);
-}
-
-// The port's request to be sent away ends.
-fn end_request(world: &mut World, port: PortId)
-    ensures { EndsRequest world.old port world.new }
-{
-    world.requests.port_destroyed.remove(port.number());
 }
 
 // The port leaves its set, and its counts start again.

@@ -1,19 +1,13 @@
 //! Loses the rights of messages that were destroyed.
-ghost use Rattle.std.specs.Prelude.{◌≡◌, ◌<◌, [], slice_get, IfSome, IfNone};
+ghost use Rattle.std.specs.Prelude.{◌≡◌, [], slice_get, IfSome, IfNone};
 ghost use Rattle.std.specs.Option.{option_to_list};
-ghost use Rattle.rights.specs.Ledger.{IsEntered, counts_of};
-ghost use Rattle.copyin_base.specs.declared.notice.Notice.TheVariants as notice;
-ghost use Rattle.copyin_base.specs.Changes.{NotesSenderless};
-ghost use Rattle.notifications.specs.Posting.{CanPost, Posts};
-ghost use Rattle.destroy.specs.Losing.{CanLose, CanLoseOf, IsLosing, LosesOf, LosesRight, LosesTo, carried_in, without_first, without_send};
+ghost use Rattle.destroy.specs.Losing.{CanLose, CanLoseOf, IsLosing, LosesOf, LosesRight, LosesTo, carried_in, without_first};
 ghost use Rattle.destroy.specs.Stages.{AreLost, Continues, IsAt, IsJudged};
 ghost use Rattle.mach_types.specs.Numbers.{kind_sent};
 
 use crate::paying::lives;
 use copyin_base::{Carried, Mark, Notice, Queued, Slot, World};
 use mach_types::{Disposition, PortId, Right};
-use notifications::post;
-use rights::RightKind;
 
 /// Loses the rights of each message that was destroyed, except for those for ports that don't live. Returns
 /// how many.
@@ -98,38 +92,13 @@ fn lose_for(world: &mut World, port: PortId, given: Disposition) -> u64
 {
     match given.kind() {
         Right::Send => {
-            lose_send(world, port);
+            world.lose_sends(port, 1);
             1
         }
         Right::SendOnce => {
-            lose_once(world, port);
+            world.post(port, Notice::SendOnce);
             1
         }
         Right::Receive | Right::PortSet | Right::DeadName => 0,
     }
-}
-
-// A send right for the port is lost.
-//
-// Takes no memory. Constant time.
-fn lose_send(world: &mut World, port: PortId)
-    requires entered { IsEntered world.old.ledger port }
-    requires some { 0 < (counts_of world.old.ledger port).send }
-    ensures { NotesSenderless (without_send world.old port) port world.new }
-{
-    world.ledger.take(port, RightKind::Send, 1);
-    world.note_senderless(port);
-}
-
-// A send-once right for the port is lost unused: its port is told.
-//
-// Takes no memory. Constant time.
-fn lose_once(world: &mut World, port: PortId)
-    requires { CanPost world.old port }
-    ensures spare { 0 < world.old.ports.spare }
-    ensures posts { Posts world.old port notice.SendOnce world.new }
-{
-    // So it is seen that a slot is spare.
-    let _ = world.ledger.unused();
-    post(world, port, Notice::SendOnce);
 }

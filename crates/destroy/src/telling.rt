@@ -1,9 +1,8 @@
 //! Posts the notices of ports that lost their last send rights.
 ghost use Rattle.std.specs.Prelude.{◌≡◌, ◌↔◌, ◌<◌, slice_get, IsTrue, IfSome, IfNone};
-ghost use Rattle.std.specs.FinMap as map;
 ghost use Rattle.rights.specs.Ledger.{counts_of};
 ghost use Rattle.destroy.specs.Stages.{AreLost, AreTold, IsAt, Continues};
-ghost use Rattle.destroy.specs.Telling.{CanTell, TellsOf, taken_out, without_no_senders};
+ghost use Rattle.destroy.specs.Telling.{CanTell, TellsOf, taken_out};
 
 use crate::paying::{lives, pay};
 use copyin_base::{Notice, World};
@@ -42,20 +41,10 @@ fn tell_no_senders(world: &mut World, port: PortId) -> u64
         return 0;
     }
     let made = world.attributes(port).make_send;
-    let Some(notify) = end_no_senders(world, port) else {
+    let Some(notify) = world.take_no_senders(port) else {
         return 0;
     };
-    // So it is seen that a slot is spare.
-    let _ = world.ledger.unused();
     pay(world, notify, Notice::NoSenders(made))
-}
-
-// The port's request to be told of no senders ends, if it stands. Answers its notify port.
-fn end_no_senders(world: &mut World, port: PortId) -> Option<PortId>
-    ensures notify { result ≡ map.get world.old.requests.no_senders.map port }
-    ensures ended { world.new ≡ without_no_senders world.old port }
-{
-    world.requests.no_senders.remove(port.number())
 }
 
 fn has_senders(world: &World, port: PortId) -> bool

@@ -32,7 +32,6 @@ use Rattle.copyin_base.specs.Worlds.{WorldView, entry_in, entry_at, space_at, wi
 use Rattle.copyin_base.specs.Shows.{Agrees, HoldersAgree, Shows}
 use Rattle.copyin_base.specs.Stands.{Stands}
 use Rattle.copyin_base.proofs.Acting.{Does-so, done}
-use Rattle.copyin_base.proofs.Agreeing.{own_names}
 use Rattle.copyin_base.proofs.Gets.{same_found, of_some}
 use Rattle.copyin_base.proofs.Holders.{ReceivesAt, KeepHolders, same_holders, holders_added, holders_made}
 use Rattle.copyin_base.proofs.NamesChanged.{added_agrees}

@@ -29,7 +29,7 @@ use Rattle.port.specs.declared.Holder.TheVariants.{Nobody}
 use Rattle.port.specs.Holding.{held}
 use Rattle.port.specs.declared.Holder.{Holder}
 use Rattle.port.specs.declared.Holder.TheVariants as by
-use Rattle.port_set.specs.Sets.{SetsView, removed, IsDisbanded}
+use Rattle.port_set.specs.Sets.{removed, IsDisbanded}
 use Rattle.copyin_base.specs.Changes.{NotesSenderless, IsForLive, CanPutLeft, PutsLeft, NotesSenders}
 use Rattle.copyin_base.specs.Worlds.{WorldView, entry_in, entry_at, space_at, with_space, port_at, put, NoneLost}
 use Rattle.copyin_base.specs.Shows.{SlotsSuffice, CarriersAgree, RequestsStand, Shows, Agrees, HoldersAgree}
@@ -54,8 +54,7 @@ use Rattle.copyin_base.proofs.Holders.{ReceivesIn, ReceivesAt, IsReceive, no_rec
 use Rattle.copyin_base.proofs.Listed.{listed_one}
 use Rattle.copyin_base.proofs.Reading.{named_port}
 use Rattle.copyin_base.proofs.Spares.{keeps_space}
-use Rattle.notifications.specs.Losing.{CanLose, LosesPort}
-use Rattle.notifications.specs.Posting.{CanPost}
+use Rattle.copyin_base.specs.Losing.{CanLose, CanPost, DropsSet, LosesPort}
 use Rattle.kernel_core_base.specs.declared.references.Due.{Due}
 use Rattle.kernel_core_base.specs.declared.references.Due.TheVariants.{LosingOnce, Killing, Nothing, References, Disbanding}
 use Rattle.kernel_core_base.specs.References.{NotesLost, NotesFewer, recounted_at, CountsReferences, Carries, left_with, CanCount, CanSet, RemovesSet, sends_left, CanKill, TakesReceive, recounted, LosesReceive}
@@ -186,17 +185,14 @@ references_set old mid x task name m e left ledger can puts left_is view counts 
 pub can_put_none : (w : WorldView) (task name : ℕ) (e : Entry) → entry_at w task name ≡ Some e → CanPutLeft w task name None
 can_put_none w task name e is = can_put w task name e None is (λ x f. absurd (let g : None ≡ Some x = f in cc))
 
-pub set_removed : (old mid x : WorldView) (task name set : ℕ) (ports : PortsView Kept) (sets : SetsView) → entry_at old task name ≡ Some (entry_of.Set set) → PutsLeft old task name None mid → x ≡ mid →
-    sets ≡ removed x.sets set → IsDisbanded x.ports ports set → RemovesSet old task name set (record x { ports = ports; sets = sets })
-set_removed old mid x task name set ports sets is q view gone disbanded =
-    let same = view ∙ q.rest in
-    record {
-      space = q.space;
-      there = q.there;
-      found = sym (ap (λ (o : Option SpaceView). entry_in o name) q.there) ∙ is;
-      disbanded = subst (λ (y : WorldView). IsDisbanded y.ports ports set) same disbanded;
-      rest = λ i. record (same i) { ports = ports; sets = (gone ∙ ap (λ (y : WorldView). removed y.sets set) same) i };
-    }
+pub set_removed : (old mid new : WorldView) (task name set : ℕ) → entry_at old task name ≡ Some (entry_of.Set set) → PutsLeft old task name None mid → DropsSet mid set new → RemovesSet old task name set new
+set_removed old mid new task name set is q drops = record {
+  space = q.space;
+  there = q.there;
+  found = sym (ap (λ (o : Option SpaceView). entry_in o name) q.there) ∙ is;
+  disbanded = subst (λ (y : WorldView). IsDisbanded y.ports new.ports set) q.rest drops.disbanded;
+  rest = drops.rest ∙ ap (λ (y : WorldView). record y { ports = new.ports; sets = removed y.sets set }) q.rest;
+}
 
 -- ---- A right is lost by the verbs of the tables, as is due.
 

@@ -376,7 +376,7 @@ module _ (w : WorldView) (task name p : ℕ) (v : WorldView) (r : LosesOnce w ta
             let left : v.ledger.unused ≡ r.named.ledger.unused - 1 = ap (λ (x : WorldView). x.ledger.unused) r.posts.rest in
             let spare : r.named.ports.spare ≡ w.ports.spare = ap (λ (x : WorldView). x.ports.spare) r.puts.rest in
             let unused : r.named.ledger.unused ≡ w.ledger.unused = ap (λ (x : WorldView). x.ledger.unused) r.puts.rest in
-            let some = r.counted in
+            let some = r.posts.counted in
             omega (arith, now, left, spare, unused, some, enough);
       }
 

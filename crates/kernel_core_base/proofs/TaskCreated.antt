@@ -1,5 +1,5 @@
 -- A task, a port and a set that are made.
-use Rattle.std.proofs.Common.{◌≡◌, ℕ, ◌+◌, ◌<◌, ◌≤◌, List, [], ◌∷◌, ◌++◌, Option, Some, None, refl, sym, ap, subst, ◌∙◌, arith, Bool, true, false, inl, inr, length}
+use Rattle.std.proofs.Common.{◌≡◌, ℕ, ◌+◌, ◌<◌, List, [], ◌∷◌, ◌++◌, Option, Some, None, refl, sym, ap, subst, ◌∙◌, arith, Bool, true, false, inl, inr, length}
 use Rattle.std.specs.Prelude.{is_some, if◌then◌else◌, ◌≢◌, slice_set, ◌==◌}
 use Rattle.std.specs.Option.{option_map}
 use Rattle.std.specs.FinMap as map

@@ -22,7 +22,7 @@ use Rattle.copyin_base.specs.Kept.{Kept}
 use Rattle.copyin_base.specs.Requests.{request_left, requests_after}
 use Rattle.copyin_base.specs.Shows.{SlotsSuffice}
 use Rattle.copyin_base.specs.Worlds.{WorldView, entry_at, put, space_at, port_at}
-use Rattle.notifications.specs.Posting.{Posts}
+use Rattle.copyin_base.specs.Losing.{Posts}
 use Rattle.kernel_core_base.specs.declared.references.Change.{Change}
 use Rattle.kernel_core_base.specs.declared.references.Change.TheVariants.{More, Fewer}
 use Rattle.kernel_core_base.specs.declared.references.Due.{Due}
@@ -105,7 +105,6 @@ pub record LosesOnce (old : WorldView) (task name port : ℕ) (new : WorldView) 
   pub puts : PutsLeft old task name None named
   pub posts : Posts named port notice.SendOnce new
   pub slots : SlotsSuffice new
-  pub counted : 0 < named.ledger.unused
 
 -- ---- a receive right
 

@@ -8,7 +8,6 @@ ghost use Rattle.mach_types.specs.Codes.{kern_number};
 ghost use Rattle.mach_model.specs.Refusals.{call_guards};
 ghost use Rattle.name_space.specs.declared.Entry.TheVariants as AnyEntry;
 ghost use Rattle.name_space.specs.Entry.{port_named, send_references};
-ghost use Rattle.port_set.specs.Sets.{removed, IsDisbanded};
 ghost use Rattle.rights.specs.declared.RightKind.TheVariants as kind;
 ghost use Rattle.rights.specs.Ledger.{IsEntered, counts_of, taken};
 ghost use Rattle.copyin_base.specs.Serving.{IsRefused, Serves};
@@ -17,13 +16,10 @@ ghost use Rattle.copyin_base.specs.Wanted.{UsesSpares};
 ghost use Rattle.copyin_base.specs.Worlds.{entry_at, HasTask};
 ghost use Rattle.kernel_core_base.specs.References.{whole_loss, left_with, recounted_at, CanCount, CanSet, NotesLost, NotesFewer, CountsReferences, SetsReferences, RemovesSet, LosesOnce, sends_left, CanKill, TakesReceive, LosesReceive, CanCarry, Carries, deallocated, destroyed, IsChange, more_in, CanSum, CannotSum, changed_whole, FindsRight, CanChange, CannotChange};
 
-use copyin_base::{Code, Queued, World};
+use copyin_base::{Code, Notice, World};
 use mach_types::limits::{MOST_REFERENCES, MOST_RIGHTS};
 use mach_types::{KernReturn, Name, PortId, Reply, Right, SetId, TaskId};
 use name_space::Entry;
-use notifications::{kill_port, lose_once};
-use port::Ports;
-use port_set::{Sets, disband};
 use rights::{Ledger, RightKind};
 use user_refs::UserRefs;
 
@@ -128,22 +124,13 @@ fn set_references(world: &mut World, task: TaskId, name: Name, entry: Entry, ref
     note_fewer(world, &entry, references);
 }
 
-// A set goes, and its members are in none.
-fn drop_set(sets: &mut Sets, ports: &mut Ports<Queued>, set: SetId)
-    ensures sets { sets.new ≡ removed sets.old set }
-    ensures ports { IsDisbanded ports.old ports.new set }
-{
-    sets.remove(set);
-    disband(ports, set);
-}
-
 // Takes the name of a set away, and the set.
 fn remove_set(world: &mut World, task: TaskId, name: Name, set: SetId)
     requires { entry_at world.old task name ≡ Some (AnyEntry.Set set) }
     ensures { RemovesSet world.old task name set world.new }
 {
     world.put_left(task, name, None);
-    drop_set(&mut world.sets, &mut world.ports, set);
+    world.drop_set(set);
 }
 
 // Takes the name of a send-once right away, and its port is told that the right was lost.
@@ -153,7 +140,7 @@ fn lose_name_once(world: &mut World, task: TaskId, name: Name, port: PortId)
     ensures { LosesOnce world.old task name port world.new }
 {
     world.put_left(task, name, None);
-    lose_once(world, port);
+    world.post(port, Notice::SendOnce);
 }
 
 // What is left under a name that loses its port's receive right.
@@ -186,7 +173,7 @@ fn take_receive(world: &mut World, task: TaskId, name: Name, loss: Loss)
     let port = loss.port;
     let gone = loss.held - loss.left;
     let left = left_sending(loss);
-    kill_port(world, port);
+    world.lose_receive(port);
     world.put_left(task, name, left);
     take_sends(&mut world.ledger, port, gone);
 }

@@ -1,32 +1,28 @@
 -- What stands under a name is lost, with the name or without it.
 use Rattle.std.proofs.Common.{◌≡◌, ℕ, ◌++◌, [], ◌∷◌, List, Option, Some, refl, sym, ap, subst, ◌∙◌, ◌<◌, Bool, true, false, None, is_some, ◌≢◌, arith, ◌≤◌, inl, inr, ◌+◌, ◌^◌}
 use Rattle.std.specs.FinMap as map
-use Rattle.std.specs.Prelude.{if◌then◌else◌, ◌-◌, slice_set, max}
+use Rattle.std.specs.Prelude.{if◌then◌else◌, ◌-◌, slice_set, max, MatchBool}
 use Rattle.std.specs.Option.{option_map}
 use Rattle.std.proofs.Math.Path.{fun_ext}
 use Rattle.std.proofs.lemmas.Bool.{cases_lt}
-use Rattle.mach_types.specs.declared.profiles.Profile.{Profile}
 use Rattle.mach_types.specs.Numbers.{dead_word}
 use Rattle.mach_model.specs.State.{State}
 use Rattle.rights.specs.declared.RightKind.TheVariants.{Receive}
-use Rattle.rights.specs.Ledger.{LedgerView, taken, IsEntered, counts_of, shifted}
+use Rattle.rights.specs.Ledger.{taken, shifted}
 use Rattle.rights.specs.declared.RightKind.TheVariants as kind
 use Rattle.name_space.specs.Names.{SpaceView}
 use Rattle.name_space.specs.declared.Entry.TheVariants as entry
 use Rattle.name_space.specs.declared.Entry.{Entry}
 use Rattle.name_space.specs.Entry.{port_of}
 use Rattle.port.specs.declared.Holder.TheVariants.{Nobody}
-use Rattle.port.specs.Holding.{held, CanHold}
-use Rattle.port.specs.Ports.{PortView, PortsView, with_port}
-use Rattle.port.proofs.Keys.{same_some}
-use Rattle.port_set.specs.Sets.{SetsView, removed}
+use Rattle.port.specs.Holding.{held}
+use Rattle.port.specs.Ports.{with_port}
+use Rattle.port_set.specs.Sets.{removed}
 use Rattle.request_table.specs.Requests.{RequestsView}
-use Rattle.copyin_base.specs.Kept.{Kept}
-use Rattle.copyin_base.specs.Reading.{AreGiven, live_in, reading, read_space}
-use Rattle.copyin_base.specs.Requests.{RequestTablesView, request_left, requests_after}
+use Rattle.copyin_base.specs.Reading.{live_in, reading, read_space}
+use Rattle.copyin_base.specs.Requests.{request_left, requests_after}
 use Rattle.copyin_base.specs.Worlds.{WorldView, port_at, entry_at, with_space, put, space_in, space_at, entry_in}
-use Rattle.copyin_base.proofs.Reading.{SamePorts, same_given, same_put, reads_same, get_read}
-use Rattle.copyin_base.proofs.Written.{tables, ports_written}
+use Rattle.copyin_base.proofs.Reading.{reads_same, get_read}
 use Rattle.copyin_base.specs.Shows.{Shows, SlotsSuffice, Agrees}
 use Rattle.copyin_base.proofs.Requested.{left_entry, left_other}
 use Rattle.copyin_base.specs.declared.notice.Notice.TheVariants as notice
@@ -39,99 +35,28 @@ use Rattle.copyin_base.specs.Stands.{Stands}
 use Rattle.copyin_base.specs.Wanted.{room_in, room_of, KeepsSpares, UsesSpares}
 use Rattle.copyin_base.proofs.Spares.{keeps_refl, keeps_names, keeps_trans, left_keeps}
 use Rattle.copyin_base.proofs.Tied.{stands_tied}
-use Rattle.notifications.specs.Ending.{CanLoseEntry, LosesEntry, DropsSet, LosesName, LosesOnce, LosesSends, IsNextEntry}
-use Rattle.notifications.specs.Losing.{CanLose, LosesPort}
+use Rattle.notifications.specs.Ending.{CanLoseEntry, LosesEntry, LosesName, LosesOnce, IsNextEntry}
+use Rattle.copyin_base.specs.Losing.{CanLose, CanPost, DropsSet, LosesPort, LosesSends}
 use Rattle.notifications.proofs.Removing.{SendsGo, EntryGoes, NameGoes, ShowsPart, EndsFrom, IsEnding, ReceiveGoes, OnceGoes, SetGoes, HasNoNames}
 use Rattle.notifications.proofs.DeadLost.{dead_lost}
 use Rattle.notifications.proofs.ReceiveLost.{receive_lost, Stood, stood, can_lose_port, can_post_for, port_entered, sends_counted, ends_first}
-use Rattle.notifications.proofs.TaskEnded.{send_lost, both_lost, each-closed, shown_is}
+use Rattle.copyin_base.proofs.Removed.{each-closed}
+use Rattle.notifications.proofs.TaskEnded.{send_lost, both_lost, shown_is}
 use Rattle.notifications.proofs.SetLost.{set_lost}
 use Rattle.notifications.proofs.UnusedLost.{unused_lost}
-use Rattle.notifications.specs.Posting.{CanPost}
-
--- ---- What losing a receive right writes of the tables: a port's holder, its counts and the list of those that were lost alone.
-
--- nobody holds the port's receive right
-abbrev pub with_lost : PortsView Kept → (p : ℕ) → PortView Kept → PortsView Kept
-with_lost ports p v = record (with_port ports p (held v Nobody)) { lost = ports.lost ++ p ∷ [] }
-
-module _ (old : WorldView) {profile : Profile} (spaces : List (Option SpaceView)) (ports : PortsView Kept) (ledger : LedgerView) (sets : SetsView) (requests : RequestTablesView)
-    (view : tables profile spaces ports ledger sets requests ≡ old) (p : ℕ) (v : PortView Kept) (new : PortsView Kept) (there : map.get old.ports.ports p ≡ Some v)
-    (is : map.get ports.ports p ≡ Some v → new ≡ with_lost ports p v) where
-  here : map.get ports.ports p ≡ Some v
-  here = ap (λ (w : WorldView). map.get w.ports.ports p) view ∙ there
-
-  same : SamePorts ports new
-  same = subst (SamePorts ports) (sym (is here)) record { live = same_put ports p v (held v Nobody) here; made = refl }
-
-  pub lost_given : AreGiven spaces ports → AreGiven spaces new
-  lost_given = same_given spaces ports new same
-
-  pub lost_written : (counts : LedgerView) → counts ≡ taken ledger p Receive 1 → tables profile spaces new counts sets requests ≡ record old { ports = with_lost old.ports p v; ledger = taken old.ledger p Receive 1 }
-  lost_written counts e =
-      ap (λ (w : WorldView). record w { ledger = counts }) (ports_written old spaces ports ledger sets requests view new same)
-      ∙ (λ i. record old { ports = (is here ∙ ap (λ (w : WorldView). with_lost w.ports p v) view) i; ledger = (e ∙ ap (λ (w : WorldView). taken w.ledger p Receive 1) view) i })
 
 -- ---- A receive right that is kept under a name: its port is there and loses it, or is gone, and nothing is lost.
 
-no_true : false ≡ true → ⊥
-no_true e = cc
-
 module _ (old : WorldView) (p : ℕ) where
-  -- as it is read where the port is there, or isn't
-  can_lose : (b : Bool) → live_in old.ports p ≡ b → b ≡ true → CanLoseEntry old (reading (live_in old.ports) (entry.Receive p)) → CanLose old p
-  can_lose b live is can = subst (λ (l : Bool). CanLoseEntry old (if l then entry.Receive p else entry.DeadName 1)) (live ∙ is) can
+  pub kept_can : CanLoseEntry old (reading (live_in old.ports) (entry.Receive p)) → is_some (port_at old p) ≡ true → CanLose old p
+  kept_can can live = subst (λ (l : Bool). CanLoseEntry old (if l then entry.Receive p else entry.DeadName 1)) live can
 
-  lost_there : live_in old.ports p ≡ true → (new : WorldView) → LosesPort old p new → LosesEntry old (reading (live_in old.ports) (entry.Receive p)) new
-  lost_there live new lost = subst (λ (l : Bool). LosesEntry old (if l then entry.Receive p else entry.DeadName 1) new) (sym live) lost
-
-  lost_gone : live_in old.ports p ≡ false → (new : WorldView) → new ≡ old → LosesEntry old (reading (live_in old.ports) (entry.Receive p)) new
-  lost_gone live new same = subst (λ (l : Bool). LosesEntry old (if l then entry.Receive p else entry.DeadName 1) new) (sym live) same
-
-module _ (old : WorldView) {profile : Profile} (spaces : List (Option SpaceView)) (ports : PortsView Kept) (ledger : LedgerView) (sets : SetsView) (requests : RequestTablesView)
-    (view : tables profile spaces ports ledger sets requests ≡ old) (p : ℕ) (can : CanLoseEntry old (reading (live_in old.ports) (entry.Receive p))) where
-  now : (o : Option (PortView Kept)) → map.get ports.ports p ≡ o → port_at old p ≡ o
-  now o h = sym (ap (λ (w : WorldView). map.get w.ports.ports p) view) ∙ h
-
-  -- who holds it can lose it
-  pub kept_held : (q : PortView Kept) → map.get ports.ports p ≡ Some q → CanHold q.attributes.holder
-  kept_held q h =
-      let r = can_lose old p true (ap is_some (now (Some q) h)) refl can in
-      subst (λ (x : PortView Kept). CanHold x.attributes.holder) (same_some r.v q (sym r.there ∙ now (Some q) h)) r.held
-
-  module _ (new : PortsView Kept) (there : (q : PortView Kept) → map.get ports.ports p ≡ Some q → new ≡ with_lost ports p q) (gone : map.get ports.ports p ≡ None → new ≡ ports)
-      (b : Bool) (told : b ≡ is_some (map.get ports.ports p)) where
-    pub kept_given : AreGiven spaces ports → AreGiven spaces new
-    kept_given given = by_cases (map.get ports.ports p) refl
-      where
-        by_cases : (o : Option (PortView Kept)) → map.get ports.ports p ≡ o → AreGiven spaces new
-        by_cases (Some q) h = lost_given old spaces ports ledger sets requests view p q new (now (Some q) h) (there q) given
-        by_cases None h = subst (AreGiven spaces) (sym (gone h)) given
-
-    pub kept_can : b ≡ true → CanLose old p
-    kept_can is = can_lose old p b (ap is_some (now (map.get ports.ports p) refl) ∙ sym told) is can
-
-    pub kept_entered : b ≡ true → IsEntered ledger p
-    kept_entered is = subst (λ (w : WorldView). IsEntered w.ledger p) (sym view) (kept_can is).entered
-
-    pub kept_counted : b ≡ true → 0 < (counts_of ledger p).receive
-    kept_counted is = subst (λ (w : WorldView). 0 < (counts_of w.ledger p).receive) (sym view) (kept_can is).counted
-
-    pub kept_lost : b ≡ true → (counts : LedgerView) → counts ≡ taken ledger p Receive 1 → LosesEntry old (reading (live_in old.ports) (entry.Receive p)) (tables profile spaces new counts sets requests)
-    kept_lost is counts e =
-        let r = kept_can is in
-        lost_there old p (ap is_some r.there) (tables profile spaces new counts sets requests) record {
-          v = r.v;
-          there = r.there;
-          rest = lost_written old spaces ports ledger sets requests view p r.v new r.there (there r.v) counts e;
-        }
-
-    pub kept_gone : b ≡ false → LosesEntry old (reading (live_in old.ports) (entry.Receive p)) (tables profile spaces new ledger sets requests)
-    kept_gone is = by_cases (map.get ports.ports p) refl
-      where
-        by_cases : (o : Option (PortView Kept)) → map.get ports.ports p ≡ o → LosesEntry old (reading (live_in old.ports) (entry.Receive p)) (tables profile spaces new ledger sets requests)
-        by_cases (Some q) h = absurd (no_true (sym is ∙ told ∙ ap is_some h))
-        by_cases None h = lost_gone old p (ap is_some (now None h)) (tables profile spaces new ledger sets requests) (ap (λ (x : PortsView Kept). tables profile spaces x ledger sets requests) (gone h) ∙ view)
+  pub kept_lost : (new : WorldView) → MatchBool (is_some (port_at old p)) (LosesPort old p new) (new ≡ old) → LosesEntry old (reading (live_in old.ports) (entry.Receive p)) new
+  kept_lost new = go (is_some (port_at old p))
+    where
+      go : (b : Bool) → MatchBool b (LosesPort old p new) (new ≡ old) → LosesEntry old (if b then entry.Receive p else entry.DeadName 1) new
+      go true lost = lost
+      go false same = same
 
 -- ---- A name went with what stood there, whatever it was: the tables show what is left of the task, and its other names stay.
 
@@ -318,9 +243,8 @@ module _ (g : WorldView) (spaces : Spaces) (task name : ℕ) (e : Entry) (st : S
     goes = record {
       named = named;
       puts = puts None;
-      posts = record { v = r.posts.v; there = r.posts.there; rest = refl };
+      posts = record { v = r.posts.v; there = r.posts.there; counted = r.posts.counted; spare = r.posts.spare; rest = refl };
       slots = subst (λ (x : WorldView). x.ledger.unused ≤ x.ports.spare) r.posts.rest r.slots;
-      counted = r.counted;
     };
     gone = own;
     closed = shut;
@@ -416,7 +340,7 @@ once_uses w v task name p enough r =
     let now : v.ports.spare ≡ r.named.ports.spare - 1 = ap (λ (x : WorldView). x.ports.spare) r.posts.rest in
     let unused : r.named.ledger.unused ≡ w.ledger.unused = ap (λ (x : WorldView). x.ledger.unused) r.puts.rest in
     let spare = k.slots in
-    let some = r.counted in
+    let some = r.posts.counted in
     record {
       rooms = λ u. let e : room_of v u ≡ room_of r.named u = ap (λ (x : WorldView). room_in (space_in x.spaces u)) r.posts.rest in let h = k.rooms u in omega (arith, e, h);
       fewer = omega (arith, left, unused);

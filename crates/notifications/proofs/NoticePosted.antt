@@ -1,11 +1,9 @@
 -- A notice is posted: what that writes of the tables, and what they then agree with.
 use Rattle.std.proofs.Common.{◌≡◌, ℕ, ◌<◌, ◌-◌, ◌++◌, [], ◌∷◌, List, Option, Some, refl, sym, ap, subst, ◌∙◌, arith, ◌+◌, ◌≤◌, Bool, true, length, false, None, inl, inr}
-use Rattle.std.specs.FinMap as map
 use Rattle.std.specs.Prelude.{is_some, if◌then◌else◌, filter, ◌&&◌, not, Contains, option_map}
 use Rattle.std.specs.Option.{unwrap_or}
 use Rattle.std.proofs.lemmas.List.{append-nil}
 use Rattle.std.proofs.lemmas.Bool.{eq-eqb}
-use Rattle.mach_types.specs.declared.profiles.Profile.{Profile}
 use Rattle.mach_types.specs.Tokens.{Kind, send_once, Request, in_message, Token, token, Moves, weigh, count, is_of, is_held, Place, in_request, receive, send, no_senders, port_destroyed, dead_name}
 use Rattle.mach_types.specs.Messages.{Entry}
 use Rattle.mach_model.specs.State.{State, Target, lookup}
@@ -20,64 +18,29 @@ use Rattle.mach_model.specs.Settles.{settled_target}
 use Rattle.mach_model.specs.Turns.{Ending, lives_after, became_dead, has_ended}
 use Rattle.mach_model.proofs.Settling.{lives}
 use Rattle.mach_model.proofs.TurnsMade.{start}
-use Rattle.rights.specs.Ledger.{LedgerView, counts_of, shifted}
-use Rattle.rights.specs.Unused.{IsUnusedOfAll}
-use Rattle.rights.proofs.Unused.{once_among}
+use Rattle.rights.specs.Ledger.{counts_of, shifted}
 use Rattle.rights.specs.Counts.{no_rights, one_shifted}
-use Rattle.name_space.specs.Names.{SpaceView}
-use Rattle.port.specs.Ports.{PortView, PortsView, with_port}
-use Rattle.port_set.specs.Sets.{SetsView}
+use Rattle.port.specs.Ports.{PortView}
 use Rattle.copyin_base.specs.declared.notice.Notice.{Notice}
 use Rattle.copyin_base.specs.Kept.{Kept}
-use Rattle.copyin_base.specs.Reading.{AreGiven}
-use Rattle.copyin_base.specs.Requests.{RequestTablesView, notify_of, RequestsAgree}
+use Rattle.copyin_base.specs.Requests.{notify_of, RequestsAgree}
 use Rattle.copyin_base.specs.Shows.{SlotsSuffice, Agrees}
 use Rattle.copyin_base.specs.Worlds.{WorldView, port_at}
-use Rattle.copyin_base.proofs.Reading.{SamePorts, same_given, same_put}
-use Rattle.copyin_base.proofs.Written.{tables, ports_written}
 use Rattle.copyin_base.specs.Queued.{notice_kept, notice_of}
 use Rattle.copyin_base.proofs.Agreeing.{live_put}
 use Rattle.copyin_base.proofs.Counting.{once_queued}
+use Rattle.copyin_base.proofs.Lost.{with_message}
 use Rattle.copyin_base.proofs.Notices.{keeps_notice}
 use Rattle.copyin_base.proofs.Putting.{put_other}
 use Rattle.copyin_base.proofs.Requesting.{requests_stay}
 use Rattle.copyin.proofs.Sent.{with_entry, once_more, onces_other, ports_longer, appended_agrees}
-use Rattle.notifications.specs.Posting.{Posts}
+use Rattle.copyin_base.specs.Losing.{Posts}
 use Rattle.notifications.specs.SoFar.{AgreesOf, IsSoFar}
 use Rattle.notifications.proofs.RequestBegun.{SameCounts, requests_changed}
 
--- ---- What posting a notice writes of the tables: a port's queue and its counts alone.
-
--- a message more is queued
-abbrev pub with_message : PortsView Kept → (p : ℕ) → PortView Kept → Kept → PortsView Kept
-with_message ports p v m = record (with_port ports p (record v { queue = v.queue ++ m ∷ [] })) { spare = ports.spare - 1 }
-
--- where a right is unused, a slot is spare
-pub some_spare : (w : WorldView) (p : ℕ) → IsUnusedOfAll w.ledger → 0 < (counts_of w.ledger p).send_once → SlotsSuffice w → 0 < w.ports.spare
-some_spare w p all paid slots = let among = once_among w.ledger all p in omega (arith, among, paid, slots)
-
+-- a slot is spare for each right that is unused then
 pub slots_posted : (old : WorldView) (p : ℕ) (notice : Notice) (new : WorldView) → SlotsSuffice old → Posts old p notice new → SlotsSuffice new
-slots_posted old p notice new slots posts =
-    let unused : new.ledger.unused ≡ old.ledger.unused - 1 = ap (λ (w : WorldView). w.ledger.unused) posts.rest in
-    let spare : new.ports.spare ≡ old.ports.spare - 1 = ap (λ (w : WorldView). w.ports.spare) posts.rest in
-    omega (arith, slots, unused, spare)
-
-module _ (old : WorldView) {profile : Profile} (spaces : List (Option SpaceView)) (ports : PortsView Kept) (ledger : LedgerView) (sets : SetsView) (requests : RequestTablesView)
-    (view : tables profile spaces ports ledger sets requests ≡ old) (p : ℕ) (v : PortView Kept) (m : Kept) (new : PortsView Kept) (there : map.get old.ports.ports p ≡ Some v)
-    (is : map.get ports.ports p ≡ Some v → new ≡ with_message ports p v m) where
-  here : map.get ports.ports p ≡ Some v
-  here = ap (λ (w : WorldView). map.get w.ports.ports p) view ∙ there
-
-  same : SamePorts ports new
-  same = subst (SamePorts ports) (sym (is here)) record { live = same_put ports p v (record v { queue = v.queue ++ m ∷ [] }) here; made = refl }
-
-  pub posted_given : AreGiven spaces ports → AreGiven spaces new
-  posted_given = same_given spaces ports new same
-
-  pub posted_written : (counts : LedgerView) → counts ≡ shifted ledger p → tables profile spaces new counts sets requests ≡ record old { ports = with_message old.ports p v m; ledger = shifted old.ledger p }
-  posted_written counts e =
-      ap (λ (w : WorldView). record w { ledger = counts }) (ports_written old spaces ports ledger sets requests view new same)
-      ∙ (λ i. record old { ports = (is here ∙ ap (λ (w : WorldView). with_message w.ports p v m) view) i; ledger = (e ∙ ap (λ (w : WorldView). shifted w.ledger p) view) i })
+slots_posted old p notice new slots posts = grind arith
 
 -- ---- Tables that agree with a state still do when a notice is posted, where the state has it in the log and a right of its port pays.
 

@@ -24,7 +24,6 @@ use Rattle.name_space.specs.Names.{SpaceView}
 use Rattle.port.specs.Holding.{CanHold, held as port_held}
 use Rattle.port.specs.Ports.{PortsView, IsLive, PortView, with_port}
 use Rattle.port.specs.declared.Holder.TheVariants as by
-use Rattle.port_set.specs.Sets.{SetsView, removed, IsDisbanded}
 use Rattle.copyin_base.specs.Kept.{Kept}
 use Rattle.copyin_base.specs.Shows.{target_of, Agrees, Shows, HasCount, ShowsPort, HoldersAgree, CarriersAgree, RequestsStand, SlotsSuffice}
 use Rattle.copyin_base.specs.Worlds.{WorldView, space_at, entry_in, entry_at, port_at, space_in}
@@ -42,9 +41,7 @@ use Rattle.copyin_base.proofs.Reading.{same_put}
 use Rattle.copyin_base.proofs.Requested.{requested_removed, requested_put}
 use Rattle.copyin_base.proofs.SendersNoted.{keeps_senders, sends_taken, senders_kept, senders_same}
 use Rattle.copyin_base.proofs.Unused.{held_and_queued}
-use Rattle.notifications.specs.Ending.{DropsSet}
-use Rattle.notifications.specs.Losing.{CanLose}
-use Rattle.notifications.specs.Posting.{CanPost}
+use Rattle.copyin_base.specs.Losing.{CanLose, CanPost}
 use Rattle.notifications.proofs.Removing.{ShowsPart, IsEnding, Part, with_part, ReceiveGoes, EndsFrom}
 use Rattle.notifications.proofs.TaskEnded.{shown, shown_is, looked_up, part_lives, part_once_lives, held_shown, kept_then, kept_unlike, kept_alike, none_held, part_then, is_part_then, tables_then, posted_then, taken_counts}
 
@@ -138,14 +135,6 @@ module _ (w : WorldView) (task : ℕ) (ending : IsEnding w task) where
         paid = omega (arith, some, names, paid);
         slots = shows.slots;
       }
-
--- what losing a set writes
-pub set_dropped : (old x : WorldView) (set : ℕ) (ports : PortsView Kept) (sets : SetsView) → x ≡ old → sets ≡ removed x.sets set → IsDisbanded x.ports ports set →
-    DropsSet old set (record x { ports = ports; sets = sets })
-set_dropped old x set ports sets view gone disbanded = record {
-  disbanded = subst (λ (y : WorldView). IsDisbanded y.ports ports set) view disbanded;
-  rest = λ i. record (view i) { ports = ports; sets = (gone ∙ ap (λ (y : WorldView). removed y.sets set) view) i };
-}
 
 -- ---- A name lost its receive right and went: the tables show what is left of the task, and the port is one more of those that are orphans.
 

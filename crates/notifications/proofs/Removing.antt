@@ -1,6 +1,6 @@
 -- The names of a task that ends go one after the other, each with what stood there: what that changes in the tables, and what they are between
 -- two names. The code leaves the names in place; `InPlace` ties its tables to these.
-use Rattle.std.specs.Prelude.{◌≡◌, ℕ, ◌<◌, ◌≤◌, ◌⊎◌, Bool, true, false, List, [], filter, not, All, Option, Some, None, if◌then◌else◌}
+use Rattle.std.specs.Prelude.{◌≡◌, ℕ, ◌≤◌, ◌⊎◌, Bool, true, false, List, [], filter, not, All, Option, Some, None, if◌then◌else◌}
 use Rattle.std.specs.FinMap as map
 use Rattle.mach_types.specs.Tokens.{send_once, Request, Token, Moves, count, is_held, is_in_task}
 use Rattle.mach_model.specs.State.{State, Target, Names, at}
@@ -18,8 +18,7 @@ use Rattle.copyin_base.specs.Posted.{with_posted, IsLeft}
 use Rattle.copyin_base.specs.Shows.{Agrees, HoldersAgree, CarriersAgree, SlotsSuffice, RequestsStand, Shows}
 use Rattle.copyin_base.specs.Stands.{Stands}
 use Rattle.copyin_base.specs.Worlds.{WorldView, entry_at}
-use Rattle.notifications.specs.Losing.{LosesPort}
-use Rattle.notifications.specs.Posting.{Posts}
+use Rattle.copyin_base.specs.Losing.{LosesPort, Posts}
 
 -- ---- a name goes
 
@@ -41,7 +40,6 @@ pub record OnceGoes (old : WorldView) (task name port : ℕ) (new : WorldView) :
   pub puts : PutsLeft old task name None named
   pub posts : Posts named port notice.SendOnce new
   pub slots : SlotsSuffice new
-  pub counted : 0 < named.ledger.unused
 
 -- The name goes with a set, whose members are in none now.
 pub record SetGoes (old : WorldView) (task name set : ℕ) (new : WorldView) : Type 0 where

@@ -82,7 +82,7 @@ use Rattle.notifications.proofs.RequestBegun.{Begun, begun_none, begun_some, rea
 use Rattle.notifications.specs.declared.request.Asked.{Asked}
 use Rattle.notifications.specs.Room.{SameButRooms, HasPlace, Readies, made_by}
 use Rattle.notifications.proofs.Rooms.{rooms_show}
-use Rattle.notifications.specs.Posting.{CanPost, Posts}
+use Rattle.copyin_base.specs.Losing.{CanPost, Posts}
 use Rattle.notifications.specs.Wanted.{made_for, MakesSlotsFor, LeavesRequest}
 
 -- ---- Which right may pay for a request, in the tables and in each state that they show.

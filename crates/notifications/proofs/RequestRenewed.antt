@@ -31,7 +31,7 @@ use Rattle.notifications.specs.Putting.{Ends, Goes, IsTold, without}
 use Rattle.notifications.proofs.RequestBegun.{Begun, ready_shows, pays_ready, copied_at, is_paid}
 use Rattle.notifications.proofs.RequestJudged.{good_noted, subject_on, e_ready as e, begun_ready as begun, bk, can_post, leaves, event_of}
 use Rattle.notifications.specs.declared.request.Subject.TheVariants.{Senders}
-use Rattle.notifications.specs.Posting.{Posts}
+use Rattle.copyin_base.specs.Losing.{Posts}
 use Rattle.notifications.proofs.RightBack.{Back}
 use Rattle.notifications.proofs.NoticePosted.{told_agrees}
 use Rattle.notifications.proofs.Told.{told_sound}

@@ -52,7 +52,7 @@ use Rattle.notifications.specs.declared.request.Paying.{Paying}
 use Rattle.notifications.specs.declared.request.Subject.{Subject}
 use Rattle.notifications.specs.declared.request.Subject.TheVariants.{Receive, Senders, Live, Dead}
 use Rattle.notifications.specs.Room.{made_by, place_for, HasPlace, with_rooms, SameButRooms, HasNameRoom, Readies}
-use Rattle.notifications.specs.Posting.{Posts}
+use Rattle.copyin_base.specs.Losing.{Posts}
 use Rattle.notifications.specs.Putting.{TellsDead, with_kept, KeepsNew, Ends, Goes, without, IsTold, Puts, CanEnd, CanRenew, Renews, CanCarryOut, CarriesOut}
 use Rattle.notifications.specs.Requesting.{request_of, MayRequest, entry_left, variant_number, IsMisasked, Pays, IsSubject, subject_guards, previous_in, LacksSpace}
 use Rattle.notifications.proofs.Away.{AreOthers, IsKept, agree_at, ended_others, kept_own, kept_other, kept_went, away_own, away_went}

@@ -1,5 +1,5 @@
 -- What is left of a task as it ends, until it is gone.
-use Rattle.std.proofs.Common.{◌≡◌, ℕ, zero, suc, ◌+◌, ◌≤◌, List, Some, refl, sym, ap, subst, arith, Bool, true, false, inr, [], ◌∷◌, Option, None, ◌∙◌, inl, ◌++◌, ◌⊎◌, length, ◌^◌, get_or}
+use Rattle.std.proofs.Common.{◌≡◌, ℕ, zero, suc, ◌+◌, ◌≤◌, List, Some, refl, sym, ap, subst, arith, Bool, true, false, inr, Option, None, ◌∙◌, inl, ◌++◌, ◌⊎◌, length, ◌^◌, get_or}
 use Rattle.std.specs.Prelude.{if◌then◌else◌, ◌&&◌, replicate, slice_set, ◌≢◌, ◌<◌, is_some, ◌==◌, Contains, filter, not, nat_lt}
 use Rattle.std.specs.FinMap as map
 use Rattle.std.proofs.lemmas.Bool.Decides.{eqb_tells}
@@ -10,7 +10,6 @@ use Rattle.std.proofs.lemmas.List.Elements.{All-append, All-replicate}
 use Rattle.std.specs.FinMap.{get-empty}
 use Rattle.std.specs.Ordering.{nat_cmp}
 use Rattle.std.proofs.Math.Path.{fun_ext}
-use Rattle.mach_types.specs.declared.profiles.Profile.{Profile}
 use Rattle.mach_types.specs.Tokens.{Kind, receive, send, send_once, Request, in_task, in_message, in_request, Place, Token, token, weigh, count, is_of, is_held, same_kind, no_senders, port_destroyed, dead_name, is_in_task}
 use Rattle.mach_model.specs.State.{State, Target, Names, lookup, held, at}
 use Rattle.mach_model.specs.Death.{same_place}
@@ -34,20 +33,18 @@ use Rattle.name_space.specs.Entry.{port_named, has_receive, send_references, por
 use Rattle.name_space.specs.declared.Entry.TheVariants as entry_of
 use Rattle.port.specs.Ports.{PortsView, PortView}
 use Rattle.port.specs.declared.Holder.TheVariants as by
-use Rattle.port_set.specs.Sets.{SetsView}
 use Rattle.port_set.specs.declared.SetRecord.{SetRecord}
 use Rattle.request_table.specs.declared.Request.{Request as NameRequest}
 use Rattle.request_table.specs.Requests.{name_key}
+use Rattle.copyin_base.proofs.Removed.{each-closed}
 use Rattle.copyin_base.specs.Posted.{with_posted}
 use Rattle.copyin_base.specs.Shows.{GivenAgrees, CountsAgree, target_of, HasCount, ShowsPort, Agrees, RequestsStand, SlotsSuffice, Shows, HoldersAgree}
 use Rattle.copyin_base.proofs.Counting.{one_of, none_of_port, right_of, counts_agree}
 use Rattle.copyin_base.proofs.Taking.{take_held}
 use Rattle.copyin_base.specs.Kept.{Kept}
-use Rattle.copyin_base.specs.Reading.{read_spaces, live_in, AreGiven}
 use Rattle.copyin_base.specs.Requests.{RequestTablesView, requests_after, notify_of}
 use Rattle.copyin_base.specs.Worlds.{WorldView, space_in, space_at, with_space, put, entry_in, entry_at, port_at}
-use Rattle.copyin_base.proofs.Reading.{read_set, named_port}
-use Rattle.copyin_base.proofs.Written.{tables}
+use Rattle.copyin_base.proofs.Reading.{named_port}
 use Rattle.copyin_base.proofs.Changing.{named_no_set, target_named, changed_agrees}
 use Rattle.copyin_base.proofs.Gets.{same_found, of_some, length-set}
 use Rattle.copyin_base.proofs.Putting.{each_put, put_same}
@@ -150,45 +147,6 @@ module _ (now : ℕ) (s : State) (task : ℕ) (x : Part) where
 
     pub part_once_lives : (name p : ℕ) → map.get x.names name ≡ Some (Target.once p) → s.live_port p ≡ true
     part_once_lives name p e = once_lives s l task name p (is.fewer name (Target.once p) e)
-
--- ---- A task's space is taken out of the tables.
-
-pub closed_same : (spaces : List (Option SpaceView)) (task : ℕ) → space_in (slice_set spaces task None) task ≡ None
-closed_same [] task = refl
-closed_same (x ∷ xs) zero = refl
-closed_same (x ∷ xs) (suc task) = closed_same xs task
-
-pub closed_other : (spaces : List (Option SpaceView)) (task other : ℕ) → other ≢ task → space_in (slice_set spaces task None) other ≡ space_in spaces other
-closed_other [] task other not = refl
-closed_other (x ∷ xs) zero zero not = absurd (not refl)
-closed_other (x ∷ xs) zero (suc other) not = refl
-closed_other (x ∷ xs) (suc task) zero not = refl
-closed_other (x ∷ xs) (suc task) (suc other) not = closed_other xs task other (λ e. not (ap suc e))
-
--- what is true of no space, and of each other task's, is true of all
-pub each-closed : (spaces : List (Option SpaceView)) (task : ℕ) (P : ℕ → Option SpaceView → Type 0) → P task None → ((u : ℕ) → u ≢ task → P u (space_in spaces u)) →
-    (u : ℕ) → P u (space_in (slice_set spaces task None) u)
-each-closed spaces task P own others u = elim (eqb_tells u task) [
-  | inl h ↦ subst (λ (k : ℕ). P k (space_in (slice_set spaces task None) k)) (sym h.1) (subst (P task) (sym (closed_same spaces task)) own)
-  | inr h ↦ subst (P u) (sym (closed_other spaces task u h.1)) (others u h.1)
-]
-
-pub given_closed : (spaces : List (Option SpaceView)) (ports : PortsView Kept) → AreGiven spaces ports → (task : ℕ) → AreGiven (slice_set spaces task None) ports
-given_closed spaces ports g task = record {
-  kept = λ u name space entry port at found for. each-closed spaces task (λ k o. o ≡ Some space → port < ports.made) (λ e. absurd (no_space space e))
-      (λ k not e. g.kept k name space entry port e found for) u at;
-  there = g.there;
-}
-  where
-    no_space : (space : SpaceView) → None ≡ Some space → ⊥
-    no_space space e = cc
-
-pub closed_written : (old : WorldView) (task : ℕ) {profile : Profile} (spaces : List (Option SpaceView)) (ports : PortsView Kept) (ledger : LedgerView) (sets : SetsView) (requests : RequestTablesView) (i : ℕ) →
-    tables profile spaces ports ledger sets requests ≡ old → i ≡ task → tables profile (slice_set spaces i None) ports ledger sets requests ≡ record old { spaces = slice_set old.spaces task None }
-closed_written old task {profile} spaces ports ledger sets requests i view index =
-    ap (λ (xs : List (Option SpaceView)). record (tables profile spaces ports ledger sets requests) { spaces = xs })
-    (read_set (live_in ports) spaces i None ∙ ap (λ (j : ℕ). slice_set (read_spaces (live_in ports) spaces) j None) index)
-    ∙ ap (λ (w : WorldView). record w { spaces = slice_set w.spaces task None }) view
 
 -- ---- A name's receive right, or its send rights, are gone, in the tables and in the machine alike.
 

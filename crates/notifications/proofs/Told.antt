@@ -16,7 +16,7 @@ use Rattle.copyin_base.proofs.Holders.{KeepHolders, holders_ports, put_holders}
 use Rattle.copyin_base.proofs.Idle.{none_lost_by}
 use Rattle.copyin_base.proofs.Requested.{requested_put}
 use Rattle.copyout.proofs.GivenAll.{AreSound}
-use Rattle.notifications.specs.Posting.{Posts}
+use Rattle.copyin_base.specs.Losing.{Posts}
 
 -- a notice that carries no right
 abbrev pub CarriesNone : Notice → Type 0

@@ -6,27 +6,24 @@ use Rattle.mach_types.specs.Numbers.{kind_sent}
 use Rattle.mach_types.specs.Tokens.{Kind, receive, send, send_once, same_kind}
 use Rattle.port.specs.Holding.{CanHold}
 use Rattle.port.specs.Ports.{PortView}
-use Rattle.rights.specs.declared.RightKind.TheVariants as right
-use Rattle.rights.specs.Ledger.{IsEntered, counts_of, taken}
+use Rattle.rights.specs.Ledger.{IsEntered, counts_of}
 use Rattle.copyin_base.specs.declared.message.Carried.{Carried}
 use Rattle.copyin_base.specs.declared.message.Mark.{Mark}
 use Rattle.copyin_base.specs.declared.message.Mark.TheVariants as mark
 use Rattle.copyin_base.specs.declared.notice.Notice.TheVariants as notice
-use Rattle.copyin_base.specs.Changes.{NotesSenderless}
 use Rattle.copyin_base.specs.Kept.{Kept}
 use Rattle.copyin_base.specs.Shows.{SlotsSuffice}
 use Rattle.copyin_base.specs.Worlds.{WorldView, port_at}
 use Rattle.copyout.specs.Ready.{AllEntered, Waits}
 use Rattle.copyout.specs.Takes.{TakesFront, NotesFront}
-use Rattle.notifications.specs.Losing.{CanLose, LosesPort}
-use Rattle.notifications.specs.Posting.{CanPost, Posts}
+use Rattle.copyin_base.specs.Losing.{CanLose, CanPost, LosesPort, LosesSends, Posts}
 
 -- ---- what is lost
 
 -- A right for a port that is there is lost: of a receive right the port is lost, of the last send right it is noted, of a send-once right told.
 abbrev pub LosesRight : WorldView → Kind → (port : ℕ) → WorldView → Type 0
 LosesRight old receive p new = LosesPort old p new
-LosesRight old send p new = NotesSenderless (record old { ledger = taken old.ledger p right.Send 1 }) p new
+LosesRight old send p new = LosesSends old p 1 new
 LosesRight old send_once p new = Posts old p notice.SendOnce new
 
 -- Nothing is lost where there is no right, or its port is gone.

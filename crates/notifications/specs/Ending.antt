@@ -7,17 +7,14 @@ use Rattle.mach_model.specs.Tasks.{EndsTask}
 use Rattle.name_space.specs.declared.Entry.{Entry}
 use Rattle.name_space.specs.declared.Entry.TheVariants as entry
 use Rattle.name_space.specs.Names.{Names}
-use Rattle.port_set.specs.Sets.{removed, IsDisbanded}
-use Rattle.rights.specs.declared.RightKind.TheVariants as kind
-use Rattle.rights.specs.Ledger.{IsEntered, counts_of, taken}
+use Rattle.rights.specs.Ledger.{IsEntered, counts_of}
 use Rattle.copyin_base.specs.declared.notice.Notice.TheVariants as notice
-use Rattle.copyin_base.specs.Changes.{NotesSenderless, NotesSenders}
+use Rattle.copyin_base.specs.Changes.{NotesSenders}
 use Rattle.copyin_base.specs.Posted.{with_posted, IsLeft}
 use Rattle.copyin_base.specs.Requests.{request_left}
 use Rattle.copyin_base.specs.Shows.{Agrees, HoldersAgree, CarriersAgree, SlotsSuffice, RequestsStand, Shows}
 use Rattle.copyin_base.specs.Worlds.{WorldView}
-use Rattle.notifications.specs.Losing.{CanLose, LosesPort}
-use Rattle.notifications.specs.Posting.{CanPost, Posts}
+use Rattle.copyin_base.specs.Losing.{CanLose, CanPost, DropsSet, LosesPort, LosesSends, Posts}
 
 -- ---- a name
 
@@ -29,20 +26,10 @@ pub record IsNextEntry (names : Names) (start name : ℕ) (entry : Entry) : Type
 
 -- ---- what stands there is lost
 
--- So many send rights go, and the port is noted if it has none now.
-abbrev pub LosesSends : WorldView → (port references : ℕ) → WorldView → Type 0
-LosesSends old p n new = NotesSenderless (record old { ledger = taken old.ledger p kind.Send n }) p new
-
 -- A send-once right goes that no queued message went by, and its port is told.
 pub record LosesOnce (old : WorldView) (port : ℕ) (new : WorldView) : Type 0 where
   pub posts : Posts old port notice.SendOnce new
   pub slots : SlotsSuffice new
-  pub counted : 0 < old.ledger.unused
-
--- A set goes, and its members are in none now.
-pub record DropsSet (old : WorldView) (set : ℕ) (new : WorldView) : Type 0 where
-  pub disbanded : IsDisbanded old.ports new.ports set
-  pub rest : new ≡ record old { ports = new.ports; sets = removed old.sets set }
 
 -- What the entry stands for is lost, the send rights first.
 abbrev pub LosesEntry : WorldView → Entry → WorldView → Type 0

@@ -1,5 +1,3 @@
-pub mod Posting
-pub mod Losing
 pub mod SoFar
 pub mod Destroying
 pub mod Ending

@@ -25,7 +25,7 @@ use Rattle.copyout.specs.Ready.{CanGive}
 use Rattle.notifications.specs.declared.request.Paying.{Paying}
 use Rattle.notifications.specs.declared.request.Subject.{Subject}
 use Rattle.notifications.specs.declared.request.Subject.TheVariants.{Receive, Senders, Live, Dead}
-use Rattle.notifications.specs.Posting.{CanPost, Posts}
+use Rattle.copyin_base.specs.Losing.{CanPost, Posts}
 use Rattle.notifications.specs.Room.{HasPlace}
 
 -- ---- the request that stands there goes

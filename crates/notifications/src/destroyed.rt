@@ -1,28 +1,12 @@
 //! A message is destroyed in a step's own part.
-ghost use Rattle.std.specs.Prelude.{◌≤◌};
 ghost use Rattle.std.specs.Option.{option_to_list};
 ghost use Rattle.mach_types.specs.Numbers.{kind_sent};
 ghost use Rattle.copyin_base.specs.declared.message.Mark.TheVariants as mark;
-ghost use Rattle.copyin_base.specs.Changes.{NotesSenderless};
-ghost use Rattle.rights.specs.declared.RightKind.TheVariants as right;
-ghost use Rattle.rights.specs.Ledger.{IsEntered, counts_of, taken};
 ghost use Rattle.notifications.specs.Destroying.{LosesRight, LosesMark, LosesAll, DestroysMessage, CanLoseRight, CanLoseMark, CanLoseAll, CanDestroy};
 
-use crate::lost::{kill_port, lose_once};
-use copyin_base::{Carried, Mark, Queued, World};
+use copyin_base::{Carried, Mark, Notice, Queued, World};
 use copyout::{note_front, take_front};
 use mach_types::{Disposition, PortId, Right};
-use rights::RightKind;
-
-// A send right for the port is lost, and the port is noted if it was the last.
-fn lose_send(world: &mut World, port: PortId)
-    requires entered { IsEntered world.old.ledger port }
-    requires some { 1 ≤ (counts_of world.old.ledger port).send }
-    ensures { NotesSenderless (record world.old { ledger = taken world.old.ledger port right.Send 1 }) port world.new }
-{
-    world.ledger.take(port, RightKind::Send, 1);
-    world.note_senderless(port);
-}
 
 // A right of this kind for a port that is there is lost.
 fn lose_kind(world: &mut World, given: Disposition, port: PortId)
@@ -30,9 +14,9 @@ fn lose_kind(world: &mut World, given: Disposition, port: PortId)
     ensures { LosesRight world.old (kind_sent given) port world.new }
 {
     match given.kind() {
-        Right::Receive => kill_port(world, port),
-        Right::Send => lose_send(world, port),
-        Right::SendOnce => lose_once(world, port),
+        Right::Receive => world.lose_receive(port),
+        Right::Send => world.lose_sends(port, 1),
+        Right::SendOnce => world.post(port, Notice::SendOnce),
         Right::PortSet | Right::DeadName => unreachable!(),
     }
 }

@@ -21,12 +21,11 @@ ghost use Rattle.copyin.specs.Copies.{CopiesRight};
 ghost use Rattle.copyin.specs.Planned.{CanCopy};
 ghost use Rattle.copyout.specs.Giving.{GivesMark};
 ghost use Rattle.copyout.specs.Ready.{CanGive};
-ghost use Rattle.notifications.specs.Posting.{CanPost};
+ghost use Rattle.copyin_base.specs.Losing.{CanPost};
 ghost use Rattle.notifications.specs.Wanted.{WantsToRequest, LeavesRequest, MakesSlotsFor};
 ghost use Rattle.notifications.specs.Putting.{port_taken, taken_away, mark_for, IsNotKept, with_kept, IsTold, TellsDead, CanPut, Puts, without, CanEnd, Ends, CanRenew, Renews, CanCarryOut, CarriesOut};
 ghost use Rattle.notifications.specs.Requesting.{IsMisasked, variant_number, CanPay, GoesNot, capability_guards, Pays, entry_left, names_left, IsSubject, subject_guards, previous_in, ComesOut, is_made_by, rights_then, LacksSpace, MayRequest};
 
-use crate::post;
 use copyin::copy_name;
 use copyin_base::{Carried, Code, Mark, Notice, RequestTables, World};
 use copyout::give_right;
@@ -612,7 +611,7 @@ fn tell_dead(world: &mut World, task: TaskId, name: Name, references: UserRefs, 
 {
     let more = Entry::DeadName(references.add_pegged(1));
     world.put_left(task, name, Some(more));
-    post(world, notify, Notice::DeadName(name));
+    world.post(notify, Notice::DeadName(name));
 }
 
 /// Keeps the new request, or tells at once.
@@ -624,7 +623,7 @@ fn put(world: &mut World, task: TaskId, name: Name, sync: u32, subject: Subject,
     match subject {
         Subject::Dead(references) => tell_dead(world, task, name, references, notify),
         Subject::Senders(port) => match told_at_once(world, port, sync) {
-            Some(number) => post(world, notify, Notice::NoSenders(number)),
+            Some(number) => world.post(notify, Notice::NoSenders(number)),
             None => keep(&mut world.requests, task, name, subject, notify),
         },
         Subject::Receive(_) | Subject::Live(_) => {

@@ -241,7 +241,8 @@ impl Ledger {
     pub fn shift(&mut self, port: PortId)
         requires entered { IsEntered self.old port }
         requires there { 0 < (counts_of self.old port).send_once }
-        ensures { self.new ≡ shifted self.old port }
+        ensures after { self.new ≡ shifted self.old port }
+        ensures some { 0 < self.old.unused }
     {
         self.ports.value_mut(port.number()).shift();
         self.unused -= 1;

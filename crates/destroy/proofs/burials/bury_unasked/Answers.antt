@@ -4,6 +4,7 @@ use Rattle.port.specs.declared.Holder.TheVariants as holder
 use Rattle.port.specs.Holding.{IsHeldBy, NoneHeldBy}
 use Rattle.copyin_base.specs.Worlds.{WorldView}
 use Rattle.copyin_base.proofs.Written.{tables}
+use Rattle.destroy.specs.Stages.{TellsDoomed}
 use Rattle.destroy.proofs.BuryNames.{continues_more, rooms_more, still_at, all_buried}
 use Rattle.destroy.proofs.burials.bury_unasked.Goals as goal
 
@@ -33,3 +34,6 @@ returns-clause-continues c =
 
 pub returns-clause-rooms : goal.returns-clause-rooms
 returns-clause-rooms c = c.loop-port.invariant.1
+
+pub returns-clause-doomed : goal.returns-clause-doomed
+returns-clause-doomed c = subst TellsDoomed c.world.view_is c.in_default.ensures.all

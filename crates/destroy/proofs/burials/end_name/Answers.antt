@@ -1,10 +1,8 @@
 use Rattle.std.proofs.Common.{◌≡◌, sym, ap, subst, ◌∙◌, ℕ}
 use Rattle.name_space.specs.declared.Entry.TheVariants.{DeadName}
 use Rattle.name_space.specs.Entry.{send_references}
-use Rattle.rights.specs.Unused.{IsUnusedOfAll}
 use Rattle.copyin_base.specs.Worlds.{WorldView}
-use Rattle.copyin_base.proofs.Written.{tables}
-use Rattle.notifications.specs.Posting.{CanPost}
+use Rattle.copyin_base.specs.Losing.{CanPost}
 use Rattle.destroy.specs.Burying.{dead_count}
 use Rattle.destroy.specs.Paying.{LivesIn, Pays, PaysMany}
 use Rattle.copyin_base.specs.declared.notice.Notice.TheVariants as notice
@@ -14,21 +12,15 @@ use Rattle.destroy.proofs.burials.end_name.Goals.{in-Some, in_default}
 
 pub put_left-requires : goal.put_left-requires
 put_left-requires c =
-    let k = c.world-inside.inside.0 in
-    let r = k.1.1.1.1.0 in
-    let view : tables k.1.1.1.1.1.0 k.0.items k.1.0 k.1.1.0 k.1.1.1.0 (record { names = r.names; no_senders = r.no_senders; port_destroyed = r.port_destroyed }) ≡ c.args.world.now =
-    ap (λ x. tables x.profile x.spaces.items x.ports x.ledger x.sets x.requests) c.world-inside.view_is ∙ c.world.view_is in
-    let taken = name_taken c.args.world.now k.0.items k.1.0 k.1.1.0 k.1.1.1.0 r.names r.no_senders r.port_destroyed view c.args.request c.requires.is_on.there c.remove.new.self c.remove.result c.remove.ensures.kept c.remove.ensures.some in
+    let t = c.take_on_name in
+    let taken = name_taken c.args.world.now c.args.request t.result t.new.self t.ensures.request c.requires.is_on.there t.ensures.some in
     let dead : c.dead_name.result ≡ DeadName (dead_count (send_references c.in-Some.entry)) = c.dead_name.ensures ∙ ap (λ (n : ℕ). DeadName (dead_count n)) c.send_references.ensures.value in
     can_put c.args.port c.args.request c.args.world.now c.requires _ taken c.in-Some.entry (sym c.lookup-entry.ensures ∙ c.in-Some.is) c.dead_name.result dead
 
 pub pay-requires : goal.pay-requires
 pay-requires c =
-    let k = c.world-inside.inside.0 in
-    let r = k.1.1.1.1.0 in
-    let view : tables k.1.1.1.1.1.0 k.0.items k.1.0 k.1.1.0 k.1.1.1.0 (record { names = r.names; no_senders = r.no_senders; port_destroyed = r.port_destroyed }) ≡ c.args.world.now =
-    ap (λ x. tables x.profile x.spaces.items x.ports x.ledger x.sets x.requests) c.world-inside.view_is ∙ c.world.view_is in
-    let taken = name_taken c.args.world.now k.0.items k.1.0 k.1.1.0 k.1.1.1.0 r.names r.no_senders r.port_destroyed view c.args.request c.requires.is_on.there c.remove.new.self c.remove.result c.remove.ensures.kept c.remove.ensures.some in
+    let t = c.take_on_name in
+    let taken = name_taken c.args.world.now c.args.request t.result t.new.self t.ensures.request c.requires.is_on.there t.ensures.some in
     let some = entry_there c.args.port c.args.request c.args.world.now c.requires _ taken in
     elim c.match-entry.branch [
       | in-Some w ↦
@@ -40,33 +32,27 @@ pay-requires c =
 
 pub returns-clause-ends : goal.returns-clause-ends
 returns-clause-ends c =
-    let k = c.world-inside.inside.0 in
-    let r = k.1.1.1.1.0 in
-    let view : tables k.1.1.1.1.1.0 k.0.items k.1.0 k.1.1.0 k.1.1.1.0 (record { names = r.names; no_senders = r.no_senders; port_destroyed = r.port_destroyed }) ≡ c.args.world.now =
-    ap (λ x. tables x.profile x.spaces.items x.ports x.ledger x.sets x.requests) c.world-inside.view_is ∙ c.world.view_is in
-    let taken = name_taken c.args.world.now k.0.items k.1.0 k.1.1.0 k.1.1.1.0 r.names r.no_senders r.port_destroyed view c.args.request c.requires.is_on.there c.remove.new.self c.remove.result c.remove.ensures.kept c.remove.ensures.some in
+    let t = c.take_on_name in
+    let taken = name_taken c.args.world.now c.args.request t.result t.new.self t.ensures.request c.requires.is_on.there t.ensures.some in
     let some = entry_there c.args.port c.args.request c.args.world.now c.requires _ taken in
     elim c.match-entry.branch [
       | in-Some w ↦
           let dead : w.dead_name.result ≡ DeadName (dead_count (send_references w.in-Some.entry)) = w.dead_name.ensures ∙ ap (λ (n : ℕ). DeadName (dead_count n)) w.send_references.ensures.value in
           named_ends c.args.port c.args.request c.args.world.now c.requires _ taken w.in-Some.entry (sym c.lookup-entry.ensures ∙ w.in-Some.is) w.dead_name.result dead w.put_left.new.self w.put_left.ensures
-          (subst (λ (w : WorldView). IsUnusedOfAll w.ledger) view c.unused.ensures.all) c.pay.new.world (subst (λ (z : WorldView). Pays z c.args.request.notify (notice.DeadName c.args.request.name) c.pay.new.world) w.world-is c.pay.ensures.pays) c.pay.result
+          c.pay.new.world (subst (λ (z : WorldView). Pays z c.args.request.notify (notice.DeadName c.args.request.name) c.pay.new.world) w.world-is c.pay.ensures.pays) c.pay.result
           (subst (λ (z : WorldView). PaysMany z c.args.request.notify c.pay.result) w.world-is c.pay.ensures.many)
       | in_default w ↦ absurd (w.in_default.not-Some some.0 (c.lookup-entry.ensures ∙ some.1))
     ]
 
 pub returns-clause-fewer : goal.returns-clause-fewer
 returns-clause-fewer c =
-    let k = c.world-inside.inside.0 in
-    let r = k.1.1.1.1.0 in
-    let view : tables k.1.1.1.1.1.0 k.0.items k.1.0 k.1.1.0 k.1.1.1.0 (record { names = r.names; no_senders = r.no_senders; port_destroyed = r.port_destroyed }) ≡ c.args.world.now =
-    ap (λ x. tables x.profile x.spaces.items x.ports x.ledger x.sets x.requests) c.world-inside.view_is ∙ c.world.view_is in
-    let taken = name_taken c.args.world.now k.0.items k.1.0 k.1.1.0 k.1.1.1.0 r.names r.no_senders r.port_destroyed view c.args.request c.requires.is_on.there c.remove.new.self c.remove.result c.remove.ensures.kept c.remove.ensures.some in
+    let t = c.take_on_name in
+    let taken = name_taken c.args.world.now c.args.request t.result t.new.self t.ensures.request c.requires.is_on.there t.ensures.some in
     let some = entry_there c.args.port c.args.request c.args.world.now c.requires _ taken in
     elim c.match-entry.branch [
       | in-Some w ↦
           let dead : w.dead_name.result ≡ DeadName (dead_count (send_references w.in-Some.entry)) = w.dead_name.ensures ∙ ap (λ (n : ℕ). DeadName (dead_count n)) w.send_references.ensures.value in
           named_fewer c.args.port c.args.request c.args.world.now c.requires _ taken w.in-Some.entry (sym c.lookup-entry.ensures ∙ w.in-Some.is) w.dead_name.result dead w.put_left.new.self w.put_left.ensures
-          (subst (λ (w : WorldView). IsUnusedOfAll w.ledger) view c.unused.ensures.all) c.pay.new.world (subst (λ (z : WorldView). Pays z c.args.request.notify (notice.DeadName c.args.request.name) c.pay.new.world) w.world-is c.pay.ensures.pays)
+          c.pay.new.world (subst (λ (z : WorldView). Pays z c.args.request.notify (notice.DeadName c.args.request.name) c.pay.new.world) w.world-is c.pay.ensures.pays)
       | in_default w ↦ absurd (w.in_default.not-Some some.0 (c.lookup-entry.ensures ∙ some.1))
     ]

@@ -1,5 +1,4 @@
-use Rattle.std.proofs.Common.{ap, subst, ◌∙◌}
-use Rattle.rights.specs.Unused.{IsUnusedOfAll}
+use Rattle.std.proofs.Common.{ap, ◌∙◌}
 use Rattle.copyin_base.specs.Worlds.{WorldView}
 use Rattle.destroy.proofs.JudgeSent.{can_post, live_then, held_then, entered_then, room_then, sends_fewer}
 use Rattle.destroy.proofs.JudgeCarried.{sends_continues}
@@ -9,27 +8,27 @@ pub post-requires : goal.post-requires
 post-requires c = can_post c.args.world.now c.args.port c.args.notify c.requires
 
 pub reset-requires : goal.reset-requires
-reset-requires c = live_then c.args.world.now c.args.port c.args.notify c.requires c.post.new.world c.post.ensures.posts c.end_request.new.world c.end_request.ensures
+reset-requires c = live_then c.args.world.now c.args.port c.args.notify c.requires c.post.new.self c.post.ensures.posts c.take_port_destroyed.new.self c.take_port_destroyed.ensures.ended
 
 pub hold_in-requires : goal.hold_in-requires
-hold_in-requires c = held_then c.args.world.now c.args.port c.args.notify c.requires c.post.new.world c.post.ensures.posts c.end_request.new.world c.end_request.ensures c.reset.new.world c.reset.ensures
+hold_in-requires c = held_then c.args.world.now c.args.port c.args.notify c.requires c.post.new.self c.post.ensures.posts c.take_port_destroyed.new.self c.take_port_destroyed.ensures.ended c.reset.new.world c.reset.ensures
 
 pub bring_receive-requires-clause-entered : goal.bring_receive-requires-clause-entered
-bring_receive-requires-clause-entered c = entered_then c.args.world.now c.args.port c.args.notify c.requires c.post.new.world c.post.ensures.posts c.end_request.new.world c.end_request.ensures
+bring_receive-requires-clause-entered c = entered_then c.args.world.now c.args.port c.args.notify c.requires c.post.new.self c.post.ensures.posts c.take_port_destroyed.new.self c.take_port_destroyed.ensures.ended
     c.reset.new.world c.reset.ensures c.hold_in.new.world c.hold_in.ensures
 
 pub bring_receive-requires-clause-room : goal.bring_receive-requires-clause-room
-bring_receive-requires-clause-room c = room_then c.args.world.now c.args.port c.args.notify c.requires c.post.new.world c.post.ensures.posts c.end_request.new.world c.end_request.ensures
+bring_receive-requires-clause-room c = room_then c.args.world.now c.args.port c.args.notify c.requires c.post.new.self c.post.ensures.posts c.take_port_destroyed.new.self c.take_port_destroyed.ensures.ended
     c.reset.new.world c.reset.ensures c.hold_in.new.world c.hold_in.ensures
 
 pub returns-clause-continues : goal.returns-clause-continues
-returns-clause-continues c = sends_continues c.args.world.now c.args.port c.args.notify c.requires (subst (λ (w : WorldView). IsUnusedOfAll w.ledger) c.world.view_is c.unused.ensures.all)
-    c.post.new.world c.post.ensures.posts c.end_request.new.world c.end_request.ensures c.reset.new.world c.reset.ensures c.hold_in.new.world c.hold_in.ensures c.bring_receive.new.world c.bring_receive.ensures
+returns-clause-continues c = sends_continues c.args.world.now c.args.port c.args.notify c.requires
+    c.post.new.self c.post.ensures.posts c.take_port_destroyed.new.self c.take_port_destroyed.ensures.ended c.reset.new.world c.reset.ensures c.hold_in.new.world c.hold_in.ensures c.bring_receive.new.world c.bring_receive.ensures
 
 pub returns-clause-fewer : goal.returns-clause-fewer
-returns-clause-fewer c = sends_fewer c.args.world.now c.args.port c.args.notify c.requires c.post.new.world c.post.ensures.posts c.end_request.new.world c.end_request.ensures
+returns-clause-fewer c = sends_fewer c.args.world.now c.args.port c.args.notify c.requires c.post.new.self c.post.ensures.posts c.take_port_destroyed.new.self c.take_port_destroyed.ensures.ended
     c.reset.new.world c.reset.ensures c.hold_in.new.world c.hold_in.ensures c.bring_receive.new.world c.bring_receive.ensures
 
 pub returns-clause-spaces : goal.returns-clause-spaces
 returns-clause-spaces c = ap (λ (w : WorldView). w.spaces) c.bring_receive.ensures ∙ ap (λ (w : WorldView). w.spaces) c.hold_in.ensures.rest ∙ ap (λ (w : WorldView). w.spaces) c.reset.ensures.rest
-    ∙ ap (λ (w : WorldView). w.spaces) c.end_request.ensures.rest ∙ ap (λ (w : WorldView). w.spaces) c.post.ensures.posts.rest
+    ∙ ap (λ (w : WorldView). w.spaces) c.take_port_destroyed.ensures.ended ∙ ap (λ (w : WorldView). w.spaces) c.post.ensures.posts.rest

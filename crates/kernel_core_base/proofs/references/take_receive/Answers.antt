@@ -1,20 +1,20 @@
 use Rattle.kernel_core_base.proofs.ReferencesLost.{can_kill, can_leave, still_entered, still_enough, receive_taken}
 use Rattle.kernel_core_base.proofs.references.take_receive.Goals as goal
 
-pub kill_port-requires : goal.kill_port-requires
-kill_port-requires c = can_kill c.args.world.now c.requires.stands c.args.task c.args.name c.args.loss c.requires.can
+pub lose_receive-requires : goal.lose_receive-requires
+lose_receive-requires c = can_kill c.args.world.now c.requires.stands c.args.task c.args.name c.args.loss c.requires.can
 
 pub put_left-requires : goal.put_left-requires
-put_left-requires c = can_leave c.args.world.now c.requires.stands c.args.task c.args.name c.args.loss c.requires.can c.kill_port.new.world c.kill_port.ensures c.left_sending-left.result c.left_sending-left.ensures
+put_left-requires c = can_leave c.args.world.now c.requires.stands c.args.task c.args.name c.args.loss c.requires.can c.lose_receive.new.self c.lose_receive.ensures c.left_sending-left.result c.left_sending-left.ensures
 
 pub take_sends-requires-clause-entered : goal.take_sends-requires-clause-entered
-take_sends-requires-clause-entered c = still_entered c.args.world.now c.requires.stands c.args.task c.args.name c.args.loss c.requires.can c.kill_port.new.world c.kill_port.ensures
+take_sends-requires-clause-entered c = still_entered c.args.world.now c.requires.stands c.args.task c.args.name c.args.loss c.requires.can c.lose_receive.new.self c.lose_receive.ensures
     c.put_left.new.self _ c.left_sending-left.result c.put_left.ensures c.world.view_is
 
 pub take_sends-requires-clause-there : goal.take_sends-requires-clause-there
-take_sends-requires-clause-there c = still_enough c.args.world.now c.requires.stands c.args.task c.args.name c.args.loss c.requires.can c.kill_port.new.world c.kill_port.ensures
+take_sends-requires-clause-there c = still_enough c.args.world.now c.requires.stands c.args.task c.args.name c.args.loss c.requires.can c.lose_receive.new.self c.lose_receive.ensures
     c.put_left.new.self _ c.left_sending-left.result c.put_left.ensures c.world.view_is
 
 pub returns : goal.returns
-returns c = receive_taken c.args.world.now c.kill_port.new.world c.put_left.new.self _ c.args.task c.args.name c.args.loss c.left_sending-left.result c.take_sends.new.ledger
-    c.kill_port.ensures c.put_left.ensures c.left_sending-left.ensures c.world.view_is c.take_sends.ensures
+returns c = receive_taken c.args.world.now c.lose_receive.new.self c.put_left.new.self _ c.args.task c.args.name c.args.loss c.left_sending-left.result c.take_sends.new.ledger
+    c.lose_receive.ensures c.put_left.ensures c.left_sending-left.ensures c.world.view_is c.take_sends.ensures

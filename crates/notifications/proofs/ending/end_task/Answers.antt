@@ -3,7 +3,7 @@ use Rattle.notifications.proofs.NameLost.{none_over, can_lose_next, not_dead, on
 use Rattle.notifications.proofs.ending.end_task.Goals as goal
 
 pub loop-named-init : goal.loop-named-init
-loop-named-init c = none_over c.args.world.now c.args.task c.null-from.result c.take_space-space.new.world c.null-from.ensures c.take_space-space.ensures.taken
+loop-named-init c = none_over c.args.world.now c.args.task c.null-from.result c.take_space-space.new.self c.null-from.ensures c.take_space-space.ensures.taken
 
 pub lose_name-requires : goal.lose_name-requires
 lose_name-requires c = can_lose_next c.args.world.now c.args.task c.loop-named.from c.loop-named.world c.loop-named.invariant c.take_space-space.result c.take_space-space.ensures.kept c.requires.stands c.in-Some.named.name c.in-Some.named.entry c.in-Some.ensures.found
