@@ -1,5 +1,5 @@
 -- What a step changed of ports and port sets, as the kernel keeps it, and what that is once it is asked for.
-use Rattle.std.specs.Prelude.{◌≡◌, ℕ, ◌⊎◌, ◌^◌, ◌%◌, ◌||◌, Bool, List, [], ◌∷◌, length, Option, Some, None, if◌then◌else◌, ◌==◌, ◌&&◌, not, nat_lt}
+use Rattle.std.specs.Prelude.{◌≡◌, ℕ, ◌⊎◌, ◌-◌, ◌^◌, ◌%◌, ◌||◌, Bool, List, [], ◌∷◌, length, Option, Some, None, if◌then◌else◌, ◌==◌, ◌&&◌, not, nat_lt}
 use Rattle.std.specs.FinMap as map
 use Rattle.std.specs.Option.{option_and_then, option_map}
 use Rattle.mach_types.specs.declared.calls.Event.{Event}
@@ -7,6 +7,7 @@ use Rattle.mach_types.specs.declared.calls.Reply.{Reply}
 use Rattle.mach_types.specs.declared.calls.Waited.{Waited}
 use Rattle.mach_types.specs.declared.touched.Touched.{Touched}
 use Rattle.mach_types.specs.declared.touched.Touched.TheVariants.{Few, All}
+use Rattle.mach_types.specs.Numbers.{most_identities}
 use Rattle.mach_types.specs.TextGuards.{word_at}
 use Rattle.name_space.specs.declared.Entry.{Entry}
 use Rattle.name_space.specs.declared.Entry.TheVariants as entry
@@ -16,7 +17,7 @@ use Rattle.request_table.specs.Requests.{NoneOn}
 use Rattle.copyin_base.specs.Kept.{Kept}
 use Rattle.copyin_base.specs.Worlds.{WorldView, entry_at, port_at}
 use Rattle.kernel_change.specs.declared.change.Change.{Change}
-use Rattle.kernel_change.specs.declared.change.Change.TheVariants.{Nothing, PortNamed, Queue, QueueNamed, Left, Lost, Any}
+use Rattle.kernel_change.specs.declared.change.Change.TheVariants.{Nothing, Made, PortNamed, Queue, QueueNamed, Left, Lost, Any}
 
 -- ---- what it is
 
@@ -40,8 +41,13 @@ with_set w None = few None None
 abbrev pub named_left : WorldView → (port left : ℕ) → Touched
 named_left w p left = Few (Some (Waited.Port p) ∷ option_map Waited.Set (set_of w p) ∷ Some (Waited.Set left) ∷ None ∷ [])
 
+-- the port that was made last
+abbrev pub made_last : WorldView → Touched
+made_last w = if nat_lt w.ports.made most_identities then few (Some (Waited.Port (w.ports.made - 1))) None else All
+
 abbrev pub touched_by : WorldView → Change → Touched
 touched_by w Nothing = few None None
+touched_by w Made = made_last w
 touched_by w (PortNamed task name) = few (option_map Waited.Port (port_under w task name)) None
 touched_by w (Queue port) = with_set w (Some port)
 touched_by w (QueueNamed task name) = with_set w (port_under w task name)
@@ -64,9 +70,9 @@ by_receipt task large (Reply.Empty waited) = Nothing
 by_receipt task large (Reply.TooLarge n) = if large then Nothing else Any
 by_receipt task large reply = Any
 
-abbrev pub by_making : (task : ℕ) → Reply → Change
-by_making task (Reply.Name name) = PortNamed task name
-by_making task reply = Any
+-- a port is made, by a right of this number, or something else that nobody waits for
+abbrev pub by_making : (right : ℕ) → Change
+by_making right = if right == 1 then Made else Nothing
 
 abbrev pub by_send : Option ℕ → Change
 by_send (Some port) = Queue port
@@ -132,8 +138,8 @@ change_of w (Event.SetStatus task name) reply = Nothing
 change_of w (Event.SetMscount task name n) reply = Nothing
 change_of w (Event.SetSeqno task name n) reply = Nothing
 change_of w (Event.SetQlimit task name n) reply = PortNamed task name
-change_of w (Event.Allocate task right) reply = by_making task reply
-change_of w (Event.AllocateName task right name) reply = by_making task reply
+change_of w (Event.Allocate task right) reply = by_making right
+change_of w (Event.AllocateName task right name) reply = by_making right
 change_of w (Event.Deallocate task name) reply = by_losing_one (entry_at w task name)
 change_of w (Event.Destroy task name) reply = by_losing_all (entry_at w task name)
 change_of w (Event.ModRefs task name right delta) reply = by_references w task name right

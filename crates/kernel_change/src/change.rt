@@ -1,10 +1,10 @@
 //! What a step changed, as it is kept.
-ghost use Rattle.std.specs.Prelude.{◌≡◌, ◌↔◌, [], Some, None, IfOk, IsTrue};
+ghost use Rattle.std.specs.Prelude.{◌≡◌, ◌↔◌, [], Some, None, IsTrue};
 ghost use Rattle.port.specs.Ports.{NoneQueued};
 ghost use Rattle.copyin_base.specs.Worlds.{entry_at};
-ghost use Rattle.kernel_change.specs.Changing.{few, named_left, port_under, set_of as set_at, with_set as touched_with_set, touched_by, gives_none, by_message as change_by_message, by_receipt as change_by_receipt, by_making as change_by_making, by_send as change_by_send, by_references as change_by_references, by_losing_one as change_by_losing_one, by_losing_all as change_by_losing_all, IsUnasked, DiesAlone, EndsAs, left_by as change_left_by, by_moving as change_by_moving, by_handing as change_by_handing, by_paying as change_by_paying, by_request as change_by_request};
+ghost use Rattle.kernel_change.specs.Changing.{few, named_left, port_under, set_of as set_at, with_set as touched_with_set, touched_by, gives_none, by_message as change_by_message, by_receipt as change_by_receipt, made_last, by_making as change_by_making, by_send as change_by_send, by_references as change_by_references, by_losing_one as change_by_losing_one, by_losing_all as change_by_losing_all, IsUnasked, DiesAlone, EndsAs, left_by as change_left_by, by_moving as change_by_moving, by_handing as change_by_handing, by_paying as change_by_paying, by_request as change_by_request};
 
-use copyin_base::{Code, World};
+use copyin_base::World;
 use mach_types::{Name, PortId, Reply, SetId, TaskId, Touched, Waited};
 use name_space::Entry;
 use type_descriptor::read_word;
@@ -15,6 +15,8 @@ use type_descriptor::read_word;
 pub enum Change {
     /// No port and no set.
     Nothing,
+    /// The port that was made last.
+    Made,
     /// The port under this name of the task, where one stands there; no queue.
     PortNamed(TaskId, Name),
     /// Of this port, and so of its set: the queue, the place of the receive right, or that it entered the set.
@@ -125,27 +127,27 @@ impl Change {
         }
     }
 
-    /// What a call made that was answered so: a port under the name that the reply tells, or something else that nobody
-    /// waits for. Of no use after a refusal.
+    /// A port is about to be made, by a right of this number, or something else that nobody waits for.
     #[inline(always)]
-    pub fn by_making(task: TaskId, made: &Result<Reply, Code>) -> Change
-        ensures { IfOk made.now (λ reply. result ≡ change_by_making task reply) }
+    pub fn by_making(right: u32) -> Change
+        ensures { result ≡ change_by_making right }
     {
-        match made {
-            Ok(Reply::Name(name)) => Change::PortNamed(task, *name),
-            _ => Change::Any,
+        if right == 1 {
+            Change::Made
+        } else {
+            Change::Nothing
         }
     }
 
-    /// What a receipt changed that was answered so. Of no use after a refusal.
+    /// What a receipt changed that was answered so.
     #[inline(always)]
-    pub fn by_receipt(task: TaskId, large: bool, received: &Result<Reply, Code>) -> Change
-        ensures { IfOk received.now (λ reply. result ≡ change_by_receipt task large reply) }
+    pub fn by_receipt(task: TaskId, large: bool, reply: &Reply) -> Change
+        ensures { result ≡ change_by_receipt task large reply.now }
     {
-        match received {
-            Ok(Reply::Message(bytes)) => by_message(task, bytes.as_slice()),
-            Ok(Reply::Empty(_)) => Change::Nothing,
-            Ok(Reply::TooLarge(_)) if large => Change::Nothing,
+        match reply {
+            Reply::Message(bytes) => by_message(task, bytes.as_slice()),
+            Reply::Empty(_) => Change::Nothing,
+            Reply::TooLarge(_) if large => Change::Nothing,
             _ => Change::Any,
         }
     }
@@ -173,6 +175,7 @@ impl Change {
             }
             Change::Queue(port) => name_with_set(world, Some(port)),
             Change::QueueNamed(task, name) => name_with_set(world, named_port(world, task, name)),
+            Change::Made => name_last(world),
             Change::Left(port, set) => name_left(world, port, set),
             Change::Lost(_) | Change::Any => Touched::All,
         }
@@ -184,6 +187,20 @@ fn name_both(first: Option<Waited>, second: Option<Waited>) -> Touched
     ensures { result ≡ few first second }
 {
     Touched::Few([first, second, None, None])
+}
+
+/// The port that was made last.
+fn name_last(world: &World) -> Touched
+    ensures { result ≡ made_last world.now }
+{
+    if world.ports.is_exhausted() {
+        return Touched::All;
+    }
+    let next = world.ports.next_id().number();
+    name_both(
+        Some(Waited::Port(PortId::new(next.saturating_sub(1)))),
+        None,
+    )
 }
 
 /// The port under the name.

@@ -1,5 +1,5 @@
 -- A plan is carried out: the send is done, or is refused for want of memory, which it may want.
-use Rattle.std.proofs.Common.{◌≡◌, ℕ, List, [], ◌∷◌, ◌∙◌, false, Option, Some, None, Result, Ok, Err, IfOk, IfErr, sym, subst}
+use Rattle.std.proofs.Common.{◌≡◌, ℕ, List, [], ◌∷◌, ◌∙◌, false, Some, None, Result, Ok, Err, IfOk, IfErr, OnOk, sym, subst}
 use Rattle.std.specs.Prelude.{◌≢◌}
 use Rattle.mach_types.specs.declared.calls.Event.{Event}
 use Rattle.mach_types.specs.declared.codes.MsgReturn.{MsgReturn}
@@ -16,7 +16,9 @@ use Rattle.copyin_base.specs.Worlds.{WorldView, HasTask}
 use Rattle.copyin.specs.declared.judge.Plan.{Plan}
 use Rattle.copyin.specs.Planned.{IsPlan}
 use Rattle.copyin.specs.Wanted.{WantsToSend}
-use Rattle.kernel_core.specs.Send.{GoesTo, MovesNoReceive, PlansText, SendsText, TellsSent}
+use Rattle.kernel_change.specs.declared.change.Change.{Change}
+use Rattle.kernel_core.specs.Send.{MovesNoReceive, PlansText, SendsText}
+use Rattle.kernel_core.specs.Touching.{TellsPlan, TellsSend}
 use Rattle.kernel_core.proofs.Sending.{no_memory}
 use Rattle.kernel_core.proofs.Wanting.{plans_wants}
 
@@ -34,10 +36,10 @@ module _ {A : Type 0} (w new : WorldView) (task : ℕ) (bytes : List ℕ) (plan 
   short_wants (Err code) = λ same. plans_wants w task bytes p.parsed p.text p.is_plan.plans
 
 -- Where it went is told of the bytes.
-pub goes : (w : WorldView) (task : ℕ) (bytes : List ℕ) (plan : Plan) → PlansText w task bytes plan → (r : Result (Option ℕ) MsgReturn) → IfOk r (λ to. GoesTo plan to) → IfOk r (λ to. TellsSent w task bytes to)
-goes w task bytes plan p (Ok None) g = tt
-goes w task bytes plan p (Ok (Some port)) g = record { plan = plan; planned = p; goes = g }
-goes w task bytes plan p (Err code) g = tt
+pub goes : {A : Type 0} (w : WorldView) (task : ℕ) (bytes : List ℕ) (plan : Plan) → PlansText w task bytes plan → (told : Change) (r : Result A MsgReturn) → OnOk r (TellsPlan plan told) → OnOk r (TellsSend w task bytes told)
+goes w task bytes plan p told (Ok v) (None, g, is) = (None, tt, is)
+goes w task bytes plan p told (Ok v) (Some port, g, is) = (Some port, record { plan = plan; planned = p; goes = g }, is)
+goes w task bytes plan p told (Err code) g = tt
 
 -- A body of raw bytes moves no receive right, and one of one word moves none where the word does not.
 pub raw_moves_none : (w : WorldView) (task : ℕ) (bytes : List ℕ) (parsed : Parsed) (text : Parses bytes parsed) (plan : Plan) → IsPlan w task parsed text.written bytes plan → parsed.is_complex ≡ false → MovesNoReceive plan.words.body.items

@@ -1,7 +1,6 @@
 -- What a kernel keeps of a step covers all that the machine's step changes of ports and sets.
-use Rattle.std.proofs.Common.{◌≡◌, ℕ, ◌<◌, ◌^◌, ◌%◌, List, [], ◌∷◌, ◌++◌, Option, Some, None, refl, sym, ap, subst, ◌∙◌, arith, true, false, Bool, inl, inr, ◌⊎◌, length, is_some}
+use Rattle.std.proofs.Common.{◌≡◌, ℕ, ◌+◌, ◌-◌, ◌<◌, ◌^◌, ◌%◌, List, [], ◌∷◌, ◌++◌, Option, Some, None, refl, sym, ap, subst, ◌∙◌, arith, true, false, Bool, inl, inr, ◌⊎◌, length, is_some}
 use Rattle.std.specs.Prelude.{◌≢◌, ◌==◌, ◌&&◌, ◌||◌, ℤ, not, if◌then◌else◌, Contains, nat_lt, All, Result, Ok, Err, IfOk}
-use Rattle.std.specs.FinMap as map
 use Rattle.std.specs.Option.{option_map, option_and_then, option_to_list}
 use Rattle.std.proofs.lemmas.List.Elements.{All-head, All-tail, All-cons, All-nil}
 use Rattle.std.proofs.lemmas.Bool.{and_parts, ltb-true}
@@ -17,8 +16,9 @@ use Rattle.mach_types.specs.declared.rights.Disposition.TheVariants.{MoveSend, M
 use Rattle.mach_types.specs.Tokens.{Kind, receive, send_once, Token, token, Place, in_task, in_message, Request, in_request, count, is_of, is_held, Moves}
 use Rattle.mach_types.specs.Messages.{Mark, to_port}
 use Rattle.mach_types.specs.Grammar.{Header, WireBody, text, Spells}
+use Rattle.mach_types.specs.Numbers.{most_identities}
 use Rattle.mach_types.specs.TextGuards.{word_at}
-use Rattle.mach_model.specs.State.{State, Names, Target, lookup, held, gives, without_name}
+use Rattle.mach_model.specs.State.{State, Target, lookup, held, gives, without_name}
 use Rattle.mach_model.specs.Carried.{lying}
 use Rattle.mach_model.specs.Death.{same_place}
 use Rattle.mach_model.specs.Lawful.{IsLawful}
@@ -35,7 +35,6 @@ use Rattle.mach_model.specs.Send.{Sends}
 use Rattle.mach_model.specs.Settles.{Settles}
 use Rattle.mach_model.proofs.Failing.{refusal_fails}
 use Rattle.mach_model.proofs.MessagesLawful.{first_byte}
-use Rattle.mach_model.proofs.Names.{at_own, get_own}
 use Rattle.mach_model.proofs.NamesLawful.{gives-lawful}
 use Rattle.mach_laws.specs.Touching.{TouchesOnly}
 use Rattle.mach_laws.proofs.LoneDeath.{LosesRight, none_lost, all_lose, receive_lost, dies_alone}
@@ -62,7 +61,7 @@ use Rattle.copyin.proofs.Planning.{message, third, copied, none_receives}
 use Rattle.destroy.specs.Stages.{SettlesIn}
 use Rattle.kernel_change.specs.declared.change.Change.TheVariants as change
 use Rattle.kernel_change.specs.declared.change.Change.{Change}
-use Rattle.kernel_change.specs.Changing.{few, port_under, set_of, with_set, named_left, touched_by, gives_none, by_message, by_receipt, by_send, by_references, by_paying, by_request, by_making, by_losing_one, by_losing_all, left_by, moved_from, by_moving, by_handing, DiesAlone, EndsAs}
+use Rattle.kernel_change.specs.Changing.{few, made_last, port_under, set_of, with_set, named_left, touched_by, gives_none, by_message, by_receipt, by_send, by_references, by_paying, by_request, by_making, by_losing_one, by_losing_all, left_by, moved_from, by_moving, by_handing, DiesAlone, EndsAs}
 use Rattle.kernel_core.specs.Send.{MovesNoReceive, SendsTo, TellsSent}
 use Rattle.kernel_core.specs.Touching.{TellsChange, Touches, EndsIdle}
 use Rattle.kernel_core.proofs.Alone.{none_kept, is_lone}
@@ -489,12 +488,21 @@ module _ (now : ℕ) (old w : WorldView) (s mid : State) (owed : Owed) (sh : Sho
 
   -- ---- something is made under a name
 
-  made_own : (task right name : ℕ) (x : State) → Keeps s x → IsLawful x → Makes task right name x mid → owed ≡ [] → OwnTouches s mid owed (touched_by w (change.PortNamed task name))
+  covers_last : (v : WorldView) (p : ℕ) → v.ports.made ≡ p + 1 → Covers (made_last v) (Waited.Port p)
+  covers_last v p is = go (nat_lt v.ports.made most_identities)
+    where
+      same : p ≡ v.ports.made - 1
+      same = omega (arith, is)
+
+      go : (b : Bool) → Covers (if b then few (Some (Waited.Port (v.ports.made - 1))) None else Any) (Waited.Port p)
+      go true = (0, omega arith, ap (λ (n : ℕ). Some (Waited.Port n)) (sym same))
+      go false = tt
+
+  made_own : (task right name : ℕ) (x : State) → Keeps s x → IsLawful x → Makes task right name x mid → owed ≡ [] → OwnTouches s mid owed (touched_by w (by_making right))
   made_own task right name x k l (inl (is, a)) none =
-      let found : lookup mid task name ≡ Some (Target.port x.ports_made) =
-      ap (λ (y : State). lookup y task name) a.rest
-      ∙ ap (λ (m : Names). map.get m name) (at_own x.naming task (map.insert (x.naming task) name (Target.port x.ports_made))) ∙ get_own (x.naming task) name (Target.port x.ports_made) in
-      inr (inl (none, λ t e. touches_before s x t _ k (made_touches task name x mid t _ l a e (covers_alone w mid (agree none) (port_under w task name) x.ports_made (under w mid (agree none) task name x.ports_made found)))))
+      let made : w.ports.made ≡ x.ports_made + 1 = (agree none).ports_made ∙ ap (λ (y : State). y.ports_made) a.rest in
+      let told : touched_by w (by_making right) ≡ made_last w = rw is refl in
+      inr (inl (none, λ t e. touches_before s x t _ k (made_touches task name x mid t _ l a e (subst (λ (y : Touched). Covers y (Waited.Port x.ports_made)) (sym told) (covers_last w x.ports_made made)))))
   made_own task right name x k l (inr (inl (is, e))) none =
       inr (inl (
         none,
@@ -552,9 +560,8 @@ not_either : (b : Bool) (x y : Change) → NotLost x → NotLost y → NotLost (
 not_either true x y f g = f
 not_either false x y f g = g
 
-not_making : (task : ℕ) (reply : Reply) → NotLost (by_making task reply)
-not_making task (Reply.Name name) = tt
-not_making task reply = tt
+not_making : (right : ℕ) → NotLost (by_making right)
+not_making right = not_either (right == 1) change.Made change.Nothing tt tt
 
 not_receipt : (task : ℕ) (large : Bool) (reply : Reply) → NotLost (by_receipt task large reply)
 not_receipt task large (Reply.Message bytes) = not_either (gives_none bytes) (change.QueueNamed task (word_at bytes 12)) change.Any tt tt
@@ -653,8 +660,8 @@ module _ (now : ℕ) (old : WorldView) (s mid : State) (owed : Owed) (sh : Shows
   own_lost (Event.ModRefs task name right delta) (Reply.Code code) d tells = modified_lost task name right delta d.1 tells
   own_lost Event.TaskCreate reply d tells = absurd (never change.Nothing tells tt)
   own_lost (Event.TaskTerminate task) reply d tells = absurd (never change.Any tells tt)
-  own_lost (Event.Allocate task right) reply d tells = absurd (never (by_making task reply) tells (not_making task reply))
-  own_lost (Event.AllocateName task right name) reply d tells = absurd (never (by_making task reply) tells (not_making task reply))
+  own_lost (Event.Allocate task right) reply d tells = absurd (never (by_making right) tells (not_making right))
+  own_lost (Event.AllocateName task right name) reply d tells = absurd (never (by_making right) tells (not_making right))
   own_lost (Event.Deallocate task name) reply d tells = absurd (never (by_losing_one (entry_at old task name)) tells (not_losing_one (entry_at old task name)))
   own_lost (Event.GetRefs task name right) reply d tells = absurd (never change.Nothing tells tt)
   own_lost (Event.NameType task name) reply d tells = absurd (never change.Nothing tells tt)
@@ -749,6 +756,7 @@ module _ (old w new : WorldView) (event : Event) (reply : Reply) (turns : ℕ) (
   ends_touched (change.Lost p) ends tells (inl (alone, is)) = subst (λ (c : Change). Touches old event reply new (touched_by new c)) (sym is) (lone_touched p (change.Lost p) refl tells alone)
   ends_touched (change.Lost p) ends tells (inr (not, is)) = any_touched ends is
   ends_touched change.Nothing ends tells is = any_touched ends is
+  ends_touched change.Made ends tells is = any_touched ends is
   ends_touched (change.PortNamed task name) ends tells is = any_touched ends is
   ends_touched (change.Queue p) ends tells is = any_touched ends is
   ends_touched (change.QueueNamed task name) ends tells is = any_touched ends is

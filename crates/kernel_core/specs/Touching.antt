@@ -10,9 +10,14 @@ use Rattle.copyin_base.specs.Shows.{Shows}
 use Rattle.copyin_base.specs.Worlds.{WorldView, IsIdle}
 use Rattle.kernel_change.specs.declared.change.Change.{Change}
 use Rattle.kernel_change.specs.Changing.{by_send, change_of}
-use Rattle.kernel_core.specs.Send.{TellsSent}
+use Rattle.copyin.specs.declared.judge.Plan.{Plan}
+use Rattle.kernel_core.specs.Send.{GoesTo, TellsSent}
 
 -- ---- what is told
+
+-- Of the message of a plan its port is told, where no receive right goes along, or nothing is.
+abbrev pub TellsPlan : Plan → (told : Change) → Type 0
+TellsPlan plan told = (sent : Option ℕ) × GoesTo plan sent × (told ≡ by_send sent)
 
 -- A port is told that the message went to, where no receive right went along, or nothing is.
 abbrev pub TellsSend : WorldView → (task : ℕ) → (bytes : List ℕ) → (told : Change) → Type 0

@@ -11,17 +11,20 @@ ghost use Rattle.mach_model.specs.Machine.{opening, Step};
 ghost use Rattle.mach_laws.specs.Judging.{IsBySet};
 ghost use Rattle.mach_laws.specs.Queued.{unused_onces};
 ghost use Rattle.copyin_base.specs.declared.code.Code.TheVariants.{Kern};
-ghost use Rattle.copyin_base.specs.Serving.{HasTasks, Declines, Serves};
+ghost use Rattle.copyin_base.specs.Serving.{HasTasks, Declines, Serves, code_number};
 ghost use Rattle.rights.specs.Unused.{IsUnusedOfAll};
 ghost use Rattle.copyin_base.specs.Shows.{Shows, SlotsSuffice};
 ghost use Rattle.copyin_base.specs.Stands.{Stands};
 ghost use Rattle.copyin_base.specs.Wanted.{KeepsSpares, UsesSpares};
 ghost use Rattle.copyin_base.specs.Worlds.{entry_at, HasTask};
 ghost use Rattle.destroy.specs.Stages.{IsMidway, KeepsRooms, SettlesIn};
+ghost use Rattle.notifications.specs.Wanted.{WantsToRequest, LeavesRequest};
+ghost use Rattle.transfer.specs.Room.{MakesSlots};
+ghost use Rattle.transfer.specs.Wanted.{WantsToInsert, WantsToExtract};
 ghost use Rattle.kernel_core.specs.Answers.{Answers};
 ghost use Rattle.kernel_core.specs.Bounds.{most_told, IsWithin};
 ghost use Rattle.kernel_change.specs.declared.change.Change.TheVariants.{Nothing};
-ghost use Rattle.kernel_change.specs.Changing.{few, by_losing_one, by_losing_all, by_moving, EndsAs};
+ghost use Rattle.kernel_change.specs.Changing.{few, by_losing_one, by_losing_all, by_moving, by_handing, by_request, EndsAs};
 ghost use Rattle.kernel_core.specs.Choices.{SameButTurns};
 ghost use Rattle.kernel_core.specs.InTurn.{StepsInTurn};
 ghost use Rattle.kernel_core.specs.Kernels.{TakesTurns};
@@ -386,6 +389,68 @@ fn refuse_several() -> Result<Reply, Code>
     Err(Code::Kern(KernReturn::InvalidArgument))
 }
 
+/// Hands a right of a task to another by its own name, as [`insert`]. In `told` it leaves what that changes.
+///
+/// Not in line, as [`hand_out`] and [`ask`]: what they lend to others would be a local of a step, which each step fills.
+#[inline(never)]
+fn hand_in(
+    world: &mut World,
+    to: TaskName,
+    from: TaskName,
+    number: u32,
+    told: &mut Change,
+) -> Result<Reply, Code>
+    requires there { (HasTask world.old to.task) × (HasTask world.old from.task) }
+    requires stands { Stands world.old }
+    ensures serves { Serves world.old (AnyEvent.InsertRight to.task to.name from.task from.name number) result world.new }
+    ensures wanted { IfErr result (λ code. code_number code ≡ kern_number kern.ResourceShortage → WantsToInsert world.old to from number) }
+    ensures spares { MakesSlots world.old world.new }
+    ensures tells { told.new ≡ by_handing world.old from.task from.name number }
+{
+    *told = Change::by_handing(world, from.task, from.name, number);
+    insert(world, &to, &from, number)
+}
+
+/// Hands a right to another task, which takes it out, as [`extract`]. In `told` it leaves what that changes.
+#[inline(never)]
+fn hand_out(
+    world: &mut World,
+    from: TaskName,
+    number: u32,
+    to: TaskId,
+    told: &mut Change,
+) -> Result<Reply, Code>
+    requires there { (HasTask world.old from.task) × (HasTask world.old to) }
+    requires stands { Stands world.old }
+    ensures serves { Serves world.old (AnyEvent.ExtractRight from.task from.name number to) result world.new }
+    ensures wanted { IfErr result (λ code. code_number code ≡ kern_number kern.ResourceShortage → WantsToExtract world.old from number to) }
+    ensures spares { MakesSlots world.old world.new }
+    ensures tells { told.new ≡ by_handing world.old from.task from.name number }
+{
+    *told = Change::by_handing(world, from.task, from.name, number);
+    extract(world, &from, number, to)
+}
+
+/// Asks for a notice, as [`request_notification`]. In `told` it leaves what that changes.
+#[inline(never)]
+fn ask(
+    world: &mut World,
+    task: TaskId,
+    name: Name,
+    asked: Asked,
+    told: &mut Change,
+) -> Result<Reply, Code>
+    requires there { HasTask world.old task }
+    requires stands { Stands world.old }
+    ensures serves { Serves world.old (AnyEvent.RequestNotification task name asked.variant asked.sync asked.notify asked.disposition) result world.new }
+    ensures wanted { IfErr result (λ code. code_number code ≡ kern_number kern.ResourceShortage → WantsToRequest world.old task name asked) }
+    ensures spares { LeavesRequest world.old asked result world.new }
+    ensures tells { told.new ≡ by_request world.old task asked.notify asked.disposition }
+{
+    *told = Change::by_request(world, task, asked.notify, asked.disposition);
+    request_notification(world, task, name, &asked)
+}
+
 /// Makes the call on the tables, where the tasks that it names live.
 #[inline(always)]
 fn serve(world: &mut World, alloc: Global, event: &Event, told: &mut Change) -> Result<Reply, Code>
@@ -402,14 +467,12 @@ fn serve(world: &mut World, alloc: Global, event: &Event, told: &mut Change) -> 
             terminate_task(world, *task)
         }
         Event::Allocate(task, right) => {
-            let made = allocate(world, *task, *right);
-            *told = Change::by_making(*task, &made);
-            made
+            *told = Change::by_making(*right);
+            allocate(world, *task, *right)
         }
         Event::AllocateName(task, right, name) => {
-            let made = allocate_name(world, *task, *right, *name);
-            *told = Change::by_making(*task, &made);
-            made
+            *told = Change::by_making(*right);
+            allocate_name(world, *task, *right, *name)
         }
         Event::Deallocate(task, name) => lose_one(world, *task, *name, told),
         Event::Destroy(task, name) => lose_all(world, *task, *name, told),
@@ -432,35 +495,34 @@ fn serve(world: &mut World, alloc: Global, event: &Event, told: &mut Change) -> 
         Event::SetMscount(task, name, count) => set_mscount(world, *task, *name, *count),
         Event::SetSeqno(task, name, number) => set_seqno(world, *task, *name, *number),
         Event::InsertRight(task, name, from, poly, number) => {
-            *told = Change::by_handing(world, *from, *poly, *number);
             let to = TaskName::new(*task, *name);
-            let from = TaskName::new(*from, *poly);
-            insert(world, &to, &from, *number)
+            hand_in(world, to, TaskName::new(*from, *poly), *number, told)
         }
         Event::ExtractRight(task, name, number, to) => {
-            *told = Change::by_handing(world, *task, *name, *number);
-            extract(world, &TaskName::new(*task, *name), *number, *to)
+            hand_out(world, TaskName::new(*task, *name), *number, *to, told)
         }
         Event::RequestNotification(task, name, variant, sync, notify, disposition) => {
-            *told = Change::by_request(world, *task, *notify, *disposition);
             let asked = Asked {
                 variant: *variant,
                 sync: *sync,
                 notify: *notify,
                 disposition: *disposition,
             };
-            request_notification(world, *task, *name, &asked)
+            ask(world, *task, *name, asked, told)
         }
         Event::Send(task, bytes) => send(world, alloc, *task, bytes, told),
         Event::Receive(task, name, room, large) => {
-            let received = receive(world, alloc, *task, *name, Buffer::new(*room, *large));
-            *told = Change::by_receipt(*task, *large, &received);
-            received
+            receive(world, alloc, *task, *name, Buffer::new(*room, *large), told)
         }
         Event::ReceiveAgain(task, waited, room, large) => {
-            let received = receive_again(world, alloc, *task, *waited, Buffer::new(*room, *large));
-            *told = Change::by_receipt(*task, *large, &received);
-            received
+            receive_again(
+                world,
+                alloc,
+                *task,
+                *waited,
+                Buffer::new(*room, *large),
+                told,
+            )
         }
     }
 }

@@ -10,6 +10,7 @@ ghost use Rattle.copyin_base.specs.Serving.{code_number, Serves, IsRefused, IsAl
 ghost use Rattle.copyin_base.specs.Finds.{FindsReceive};
 ghost use Rattle.copyin_base.specs.Stands.{Stands};
 ghost use Rattle.copyin_base.specs.Worlds.{entry_at, port_at, HasTask};
+ghost use Rattle.kernel_change.specs.Changing.{by_receipt};
 ghost use Rattle.kernel_core.specs.InTurn.{IsFirst, TakesInTurn, KeepsTurns, told_by};
 ghost use Rattle.kernel_core.specs.Receive.{named_guards, Sources, IsFrom, IsMember, IsAlone, HasMessage, NoneWaits, IsReceipt, StaysFor, waited_at, FreesSlot};
 ghost use Rattle.kernel_core.specs.Wanted.{WantsToTake, WantsMemory, LeavesSpares};
@@ -17,6 +18,7 @@ ghost use Rattle.notifications.specs.Destroying.{CanDestroy, DestroysMessage};
 
 use copyin_base::{Code, World};
 use copyout::Refusal;
+use kernel_change::Change;
 use mach_types::{MsgReturn, Name, PortId, Reply, SetId, TaskId, Waited};
 use notifications::lose_message;
 use port_set::ready_member;
@@ -43,7 +45,7 @@ impl Buffer {
 /// `Receive` (IPC Interface, `mach_msg` with `MACH_RCV_MSG`): a message from the port whose receive right is
 /// under the name. By a port set's name, a message from the member whose turn it is (`specs/InTurn`). A
 /// message that is longer than the room stays if that was asked for, and is destroyed otherwise. The task
-/// lives. A refusal leaves all as it was.
+/// lives. A refusal leaves the tables as they were. In `told` it leaves what the receipt changed.
 ///
 /// Errors, of which the first is returned: `MACH_RCV_INVALID_NAME` for a name without a receive right or a
 /// set; `MACH_RCV_IN_SET` for a port that is in a set; then as [`take`].
@@ -53,12 +55,14 @@ pub(crate) fn receive(
     task: TaskId,
     name: Name,
     buffer: Buffer,
+    told: &mut Change,
 ) -> Result<Reply, Code>
     requires there { HasTask world.old task }
     requires stands { Stands world.old }
     ensures serves { Serves world.old (AnyEvent.Receive task name buffer.room buffer.large) result world.new }
     ensures wanted { IfErr result (λ code. code_number code ≡ msg_number msg.ReceiveBodyErrorMemory → WantsMemory world.old (AnyEvent.Receive task name buffer.room buffer.large)) }
     ensures spares { LeavesSpares world.old (AnyEvent.Receive task name buffer.room buffer.large) result world.new }
+    ensures tells { IfOk result (λ reply. told.new ≡ by_receipt task buffer.large reply) }
     ensures turns { KeepsTurns world.old (AnyEvent.Receive task name buffer.room buffer.large) (told_by result) world.new }
 {
     let Source { waited, ready } = find_source(world, task, name)?;
@@ -68,12 +72,14 @@ pub(crate) fn receive(
         name,
         ready,
     };
-    Ok(take(world, alloc, task, origin, buffer)?)
+    let reply = take(world, alloc, task, origin, buffer)?;
+    *told = Change::by_receipt(task, buffer.large, &reply);
+    Ok(reply)
 }
 
 /// `ReceiveAgain` (IPC Interface, `mach_msg` with `MACH_RCV_MSG`, as it goes on once it has waited): a later
 /// try by a receive that found no message. It goes by identity, whatever became of the name. The task lives.
-/// A refusal leaves all as it was.
+/// A refusal leaves the tables as they were. In `told` it leaves what the receipt changed.
 ///
 /// Errors, of which the first is returned:
 /// - `MACH_RCV_PORT_DIED`: the port or set isn't there.
@@ -86,12 +92,14 @@ pub(crate) fn receive_again(
     task: TaskId,
     waited: Waited,
     buffer: Buffer,
+    told: &mut Change,
 ) -> Result<Reply, Code>
     requires there { HasTask world.old task }
     requires stands { Stands world.old }
     ensures serves { Serves world.old (AnyEvent.ReceiveAgain task waited buffer.room buffer.large) result world.new }
     ensures wanted { IfErr result (λ code. code_number code ≡ msg_number msg.ReceiveBodyErrorMemory → WantsToTake world.old task waited) }
     ensures spares { LeavesSpares world.old (AnyEvent.ReceiveAgain task waited buffer.room buffer.large) result world.new }
+    ensures tells { IfOk result (λ reply. told.new ≡ by_receipt task buffer.large reply) }
     ensures turns { KeepsTurns world.old (AnyEvent.ReceiveAgain task waited buffer.room buffer.large) (told_by result) world.new }
 {
     judge_again(world, task, &waited)?;
@@ -102,7 +110,9 @@ pub(crate) fn receive_again(
         name,
         ready,
     };
-    Ok(take(world, alloc, task, origin, buffer)?)
+    let reply = take(world, alloc, task, origin, buffer)?;
+    *told = Change::by_receipt(task, buffer.large, &reply);
+    Ok(reply)
 }
 
 // ---- where from

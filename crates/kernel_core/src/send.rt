@@ -10,8 +10,8 @@ ghost use Rattle.copyin.specs.Wanted.{WantsToSend};
 ghost use Rattle.message_codec.specs.Parses.{Parses};
 ghost use Rattle.message_codec.specs.Plain.{parsed_lone, parsed_plain, parsed_request};
 ghost use Rattle.message_codec.specs.Words.{body_words};
-ghost use Rattle.kernel_core.specs.Send.{GoesTo, MovesNoReceive, PlansText, SendsText, TellsSent, UsesSlot};
-ghost use Rattle.kernel_core.specs.Touching.{TellsSend};
+ghost use Rattle.kernel_core.specs.Send.{GoesTo, MovesNoReceive, PlansText, SendsText, UsesSlot};
+ghost use Rattle.kernel_core.specs.Touching.{TellsPlan, TellsSend};
 ghost use Rattle.copyin_base.specs.Worlds.{HasTask};
 
 use copyin::{Plan, check, check_lone, check_plain, check_request, commit};
@@ -52,7 +52,7 @@ pub(crate) fn send(
     // Memory is wanted only where the message could be sent, or isn't short.
     ensures wanted { IfErr result (λ code. code_number code ≡ msg_number SendNoBuffer → WantsToSend world.old task bytes.now) }
 {
-    *told = Change::by_send(send_text(world, alloc, task, bytes.as_slice())?);
+    send_text(world, alloc, task, bytes.as_slice(), told)?;
     Ok(Reply::Code(MsgReturn::Success.number()))
 }
 
@@ -62,18 +62,19 @@ fn send_text(
     alloc: Global,
     task: TaskId,
     bytes: &[u8],
-) -> Result<Option<PortId>, MsgReturn>
+    told: &mut Change,
+) -> Result<(), MsgReturn>
     requires there { HasTask world.old task }
     requires stands { Stands world.old }
     ensures ok { IfOk result (λ _. SendsText world.old task bytes.now world.new) }
-    ensures to { IfOk result (λ to. TellsSent world.old task bytes.now to) }
+    ensures tells { OnOk result (TellsSend world.old task bytes.now told.new) }
     ensures err { IfErr result (λ code. Declines world.old (AnyEvent.Send task bytes.now) (msg_number code) world.old) }
     ensures refused { OnErr result (world.new ≡ world.old) }
     ensures wanted { IfErr result (λ code. msg_number code ≡ msg_number SendNoBuffer → WantsToSend world.old task bytes.now) }
 {
     match parse_plain(bytes) {
-        Some(plain) => send_plain(world, alloc, task, &plain, bytes),
-        None => send_carrying(world, alloc, task, bytes),
+        Some(plain) => send_plain(world, alloc, task, &plain, bytes, told),
+        None => send_carrying(world, alloc, task, bytes, told),
     }
 }
 
@@ -84,18 +85,19 @@ fn send_plain(
     task: TaskId,
     plain: &Plain,
     bytes: &[u8],
-) -> Result<Option<PortId>, MsgReturn>
+    told: &mut Change,
+) -> Result<(), MsgReturn>
     requires there { HasTask world.old task }
     requires stands { Stands world.old }
     requires parses { Parses bytes.now (parsed_plain plain.now) }
     ensures ok { IfOk result (λ _. SendsText world.old task bytes.now world.new) }
-    ensures to { IfOk result (λ to. TellsSent world.old task bytes.now to) }
+    ensures tells { OnOk result (TellsSend world.old task bytes.now told.new) }
     ensures err { IfErr result (λ code. Declines world.old (AnyEvent.Send task bytes.now) (msg_number code) world.old) }
     ensures refused { OnErr result (world.new ≡ world.old) }
     ensures wanted { IfErr result (λ code. msg_number code ≡ msg_number SendNoBuffer → WantsToSend world.old task bytes.now) }
 {
     match check_plain(world, alloc, task, plain, bytes) {
-        Ok(plan) => carry_out(world, plan, false),
+        Ok(plan) => carry_out(world, plan, false, told),
         Err(code) => Err(code),
     }
 }
@@ -106,18 +108,19 @@ fn send_carrying(
     alloc: Global,
     task: TaskId,
     bytes: &[u8],
-) -> Result<Option<PortId>, MsgReturn>
+    told: &mut Change,
+) -> Result<(), MsgReturn>
     requires there { HasTask world.old task }
     requires stands { Stands world.old }
     ensures ok { IfOk result (λ _. SendsText world.old task bytes.now world.new) }
-    ensures to { IfOk result (λ to. TellsSent world.old task bytes.now to) }
+    ensures tells { OnOk result (TellsSend world.old task bytes.now told.new) }
     ensures err { IfErr result (λ code. Declines world.old (AnyEvent.Send task bytes.now) (msg_number code) world.old) }
     ensures refused { OnErr result (world.new ≡ world.old) }
     ensures wanted { IfErr result (λ code. msg_number code ≡ msg_number SendNoBuffer → WantsToSend world.old task bytes.now) }
 {
     match parse_request(bytes) {
-        Some(request) => send_request(world, alloc, task, &request, bytes),
-        None => send_items(world, alloc, task, bytes),
+        Some(request) => send_request(world, alloc, task, &request, bytes, told),
+        None => send_items(world, alloc, task, bytes, told),
     }
 }
 
@@ -128,19 +131,20 @@ fn send_request(
     task: TaskId,
     request: &Request,
     bytes: &[u8],
-) -> Result<Option<PortId>, MsgReturn>
+    told: &mut Change,
+) -> Result<(), MsgReturn>
     requires there { HasTask world.old task }
     requires stands { Stands world.old }
     requires parses { Parses bytes.now (parsed_request request.now) }
     requires answered { request.now.local_kind ≢ 0 }
     ensures ok { IfOk result (λ _. SendsText world.old task bytes.now world.new) }
-    ensures to { IfOk result (λ to. TellsSent world.old task bytes.now to) }
+    ensures tells { OnOk result (TellsSend world.old task bytes.now told.new) }
     ensures err { IfErr result (λ code. Declines world.old (AnyEvent.Send task bytes.now) (msg_number code) world.old) }
     ensures refused { OnErr result (world.new ≡ world.old) }
     ensures wanted { IfErr result (λ code. msg_number code ≡ msg_number SendNoBuffer → WantsToSend world.old task bytes.now) }
 {
     match check_request(world, alloc, task, request, bytes) {
-        Ok(plan) => carry_out(world, plan, false),
+        Ok(plan) => carry_out(world, plan, false, told),
         Err(code) => Err(code),
     }
 }
@@ -152,18 +156,19 @@ fn send_items(
     alloc: Global,
     task: TaskId,
     bytes: &[u8],
-) -> Result<Option<PortId>, MsgReturn>
+    told: &mut Change,
+) -> Result<(), MsgReturn>
     requires there { HasTask world.old task }
     requires stands { Stands world.old }
     ensures ok { IfOk result (λ _. SendsText world.old task bytes.now world.new) }
-    ensures to { IfOk result (λ to. TellsSent world.old task bytes.now to) }
+    ensures tells { OnOk result (TellsSend world.old task bytes.now told.new) }
     ensures err { IfErr result (λ code. Declines world.old (AnyEvent.Send task bytes.now) (msg_number code) world.old) }
     ensures refused { OnErr result (world.new ≡ world.old) }
     ensures wanted { IfErr result (λ code. msg_number code ≡ msg_number SendNoBuffer → WantsToSend world.old task bytes.now) }
 {
     match parse_lone(bytes) {
-        Some(lone) => send_lone(world, alloc, task, &lone, bytes),
-        None => send_any(world, alloc, task, bytes),
+        Some(lone) => send_lone(world, alloc, task, &lone, bytes, told),
+        None => send_any(world, alloc, task, bytes, told),
     }
 }
 
@@ -174,19 +179,20 @@ fn send_lone(
     task: TaskId,
     lone: &Lone,
     bytes: &[u8],
-) -> Result<Option<PortId>, MsgReturn>
+    told: &mut Change,
+) -> Result<(), MsgReturn>
     requires there { HasTask world.old task }
     requires stands { Stands world.old }
     requires parses { Parses bytes.now (parsed_lone lone.now) }
     requires word { (p : Parses bytes.now (parsed_lone lone.now)) → body_words p.written ≡ lone.now.word ∷ [] }
     ensures ok { IfOk result (λ _. SendsText world.old task bytes.now world.new) }
-    ensures to { IfOk result (λ to. TellsSent world.old task bytes.now to) }
+    ensures tells { OnOk result (TellsSend world.old task bytes.now told.new) }
     ensures err { IfErr result (λ code. Declines world.old (AnyEvent.Send task bytes.now) (msg_number code) world.old) }
     ensures refused { OnErr result (world.new ≡ world.old) }
     ensures wanted { IfErr result (λ code. msg_number code ≡ msg_number SendNoBuffer → WantsToSend world.old task bytes.now) }
 {
     match check_lone(world, alloc, task, lone, bytes) {
-        Ok(plan) => carry_out(world, plan, moves_receive(&lone.word)),
+        Ok(plan) => carry_out(world, plan, moves_receive(&lone.word), told),
         Err(code) => Err(code),
     }
 }
@@ -197,11 +203,12 @@ fn send_any(
     alloc: Global,
     task: TaskId,
     bytes: &[u8],
-) -> Result<Option<PortId>, MsgReturn>
+    told: &mut Change,
+) -> Result<(), MsgReturn>
     requires there { HasTask world.old task }
     requires stands { Stands world.old }
     ensures ok { IfOk result (λ _. SendsText world.old task bytes.now world.new) }
-    ensures to { IfOk result (λ to. TellsSent world.old task bytes.now to) }
+    ensures tells { OnOk result (TellsSend world.old task bytes.now told.new) }
     ensures err { IfErr result (λ code. Declines world.old (AnyEvent.Send task bytes.now) (msg_number code) world.old) }
     ensures refused { OnErr result (world.new ≡ world.old) }
     ensures wanted { IfErr result (λ code. msg_number code ≡ msg_number SendNoBuffer → WantsToSend world.old task bytes.now) }
@@ -214,31 +221,31 @@ fn send_any(
     match check(world, alloc, task, &parsed, bytes) {
         Ok(plan) => {
             let moves = any_moves_receive(plan.words.body.as_slice());
-            carry_out(world, plan, moves)
+            carry_out(world, plan, moves, told)
         }
         Err(code) => Err(code),
     }
 }
 
-/// Makes the slots that the plan wants, and sends its message, whose body may move receive rights. Returns the
-/// port that it went to, where it moves none. `MACH_SEND_NO_BUFFER` where memory was refused for the slots; all
-/// is then as before.
+/// Makes the slots that the plan wants, and sends its message, whose body may move receive rights. In `told` it
+/// leaves the port that it goes to, where it moves none. `MACH_SEND_NO_BUFFER` where memory was refused for the
+/// slots; the tables are then as before.
 #[inline(always)]
-fn carry_out(world: &mut World, plan: Plan, moves: bool) -> Result<Option<PortId>, MsgReturn>
+fn carry_out(world: &mut World, plan: Plan, moves: bool, told: &mut Change) -> Result<(), MsgReturn>
     requires stands { Stands world.old }
     requires planned { (task : ℕ) × (bytes : List ℕ) × PlansText world.old task bytes plan }
     requires moves { moves ≡ false → MovesNoReceive plan.words.body.items }
     ensures ok { IfOk result (λ _. (task : ℕ) (bytes : List ℕ) → PlansText world.old task bytes plan → SendsText world.old task bytes world.new) }
-    ensures to { IfOk result (λ to. GoesTo plan to) }
+    ensures tells { OnOk result (TellsPlan plan told.new) }
     ensures err { IfErr result (λ code. code ≡ SendNoBuffer) }
     ensures refused { OnErr result (world.new ≡ world.old) }
 {
     let Ok(()) = world.reserve_slots(plan.count_slots()) else {
         return Err(MsgReturn::SendNoBuffer);
     };
-    let to = plain_destination(&plan, moves);
+    *told = Change::by_send(plain_destination(&plan, moves));
     commit(world, plan);
-    Ok(to)
+    Ok(())
 }
 
 /// The port that the plan's message goes to, whose body may move receive rights; none where it does.

@@ -15,10 +15,10 @@ returns-in-TaskTerminate-clause-performs c =
     rw c.in-TaskTerminate.is (lost _ _ _ _ c.terminate_task.ensures.serves (takes_none _ _ _ c.requires.stands tt _ c.terminate_task.ensures.serves) c.terminate_task.ensures.spares (λ x. x) tt)
 
 pub returns-in-Allocate-clause-performs : goal.returns-in-Allocate-clause-performs
-returns-in-Allocate-clause-performs c = rw c.in-Allocate.is (carried _ _ _ _ c.allocate-made.ensures.serves c.allocate-made.ensures.wanted c.allocate-made.ensures.spares tt (λ reply. refl) tt)
+returns-in-Allocate-clause-performs c = rw c.in-Allocate.is (carried _ _ _ _ c.allocate.ensures.serves c.allocate.ensures.wanted c.allocate.ensures.spares tt (λ reply. refl) tt)
 
 pub returns-in-AllocateName-clause-performs : goal.returns-in-AllocateName-clause-performs
-returns-in-AllocateName-clause-performs c = rw c.in-AllocateName.is (carried _ _ _ _ c.allocate_name-made.ensures.serves c.allocate_name-made.ensures.wanted c.allocate_name-made.ensures.spares tt (λ reply. refl) tt)
+returns-in-AllocateName-clause-performs c = rw c.in-AllocateName.is (carried _ _ _ _ c.allocate_name.ensures.serves c.allocate_name.ensures.wanted c.allocate_name.ensures.spares tt (λ reply. refl) tt)
 
 pub returns-in-Deallocate-clause-performs : goal.returns-in-Deallocate-clause-performs
 returns-in-Deallocate-clause-performs c = rw c.in-Deallocate.is (lost _ _ _ _ c.lose_one.ensures.serves (takes_none _ _ _ c.requires.stands tt _ c.lose_one.ensures.serves) c.lose_one.ensures.spares (λ x. x) tt)
@@ -63,17 +63,17 @@ returns-in-SetSeqno-clause-performs c = rw c.in-SetSeqno.is (carried _ _ _ _ c.s
 
 pub returns-in-InsertRight-clause-performs : goal.returns-in-InsertRight-clause-performs
 returns-in-InsertRight-clause-performs c =
-    let x = rw (c.new-to.ensures, c.new-from.ensures) at c.insert.ensures in
+    let x = rw (c.new-to.ensures, c.new.ensures) at c.hand_in.ensures in
     rw c.in-InsertRight.is (handed_on _ _ _ _ x.serves x.wanted x.spares (λ reply. refl) (λ s reply. tt) tt tt)
 
 pub returns-in-ExtractRight-clause-performs : goal.returns-in-ExtractRight-clause-performs
 returns-in-ExtractRight-clause-performs c =
-    let x = rw c.new.ensures at c.extract.ensures in
+    let x = rw c.new-in-ExtractRight.ensures at c.hand_out.ensures in
     rw c.in-ExtractRight.is (handed_on _ _ _ _ x.serves x.wanted x.spares (λ reply. refl) (λ s reply. tt) tt tt)
 
 pub returns-in-RequestNotification-clause-performs : goal.returns-in-RequestNotification-clause-performs
 returns-in-RequestNotification-clause-performs c =
-    let x = c.request_notification.ensures in
+    let x = c.ask.ensures in
     rw c.in-RequestNotification.is (asked _ _ _ _ _ _ x.serves x.wanted x.spares)
 
 pub returns-in-Send-clause-performs : goal.returns-in-Send-clause-performs
@@ -83,12 +83,12 @@ returns-in-Send-clause-performs c =
 
 pub returns-in-Receive-clause-performs : goal.returns-in-Receive-clause-performs
 returns-in-Receive-clause-performs c =
-    let x = rw c.new-in-Receive.ensures at c.receive-received.ensures in
+    let x = rw c.new-in-Receive.ensures at c.receive.ensures in
     rw c.in-Receive.is (record { serves = x.serves; wanted = x.wanted; spares = x.spares; turns = x.turns })
 
 pub returns-in-ReceiveAgain-clause-performs : goal.returns-in-ReceiveAgain-clause-performs
 returns-in-ReceiveAgain-clause-performs c =
-    let x = rw c.new-in-ReceiveAgain.ensures at c.receive_again-received.ensures in
+    let x = rw c.new-in-ReceiveAgain.ensures at c.receive_again.ensures in
     rw c.in-ReceiveAgain.is (record { serves = x.serves; wanted = x.wanted; spares = x.spares; turns = x.turns })
 
 pub returns-in-TaskCreate-clause-tells : goal.returns-in-TaskCreate-clause-tells
@@ -98,10 +98,10 @@ pub returns-in-TaskTerminate-clause-tells : goal.returns-in-TaskTerminate-clause
 returns-in-TaskTerminate-clause-tells c = rw c.in-TaskTerminate.is (on_ok _ (λ reply. refl))
 
 pub returns-in-Allocate-clause-tells : goal.returns-in-Allocate-clause-tells
-returns-in-Allocate-clause-tells c = rw c.in-Allocate.is c.by_making.ensures
+returns-in-Allocate-clause-tells c = rw c.in-Allocate.is (on_ok _ (λ reply. c.by_making.ensures))
 
 pub returns-in-AllocateName-clause-tells : goal.returns-in-AllocateName-clause-tells
-returns-in-AllocateName-clause-tells c = rw c.in-AllocateName.is c.by_making-in-AllocateName.ensures
+returns-in-AllocateName-clause-tells c = rw c.in-AllocateName.is (on_ok _ (λ reply. c.by_making-in-AllocateName.ensures))
 
 pub returns-in-Deallocate-clause-tells : goal.returns-in-Deallocate-clause-tells
 returns-in-Deallocate-clause-tells c = rw c.in-Deallocate.is c.lose_one.ensures.tells
@@ -143,19 +143,19 @@ pub returns-in-SetSeqno-clause-tells : goal.returns-in-SetSeqno-clause-tells
 returns-in-SetSeqno-clause-tells c = rw c.in-SetSeqno.is (on_ok _ (λ reply. c.requires.nothing))
 
 pub returns-in-InsertRight-clause-tells : goal.returns-in-InsertRight-clause-tells
-returns-in-InsertRight-clause-tells c = rw c.in-InsertRight.is (on_ok _ (λ reply. c.by_handing.ensures))
+returns-in-InsertRight-clause-tells c = let x = rw (c.new-to.ensures, c.new.ensures) at c.hand_in.ensures in rw c.in-InsertRight.is (on_ok _ (λ reply. x.tells))
 
 pub returns-in-ExtractRight-clause-tells : goal.returns-in-ExtractRight-clause-tells
-returns-in-ExtractRight-clause-tells c = rw c.in-ExtractRight.is (on_ok _ (λ reply. c.by_handing-in-ExtractRight.ensures))
+returns-in-ExtractRight-clause-tells c = let x = rw c.new-in-ExtractRight.ensures at c.hand_out.ensures in rw c.in-ExtractRight.is (on_ok _ (λ reply. x.tells))
 
 pub returns-in-RequestNotification-clause-tells : goal.returns-in-RequestNotification-clause-tells
-returns-in-RequestNotification-clause-tells c = rw c.in-RequestNotification.is (on_ok _ (λ reply. c.by_request.ensures))
+returns-in-RequestNotification-clause-tells c = rw c.in-RequestNotification.is (on_ok _ (λ reply. c.ask.ensures.tells))
 
 pub returns-in-Receive-clause-tells : goal.returns-in-Receive-clause-tells
-returns-in-Receive-clause-tells c = rw c.in-Receive.is c.by_receipt.ensures
+returns-in-Receive-clause-tells c = let x = rw c.new-in-Receive.ensures at c.receive.ensures in rw c.in-Receive.is x.tells
 
 pub returns-in-ReceiveAgain-clause-tells : goal.returns-in-ReceiveAgain-clause-tells
-returns-in-ReceiveAgain-clause-tells c = rw c.in-ReceiveAgain.is c.by_receipt-in-ReceiveAgain.ensures
+returns-in-ReceiveAgain-clause-tells c = let x = rw c.new-in-ReceiveAgain.ensures at c.receive_again.ensures in rw c.in-ReceiveAgain.is x.tells
 
 pub returns-in-Send-clause-tells : goal.returns-in-Send-clause-tells
 returns-in-Send-clause-tells c = rw c.in-Send.is c.send.ensures.tells

@@ -13,10 +13,10 @@ take-requires-clause-known c =
     known_named c.args.world.now c.args.task c.args.name c.in_ok-waited.field-0.waited c.known_name-name.result c.in_ok-waited.ensures.found c.known_name-name.ensures
 
 pub returns-clause-serves : goal.returns-clause-serves
-returns-clause-serves c = named_received c.args.world.now c.args.task c.args.buffer.room c.args.buffer.large c.requires.there c.args.name c.in_ok-waited.field-0.waited c.in_ok-waited.ensures.ok c.in_ok-take.field-0 c.take.new.world c.in_ok-take.ensures.ok
+returns-clause-serves c = named_received c.args.world.now c.args.task c.args.buffer.room c.args.buffer.large c.requires.there c.args.name c.in_ok-waited.field-0.waited c.in_ok-waited.ensures.ok c.in_ok-reply.reply c.take.new.world c.in_ok-reply.ensures.ok
 
 pub returns-clause-spares : goal.returns-clause-spares
-returns-clause-spares c = named_spares c.args.world.now c.args.task c.args.name c.args.buffer.room c.args.buffer.large c.in_ok-take.field-0 c.take.new.world c.in_ok-take.ensures.spares
+returns-clause-spares c = named_spares c.args.world.now c.args.task c.args.name c.args.buffer.room c.args.buffer.large c.in_ok-reply.reply c.take.new.world c.in_ok-reply.ensures.spares
 
 pub returns-in_err-waited-clause-serves : goal.returns-in_err-waited-clause-serves
 returns-in_err-waited-clause-serves c =
@@ -33,31 +33,31 @@ returns-in_err-waited-clause-spares c =
     let p = err_from_is_err_and c.from_residual.result c.from_residual.ensures.1 in
     rw (p.1, p.2) (refused_spares _ _ _ _ (keeps_same c.args.world.now c.args.world.now refl))
 
-pub returns-in_err-take-clause-serves : goal.returns-in_err-take-clause-serves
-returns-in_err-take-clause-serves c =
-    let p = err_from_is_err_and c.from_residual-in_err-take.result c.from_residual-in_err-take.ensures.1 in
-    let stays = c.in_err-take.ensures.err in
+pub returns-in_err-reply-clause-serves : goal.returns-in_err-reply-clause-serves
+returns-in_err-reply-clause-serves c =
+    let p = err_from_is_err_and c.from_residual-in_err-reply.result c.from_residual-in_err-reply.ensures.1 in
+    let stays = c.in_err-reply.ensures.err in
     rw (p.1, p.2, stays.0) (named_stays c.args.world.now c.args.task c.args.buffer.room c.args.buffer.large c.requires.there c.args.name c.in_ok-waited.field-0.waited c.in_ok-waited.ensures.ok _ stays.1)
 
-pub returns-in_err-take-clause-wanted : goal.returns-in_err-take-clause-wanted
-returns-in_err-take-clause-wanted c =
-    let p = err_from_is_err_and c.from_residual-in_err-take.result c.from_residual-in_err-take.ensures.1 in
-    rw (p.1, p.2) (λ e. (c.in_ok-waited.field-0.waited, c.in_ok-waited.ensures.found, c.in_err-take.ensures.wanted e))
+pub returns-in_err-reply-clause-wanted : goal.returns-in_err-reply-clause-wanted
+returns-in_err-reply-clause-wanted c =
+    let p = err_from_is_err_and c.from_residual-in_err-reply.result c.from_residual-in_err-reply.ensures.1 in
+    rw (p.1, p.2) (λ e. (c.in_ok-waited.field-0.waited, c.in_ok-waited.ensures.found, c.in_err-reply.ensures.wanted e))
 
-pub returns-in_err-take-clause-spares : goal.returns-in_err-take-clause-spares
-returns-in_err-take-clause-spares c =
-    let p = err_from_is_err_and c.from_residual-in_err-take.result c.from_residual-in_err-take.ensures.1 in
-    rw (p.1, p.2) (refused_spares _ _ _ _ (keeps_same c.args.world.now c.take.new.world c.in_err-take.ensures.err.0))
+pub returns-in_err-reply-clause-spares : goal.returns-in_err-reply-clause-spares
+returns-in_err-reply-clause-spares c =
+    let p = err_from_is_err_and c.from_residual-in_err-reply.result c.from_residual-in_err-reply.ensures.1 in
+    rw (p.1, p.2) (refused_spares _ _ _ _ (keeps_same c.args.world.now c.take.new.world c.in_err-reply.ensures.err.0))
 
 pub returns-clause-turns : goal.returns-clause-turns
-returns-clause-turns c = named_turns c.args.world.now c.args.task c.args.name c.args.buffer.room c.args.buffer.large c.in_ok-waited.field-0.waited c.in_ok-take.field-0 c.take.new.world c.in_ok-waited.ensures.found c.in_ok-take.ensures.turns
+returns-clause-turns c = named_turns c.args.world.now c.args.task c.args.name c.args.buffer.room c.args.buffer.large c.in_ok-waited.field-0.waited c.in_ok-reply.reply c.take.new.world c.in_ok-waited.ensures.found c.in_ok-reply.ensures.turns
 
 pub returns-in_err-waited-clause-turns : goal.returns-in_err-waited-clause-turns
 returns-in_err-waited-clause-turns c =
     let p = err_from_is_err_and c.from_residual.result c.from_residual.ensures.1 in
     rw p.1 refl
 
-pub returns-in_err-take-clause-turns : goal.returns-in_err-take-clause-turns
-returns-in_err-take-clause-turns c =
-    let p = err_from_is_err_and c.from_residual-in_err-take.result c.from_residual-in_err-take.ensures.1 in
-    rw p.1 c.in_err-take.ensures.err.0
+pub returns-in_err-reply-clause-turns : goal.returns-in_err-reply-clause-turns
+returns-in_err-reply-clause-turns c =
+    let p = err_from_is_err_and c.from_residual-in_err-reply.result c.from_residual-in_err-reply.ensures.1 in
+    rw p.1 c.in_err-reply.ensures.err.0

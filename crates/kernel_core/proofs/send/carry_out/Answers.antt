@@ -25,3 +25,6 @@ commit-requires-clause-none_lost c = still_none_lost c.args.world.now c.reserve_
 pub returns-clause-ok : goal.returns-clause-ok
 returns-clause-ok c = λ task bytes p. sends_text c.args.world.now c.reserve_slots.new.self c.commit.new.world task bytes p.parsed p.text c.args.plan c.count_slots.result
     c.in-Ok.ensures.ok c.count_slots.ensures p.is_plan (λ q. c.commit.ensures task p.parsed p.text.written bytes q)
+
+pub returns-clause-tells : goal.returns-clause-tells
+returns-clause-tells c = (c.plain_destination.result, c.plain_destination.ensures, c.by_send.ensures)

@@ -1,7 +1,8 @@
 use Rattle.std.proofs.Common.{List, ℕ, subst}
 use Rattle.std.proofs.lemmas.Result.{err_from_is_err_and}
 use Rattle.copyin.specs.Wanted.{WantsToSend}
-use Rattle.kernel_core.specs.Send.{SendsText, TellsSent}
+use Rattle.kernel_core.specs.Send.{SendsText}
+use Rattle.kernel_core.specs.Touching.{TellsSend}
 use Rattle.kernel_core.proofs.Sending.{send_done, uses_slot}
 use Rattle.kernel_core.proofs.send.send.Goals as goal
 
@@ -18,8 +19,4 @@ returns-in_err-send_text-clause-wanted c =
     rw (p.1, p.2) (λ is. subst (λ (xs : List ℕ). WantsToSend c.args.world.now c.args.task xs) c.as_slice.ensures (c.in_err-send_text.ensures.wanted is))
 
 pub returns-clause-tells : goal.returns-clause-tells
-returns-clause-tells c = (
-  c.in_ok-send_text.field-0,
-  subst (λ (xs : List ℕ). TellsSent c.args.world.now c.args.task xs c.in_ok-send_text.field-0) c.as_slice.ensures c.in_ok-send_text.ensures.to,
-  c.by_send.ensures,
-)
+returns-clause-tells c = subst (λ (xs : List ℕ). TellsSend c.args.world.now c.args.task xs c.send_text.new.told) c.as_slice.ensures c.in_ok-send_text.ensures.tells

@@ -48,8 +48,8 @@ returns-clause-wanted c =
     let text = c.in-Ok.ensures.ok in
     check_wants c.args.world.now c.args.task c.args.bytes.now c.in-Ok.parsed text (msg_number c.in-Err-check.code) (c.in-Err-check.ensures.err text)
 
-pub returns-in-Ok-check-clause-to : goal.returns-in-Ok-check-clause-to
-returns-in-Ok-check-clause-to c =
+pub returns-in-Ok-check-clause-tells : goal.returns-in-Ok-check-clause-tells
+returns-in-Ok-check-clause-tells c =
     let text = c.in-Ok.ensures.ok in
     let p : PlansText c.args.world.now c.args.task c.args.bytes.now c.in-Ok-check.plan = record { parsed = c.in-Ok.parsed; text = text; is_plan = c.in-Ok-check.ensures.ok text } in
-    goes c.args.world.now c.args.task c.args.bytes.now c.in-Ok-check.plan p c.carry_out.result c.carry_out.ensures.to
+    goes c.args.world.now c.args.task c.args.bytes.now c.in-Ok-check.plan p c.carry_out.new.told c.carry_out.result c.carry_out.ensures.tells

@@ -44,11 +44,11 @@ returns-in-Err-clause-wanted c =
     let text = c.requires.parses in
     check_wants c.args.world.now c.args.task c.args.bytes.now (parsed_request c.args.request.now) text (msg_number c.in-Err.code) (c.in-Err.ensures.err text)
 
-pub returns-in-Ok-clause-to : goal.returns-in-Ok-clause-to
-returns-in-Ok-clause-to c =
+pub returns-in-Ok-clause-tells : goal.returns-in-Ok-clause-tells
+returns-in-Ok-clause-tells c =
     let text = c.requires.parses in
     let p : PlansText c.args.world.now c.args.task c.args.bytes.now c.in-Ok.plan = record { parsed = parsed_request c.args.request.now; text = text; is_plan = c.in-Ok.ensures.ok text } in
-    goes c.args.world.now c.args.task c.args.bytes.now c.in-Ok.plan p c.carry_out.result c.carry_out.ensures.to
+    goes c.args.world.now c.args.task c.args.bytes.now c.in-Ok.plan p c.carry_out.new.told c.carry_out.result c.carry_out.ensures.tells
 
 pub carry_out-requires-clause-moves : goal.carry_out-requires-clause-moves
 carry_out-requires-clause-moves c = λ is.
