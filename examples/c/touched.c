@@ -9,7 +9,7 @@
 enum { HEADER = 24, WITH_RIGHT = 32, ROOM = 64 };
 
 /* Names that the tasks choose: of the server ports and sets, of the client a send right for the first port. */
-enum { PORT = 10, NOTICES = 11, WATCHED = 12, SET = 20, OTHER_SET = 21, SERVICE = 30, SPARE = 40 };
+enum { PORT = 10, NOTICES = 11, WATCHED = 12, SET = 20, OTHER_SET = 21, SERVICE = 30, SPARE = 40, FIRST_MEMBER = 100 };
 
 static gelvonds kernel = GELVONDS_NONE;
 static gelvonds_task server, client;
@@ -158,9 +158,28 @@ static void die(void) {
     tell("destroy of a receive right, with a request", gelvonds_port_destroy(&kernel, server, WATCHED));
 }
 
+/* A set of the server's, made under its old name with so many new members, which is destroyed. */
+static gelvonds_code fill_and_destroy(gelvonds_name members) {
+    gelvonds_port_allocate_name(&kernel, server, MACH_PORT_RIGHT_PORT_SET, SET);
+    for (gelvonds_name i = 0; i < members; i++) {
+        gelvonds_name name = FIRST_MEMBER + 10 * members + i;
+        gelvonds_port_allocate_name(&kernel, server, MACH_PORT_RIGHT_RECEIVE, name);
+        gelvonds_port_move_member(&kernel, server, name, SET);
+    }
+    return gelvonds_port_destroy(&kernel, server, SET);
+}
+
 /* What ends with all that is in it. */
 static void end(void) {
+    gelvonds_task idle;
     tell("destroy of a set", gelvonds_port_destroy(&kernel, server, SET));
+    tell("destroy of a set of one", fill_and_destroy(1));
+    tell("destroy of a set of three", fill_and_destroy(3));
+    tell("destroy of a set of four", fill_and_destroy(4));
+    tell("mod_refs of a set",
+         gelvonds_port_mod_refs(&kernel, server, OTHER_SET, MACH_PORT_RIGHT_PORT_SET, -1));
+    gelvonds_task_create(&kernel, &idle);
+    tell("task_terminate of a task without names", gelvonds_task_terminate(&kernel, idle));
     tell("task_terminate", gelvonds_task_terminate(&kernel, client));
 }
 

@@ -1,5 +1,5 @@
 -- What a step changed of ports and port sets, as the kernel keeps it, and what that is once it is asked for.
-use Rattle.std.specs.Prelude.{◌≡◌, ℕ, ◌⊎◌, ◌-◌, ◌^◌, ◌%◌, ◌||◌, Bool, List, [], ◌∷◌, length, Option, Some, None, if◌then◌else◌, ◌==◌, ◌&&◌, not, nat_lt}
+use Rattle.std.specs.Prelude.{◌≡◌, ℕ, ◌⊎◌, ◌-◌, ◌^◌, ◌%◌, ◌||◌, Bool, List, [], ◌∷◌, length, Option, Some, None, MatchBool, Contains, if◌then◌else◌, ◌==◌, ◌&&◌, not, nat_lt}
 use Rattle.std.specs.FinMap as map
 use Rattle.std.specs.Option.{option_and_then, option_map}
 use Rattle.mach_types.specs.declared.calls.Event.{Event}
@@ -12,12 +12,13 @@ use Rattle.mach_types.specs.TextGuards.{word_at}
 use Rattle.name_space.specs.declared.Entry.{Entry}
 use Rattle.name_space.specs.declared.Entry.TheVariants as entry
 use Rattle.name_space.specs.Entry.{port_named}
+use Rattle.name_space.specs.Names.{SpaceView}
 use Rattle.port.specs.Ports.{PortView, NoneQueued}
 use Rattle.request_table.specs.Requests.{NoneOn}
 use Rattle.copyin_base.specs.Kept.{Kept}
-use Rattle.copyin_base.specs.Worlds.{WorldView, entry_at, port_at}
+use Rattle.copyin_base.specs.Worlds.{WorldView, entry_at, port_at, space_at}
 use Rattle.kernel_change.specs.declared.change.Change.{Change}
-use Rattle.kernel_change.specs.declared.change.Change.TheVariants.{Nothing, Made, PortNamed, Queue, QueueNamed, Left, Lost, Any}
+use Rattle.kernel_change.specs.declared.change.Change.TheVariants.{Nothing, Made, PortNamed, Queue, QueueNamed, Left, Disbanded, DisbandedTwo, DisbandedThree, Lost, Any}
 
 -- ---- what it is
 
@@ -52,6 +53,9 @@ touched_by w (PortNamed task name) = few (option_map Waited.Port (port_under w t
 touched_by w (Queue port) = with_set w (Some port)
 touched_by w (QueueNamed task name) = with_set w (port_under w task name)
 touched_by w (Left port set) = named_left w port set
+touched_by w (Disbanded set) = few (Some (Waited.Set set)) None
+touched_by w (DisbandedTwo set a b) = Few (Some (Waited.Set set) ∷ Some (Waited.Port a) ∷ Some (Waited.Port b) ∷ None ∷ [])
+touched_by w (DisbandedThree set a b c) = Few (Some (Waited.Set set) ∷ Some (Waited.Port a) ∷ Some (Waited.Port b) ∷ Some (Waited.Port c) ∷ [])
 touched_by w (Lost port) = All
 touched_by w Any = All
 
@@ -95,9 +99,41 @@ by_losing_all (Some (entry.Receive port)) = Lost port
 by_losing_all (Some (entry.ReceiveAndSend port references)) = Lost port
 by_losing_all e = Any
 
+-- a set goes that has these members
+abbrev pub disbanded : (set : ℕ) → List ℕ → Change
+disbanded set [] = Disbanded set
+disbanded set (a ∷ []) = Left a set
+disbanded set (a ∷ b ∷ []) = DisbandedTwo set a b
+disbanded set (a ∷ b ∷ c ∷ []) = DisbandedThree set a b c
+disbanded set ports = Any
+
+-- These ports are in the set, and no other.
+pub record AreMembers (w : WorldView) (set : ℕ) (ports : List ℕ) : Type 0 where
+  pub only : (port : ℕ) → Contains ports port → set_of w port ≡ Some set
+  pub all : (port : ℕ) → set_of w port ≡ Some set → Contains ports port
+
+-- A set goes: where memory is refused for the list of its members, any port and any set may have changed.
+abbrev pub ByDisbanding : WorldView → (set : ℕ) → (told : Change) → Type 0
+ByDisbanding w set told = ((ports : List ℕ) × AreMembers w set ports × (told ≡ disbanded set ports)) ⊎ (told ≡ Any)
+
+-- All under a name goes, a set too.
+abbrev pub ByLosingAll : WorldView → Option Entry → (told : Change) → Type 0
+ByLosingAll w (Some (entry.Set set)) told = ByDisbanding w set told
+ByLosingAll w e told = told ≡ by_losing_all e
+
 -- references of a right of this number: those of a send right or a dead name are nothing that is waited for, and another right goes
-abbrev pub by_references : WorldView → (task name right : ℕ) → Change
-by_references w task name right = if right == 0 || right == 4 then Nothing else by_losing_all (entry_at w task name)
+abbrev pub ByReferences : WorldView → (task name right : ℕ) → (told : Change) → Type 0
+ByReferences w task name right told = MatchBool (right == 0 || right == 4) (told ≡ Nothing) (ByLosingAll w (entry_at w task name) told)
+
+-- The task has no names.
+pub record HasNoNames (w : WorldView) (task : ℕ) : Type 0 where
+  pub space : SpaceView
+  pub there : space_at w task ≡ Some space
+  pub none : map.len space.names ≡ 0
+
+-- A task ends: one that has no names changes nothing.
+abbrev pub ByEnding : WorldView → (task : ℕ) → (told : Change) → Type 0
+ByEnding w task told = HasNoNames w task × (told ≡ Nothing) ⊎ ¬ (HasNoNames w task) × (told ≡ Any)
 
 -- a port goes to another set or place, from this set, if it is in one
 abbrev pub left_by : (port : ℕ) → Option ℕ → Change
@@ -126,7 +162,7 @@ by_paying e = Any
 abbrev pub by_request : WorldView → (task name number : ℕ) → Change
 by_request w task name number = if name == 0 then Nothing else (if number == 16 then Any else by_paying (entry_at w task name))
 
--- what the call changes, by the tables before it and by its reply; a send, that names no receive right, by the port that it tells
+-- what the call changes, by the tables before it and by its reply; what isn't determined so stands in `Changes`
 abbrev pub change_of : WorldView → Event → Reply → Change
 change_of w Event.TaskCreate reply = Nothing
 change_of w (Event.GetRefs task name right) reply = Nothing
@@ -141,8 +177,6 @@ change_of w (Event.SetQlimit task name n) reply = PortNamed task name
 change_of w (Event.Allocate task right) reply = by_making right
 change_of w (Event.AllocateName task right name) reply = by_making right
 change_of w (Event.Deallocate task name) reply = by_losing_one (entry_at w task name)
-change_of w (Event.Destroy task name) reply = by_losing_all (entry_at w task name)
-change_of w (Event.ModRefs task name right delta) reply = by_references w task name right
 change_of w (Event.MoveMember task member after) reply = by_moving w task member
 change_of w (Event.InsertRight task name from poly number) reply = by_handing w from poly number
 change_of w (Event.ExtractRight task name number to) reply = by_handing w task name number
@@ -150,6 +184,13 @@ change_of w (Event.Receive task name room large) reply = by_receipt task large r
 change_of w (Event.ReceiveAgain task waited room large) reply = by_receipt task large reply
 change_of w (Event.RequestNotification task name variant sync notify number) reply = by_request w task notify number
 change_of w event reply = Any
+
+-- what each call but a send changes
+abbrev pub Changes : WorldView → Event → Reply → (told : Change) → Type 0
+Changes w (Event.Destroy task name) reply told = ByLosingAll w (entry_at w task name) told
+Changes w (Event.ModRefs task name right delta) reply told = ByReferences w task name right told
+Changes w (Event.TaskTerminate task) reply told = ByEnding w task told
+Changes w event reply told = told ≡ change_of w event reply
 
 -- ---- which it is, where the end of the step had something to do
 

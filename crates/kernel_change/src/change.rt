@@ -1,12 +1,16 @@
 //! What a step changed, as it is kept.
-ghost use Rattle.std.specs.Prelude.{◌≡◌, ◌↔◌, [], Some, None, IsTrue};
+ghost use Rattle.std.specs.Prelude.{◌≡◌, ◌↔◌, [], ◌∷◌, Some, None, IsTrue};
+ghost use Rattle.std.specs.Option.{option_map};
 ghost use Rattle.port.specs.Ports.{NoneQueued};
-ghost use Rattle.copyin_base.specs.Worlds.{entry_at};
-ghost use Rattle.kernel_change.specs.Changing.{few, named_left, port_under, set_of as set_at, with_set as touched_with_set, touched_by, gives_none, by_message as change_by_message, by_receipt as change_by_receipt, made_last, by_making as change_by_making, by_send as change_by_send, by_references as change_by_references, by_losing_one as change_by_losing_one, by_losing_all as change_by_losing_all, IsUnasked, DiesAlone, EndsAs, left_by as change_left_by, by_moving as change_by_moving, by_handing as change_by_handing, by_paying as change_by_paying, by_request as change_by_request};
+ghost use Rattle.copyin_base.specs.Worlds.{entry_at, HasTask};
+ghost use Rattle.mach_types.specs.declared.calls.Waited.TheVariants as waited;
+ghost use Rattle.mach_types.specs.declared.touched.Touched.TheVariants.{Few};
+ghost use Rattle.kernel_change.specs.Changing.{few, named_left, port_under, set_of as set_at, with_set as touched_with_set, touched_by, gives_none, by_message as change_by_message, by_receipt as change_by_receipt, made_last, by_making as change_by_making, by_send as change_by_send, by_losing_one as change_by_losing_one, disbanded, ByDisbanding, ByLosingAll, ByReferences, ByEnding, IsUnasked, DiesAlone, EndsAs, left_by as change_left_by, by_moving as change_by_moving, by_handing as change_by_handing, by_paying as change_by_paying, by_request as change_by_request};
 
 use copyin_base::World;
 use mach_types::{Name, PortId, Reply, SetId, TaskId, Touched, Waited};
 use name_space::Entry;
+use std::alloc::Global;
 use type_descriptor::read_word;
 
 /// What a step changed, in short: what stands under a name, and in which set a port is, is looked up once it
@@ -25,6 +29,12 @@ pub enum Change {
     QueueNamed(TaskId, Name),
     /// Of this port that it left this set, for another place or another set.
     Left(PortId, SetId),
+    /// Of this set that it was destroyed; it had no members.
+    Disbanded(SetId),
+    /// The same of a set with these two members.
+    DisbandedTwo(SetId, PortId, PortId),
+    /// The same of a set with these three.
+    DisbandedThree(SetId, PortId, PortId, PortId),
     /// The receive right of this port was destroyed: any port and any set, unless it dies alone.
     Lost(PortId),
     /// Any port and any set.
@@ -58,29 +68,48 @@ impl Change {
         }
     }
 
-    /// All that is under a name with this entry goes; the port of a send-once right gets a notice.
+    /// All that is under a name with this entry is about to go; the port of a send-once right gets a notice. Constant
+    /// time, but for a set linear in its members.
     #[inline(always)]
-    pub fn by_losing_all(entry: &Entry) -> Change
-        ensures { result ≡ change_by_losing_all (Some entry.now) }
+    pub fn by_losing_all(world: &World, alloc: Global, entry: &Entry) -> Change
+        ensures { ByLosingAll world.now (Some entry.now) result }
     {
         match entry {
             Entry::Send(..) | Entry::DeadName(_) => Change::Nothing,
             Entry::SendOnce(port) => Change::Queue(*port),
             Entry::Receive(port) | Entry::ReceiveAndSend(port, _) => Change::Lost(*port),
-            Entry::Set(_) => Change::Any,
+            Entry::Set(set) => by_disbanding(world, alloc, *set),
         }
     }
 
     /// References are about to change of a right of this number, under the name: a send right, a dead name, or another
-    /// right that goes. Constant time, and logarithmic for a name above 65,535.
+    /// right that goes. Constant time, and logarithmic for a name above 65,535; for a set linear in its members.
     #[inline(always)]
-    pub fn by_references(world: &World, task: TaskId, name: Name, right: u32) -> Change
-        ensures { result ≡ change_by_references world.now task name right }
+    pub fn by_references(
+        world: &World,
+        alloc: Global,
+        task: TaskId,
+        name: Name,
+        right: u32,
+    ) -> Change
+        ensures { ByReferences world.now task name right result }
     {
         if right == 0 || right == 4 {
             Change::Nothing
         } else {
-            by_removing(world, task, name)
+            by_removing(world, alloc, task, name)
+        }
+    }
+
+    /// The task is about to end: of one without names nobody waits for anything. Constant time.
+    pub fn by_ending(world: &World, task: TaskId) -> Change
+        requires { HasTask world.now task }
+        ensures { ByEnding world.now task result }
+    {
+        if world.space(task).is_empty() {
+            Change::Nothing
+        } else {
+            Change::Any
         }
     }
 
@@ -177,6 +206,9 @@ impl Change {
             Change::QueueNamed(task, name) => name_with_set(world, named_port(world, task, name)),
             Change::Made => name_last(world),
             Change::Left(port, set) => name_left(world, port, set),
+            Change::Disbanded(set) => name_both(Some(Waited::Set(set)), None),
+            Change::DisbandedTwo(set, a, b) => name_members(set, a, b, None),
+            Change::DisbandedThree(set, a, b, c) => name_members(set, a, b, Some(c)),
             Change::Lost(_) | Change::Any => Touched::All,
         }
     }
@@ -245,6 +277,43 @@ fn name_left(world: &World, port: PortId, left: SetId) -> Touched
     ])
 }
 
+/// The set that was destroyed, and its two or three members.
+fn name_members(set: SetId, a: PortId, b: PortId, c: Option<PortId>) -> Touched
+    ensures { result ≡ Few (Some (waited.Set set) ∷ Some (waited.Port a) ∷ Some (waited.Port b) ∷ option_map waited.Port c ∷ []) }
+{
+    Touched::Few([
+        Some(Waited::Set(set)),
+        Some(Waited::Port(a)),
+        Some(Waited::Port(b)),
+        c.map(Waited::Port),
+    ])
+}
+
+/// The set is about to be destroyed: it changes, and each member. Linear in the members, of whom it makes a list. Where
+/// memory is refused for that, or there are more than three, it is any port and any set.
+#[inline(never)]
+fn by_disbanding(world: &World, alloc: Global, set: SetId) -> Change
+    ensures { ByDisbanding world.now set result }
+{
+    match world.ports.members(set, alloc) {
+        Ok(members) => with_members(set, members.as_slice()),
+        Err(_) => Change::Any,
+    }
+}
+
+/// The set goes that has these members.
+fn with_members(set: SetId, members: &[PortId]) -> Change
+    ensures { result ≡ disbanded set members.now }
+{
+    match members {
+        [] => Change::Disbanded(set),
+        [a] => Change::Left(*a, set),
+        [a, b] => Change::DisbandedTwo(set, *a, *b),
+        [a, b, c] => Change::DisbandedThree(set, *a, *b, *c),
+        _ => Change::Any,
+    }
+}
+
 /// A notice may be sent to the port of the right that pays for it: this send-once right, or one made of this receive
 /// right.
 fn by_paying(entry: &Entry) -> Change
@@ -260,11 +329,11 @@ fn by_paying(entry: &Entry) -> Change
 
 /// The right under the name is about to go, which counts no references.
 #[inline(never)]
-fn by_removing(world: &World, task: TaskId, name: Name) -> Change
-    ensures { result ≡ change_by_losing_all (entry_at world.now task name) }
+fn by_removing(world: &World, alloc: Global, task: TaskId, name: Name) -> Change
+    ensures { ByLosingAll world.now (entry_at world.now task name) result }
 {
     match world.lookup(task, name) {
-        Some(entry) => Change::by_losing_all(&entry),
+        Some(entry) => Change::by_losing_all(world, alloc, &entry),
         None => Change::Any,
     }
 }

@@ -1,6 +1,6 @@
 -- What a kernel keeps of a step covers all that the machine's step changes of ports and sets.
-use Rattle.std.proofs.Common.{◌≡◌, ℕ, ◌+◌, ◌-◌, ◌<◌, ◌^◌, ◌%◌, List, [], ◌∷◌, ◌++◌, Option, Some, None, refl, sym, ap, subst, ◌∙◌, arith, true, false, Bool, inl, inr, ◌⊎◌, length, is_some}
-use Rattle.std.specs.Prelude.{◌≢◌, ◌==◌, ◌&&◌, ◌||◌, ℤ, not, if◌then◌else◌, Contains, nat_lt, All, Result, Ok, Err, IfOk}
+use Rattle.std.proofs.Common.{◌≡◌, ℕ, suc, zero, ◌+◌, ◌-◌, ◌<◌, ◌^◌, ◌%◌, List, [], ◌∷◌, ◌++◌, Option, Some, None, refl, sym, ap, subst, ◌∙◌, arith, true, false, Bool, inl, inr, ◌⊎◌, length, is_some}
+use Rattle.std.specs.Prelude.{◌≢◌, ◌==◌, ◌&&◌, ◌||◌, ℤ, not, if◌then◌else◌, MatchBool, Contains, nat_lt, All, Result, Ok, Err, IfOk}
 use Rattle.std.specs.Option.{option_map, option_and_then, option_to_list}
 use Rattle.std.proofs.lemmas.List.Elements.{All-head, All-tail, All-cons, All-nil}
 use Rattle.std.proofs.lemmas.Bool.{and_parts, ltb-true}
@@ -29,14 +29,17 @@ use Rattle.mach_model.specs.Notices.{Notice, carried_by, Owed, right_unused}
 use Rattle.mach_model.specs.Requests.{Requests}
 use Rattle.mach_model.specs.SentMeans.{target_mark}
 use Rattle.mach_model.specs.CopyIn.{CopyRight}
-use Rattle.mach_model.specs.References.{LosesOne, unused_once, Deallocates, Destroys, Modifies, LosesAll, LosesReceive, RemovesRight, is_either}
+use Rattle.mach_model.specs.References.{LosesOne, unused_once, Deallocates, Destroys, Modifies, LosesAll, LosesReceive, RemovesRight, without_set, is_either}
 use Rattle.mach_model.specs.Receive.{Receipt, Receives}
 use Rattle.mach_model.specs.Send.{Sends}
 use Rattle.mach_model.specs.Settles.{Settles}
+use Rattle.mach_model.specs.Tasks.{EndsTask}
 use Rattle.mach_model.proofs.Failing.{refusal_fails}
 use Rattle.mach_model.proofs.MessagesLawful.{first_byte}
 use Rattle.mach_model.proofs.NamesLawful.{gives-lawful}
 use Rattle.mach_laws.specs.Touching.{TouchesOnly}
+use Rattle.mach_laws.proofs.Disbanding.{disbanding_touches}
+use Rattle.mach_laws.proofs.EndingTask.{nameless_holds, ends_keep, ends_owing_none}
 use Rattle.mach_laws.proofs.LoneDeath.{LosesRight, none_lost, all_lose, receive_lost, dies_alone}
 use Rattle.mach_laws.proofs.Losing.{one_keeps, all_keeps, IsCounted, counts_keep, modifies_removes, insert_ends, extract_ends, inserts_keep, extracts_keep}
 use Rattle.mach_laws.proofs.Moving.{KeepsOthers, others_end, others_trans, moved_touches, joins_others, receive_moves}
@@ -61,7 +64,7 @@ use Rattle.copyin.proofs.Planning.{message, third, copied, none_receives}
 use Rattle.destroy.specs.Stages.{SettlesIn}
 use Rattle.kernel_change.specs.declared.change.Change.TheVariants as change
 use Rattle.kernel_change.specs.declared.change.Change.{Change}
-use Rattle.kernel_change.specs.Changing.{few, made_last, port_under, set_of, with_set, named_left, touched_by, gives_none, by_message, by_receipt, by_send, by_references, by_paying, by_request, by_making, by_losing_one, by_losing_all, left_by, moved_from, by_moving, by_handing, DiesAlone, EndsAs}
+use Rattle.kernel_change.specs.Changing.{few, made_last, port_under, set_of, with_set, named_left, touched_by, gives_none, by_message, by_receipt, by_send, by_paying, by_request, by_making, by_losing_one, by_losing_all, disbanded, ByDisbanding, ByLosingAll, ByReferences, ByEnding, left_by, moved_from, by_moving, by_handing, DiesAlone, EndsAs}
 use Rattle.kernel_core.specs.Send.{MovesNoReceive, SendsTo, TellsSent}
 use Rattle.kernel_core.specs.Touching.{TellsChange, Touches, EndsIdle}
 use Rattle.kernel_core.proofs.Alone.{none_kept, is_lone}
@@ -124,6 +127,32 @@ unchanged s mid owed touched c none = inr (inl (
 
 kept_all : (s mid : State) (owed : Owed) (touched : Touched) → Keeps s mid → owed ≡ [] → OwnTouches s mid owed touched
 kept_all s mid owed touched k none = unchanged s mid owed touched (changes_none s mid None None k) none
+
+-- what stands for no set
+abbrev IsNoSet : Target → Type 0
+IsNoSet (Target.set set) = ⊥
+IsNoSet target = Unit {0}
+
+-- a set that is destroyed is covered, and so is each of few members
+covers_disbanded : (v : WorldView) (set : ℕ) (ports : List ℕ) → Covers (touched_by v (disbanded set ports)) (Waited.Set set)
+covers_disbanded v set [] = (0, omega arith, refl)
+covers_disbanded v set (a ∷ []) = (2, omega arith, refl)
+covers_disbanded v set (a ∷ b ∷ []) = (0, omega arith, refl)
+covers_disbanded v set (a ∷ b ∷ c ∷ []) = (0, omega arith, refl)
+covers_disbanded v set (a ∷ b ∷ c ∷ d ∷ xs) = tt
+
+covers_member : (v : WorldView) (set : ℕ) (ports : List ℕ) (p : ℕ) → Contains ports p → Covers (touched_by v (disbanded set ports)) (Waited.Port p)
+covers_member v set [] p (i, below, is) = absurd (omega (arith, below))
+covers_member v set (a ∷ []) p (zero, below, is) = (0, omega arith, ap (λ (n : ℕ). Some (Waited.Port n)) is)
+covers_member v set (a ∷ []) p (suc i, below, is) = absurd (omega (arith, below))
+covers_member v set (a ∷ b ∷ []) p (zero, below, is) = (1, omega arith, ap (λ (n : ℕ). Some (Waited.Port n)) is)
+covers_member v set (a ∷ b ∷ []) p (suc zero, below, is) = (2, omega arith, ap (λ (n : ℕ). Some (Waited.Port n)) is)
+covers_member v set (a ∷ b ∷ []) p (suc (suc i), below, is) = absurd (omega (arith, below))
+covers_member v set (a ∷ b ∷ c ∷ []) p (zero, below, is) = (1, omega arith, ap (λ (n : ℕ). Some (Waited.Port n)) is)
+covers_member v set (a ∷ b ∷ c ∷ []) p (suc zero, below, is) = (2, omega arith, ap (λ (n : ℕ). Some (Waited.Port n)) is)
+covers_member v set (a ∷ b ∷ c ∷ []) p (suc (suc zero), below, is) = (3, omega arith, ap (λ (n : ℕ). Some (Waited.Port n)) is)
+covers_member v set (a ∷ b ∷ c ∷ []) p (suc (suc (suc i)), below, is) = absurd (omega (arith, below))
+covers_member v set (a ∷ b ∷ c ∷ d ∷ xs) p in_it = tt
 
 -- a name for a port stands for it in the tables
 named_port : (o : Option Named) (p : ℕ) → Some (Target.port p) ≡ option_map target_of o → option_and_then port_named o ≡ Some p
@@ -306,18 +335,19 @@ module _ (now : ℕ) (old w : WorldView) (s mid : State) (owed : Owed) (sh : Sho
       posted : Agrees w told_mid
       posted = subst (λ (o : Owed). Agrees w (with_posted now mid o)) one.is shown.agrees
 
+  -- what no set stands for goes as the entry says
+  loss_is : (o : Option Named) (target : Target) (told : Change) → Some target ≡ option_map target_of o → IsNoSet target → ByLosingAll old o told → told ≡ by_losing_all o
+  loss_is None target told e other is = is
+  loss_is (Some (named.Receive q)) target told e other is = is
+  loss_is (Some (named.Send q n)) target told e other is = is
+  loss_is (Some (named.ReceiveAndSend q n)) target told e other is = is
+  loss_is (Some (named.SendOnce q)) target told e other is = is
+  loss_is (Some (named.DeadName n)) target told e other is = is
+  loss_is (Some (named.Set set)) target told e other is = absurd (subst IsNoSet (let f : target ≡ Target.set set = (let g = e in cc) in f) other)
+
   -- a send-once right went, and its port is owed a notice
   loss_own : (task name p : ℕ) (told : Change) → LosesOne task name MoveSendOnce (Target.once p) s mid → owed ≡ unused_once p task → told ≡ change.Queue p → OwnTouches s mid owed (touched_by w told)
   loss_own task name p told l is = notice_own p told (one_keeps task name MoveSendOnce (Target.once p) s mid refl l) (record { place = in_task task; notice = right_unused; bare = λ at. refl; is = is })
-
-  set_any : (o : Option Named) (set : ℕ) → Some (Target.set set) ≡ option_map target_of o → by_losing_all o ≡ change.Any
-  set_any None set e = cc
-  set_any (Some (named.Receive q)) set e = cc
-  set_any (Some (named.Send q n)) set e = cc
-  set_any (Some (named.ReceiveAndSend q n)) set e = cc
-  set_any (Some (named.SendOnce q)) set e = cc
-  set_any (Some (named.DeadName n)) set e = cc
-  set_any (Some (named.Set t)) set e = refl
 
   any_all : (told : Change) → told ≡ change.Any → touched_by w told ≡ Any
   any_all told is = ap (touched_by w) is
@@ -348,12 +378,42 @@ module _ (now : ℕ) (old w : WorldView) (s mid : State) (owed : Owed) (sh : Sho
       go (Some (named.DeadName n)) is e = absurd (cc)
       go (Some (named.Set set)) is e = absurd (cc)
 
-  all_own : (task name : ℕ) (told : Change) → Destroys task name s mid owed → told ≡ by_losing_all (entry_at old task name) → OwnTouches s mid owed (touched_by w told)
-  all_own task name told (Target.port p, found, d) tells = port_own task name p told found d.0 d.1 d.2 tells
-  all_own task name told (Target.once p, found, d) tells = loss_own task name p told d.0 d.1 (tells ∙ (once_queue (entry_at old task name) p (sym found ∙ sh.agrees.naming task name)).1)
+  -- a set goes, with its members
+  set_own : (task name set : ℕ) (told : Change) → lookup s task name ≡ Some (Target.set set) → mid ≡ without_set set (without_name task name s) → owed ≡ [] → ByLosingAll old (entry_at old task name) told → OwnTouches s mid owed (touched_by w told)
+  set_own task name set told found e none tells = go (entry_at old task name) (sym found ∙ sh.agrees.naming task name) tells
+    where
+      by : ByDisbanding old set told → OwnTouches s mid owed (touched_by w told)
+      by (inr any) = inl (any_all told any)
+      by (inl (ports, are, is)) = inr (inl (
+        none,
+        λ t k. disbanding_touches task name set s mid t e k (touched_by w told) (subst (λ (c : Change). Covers (touched_by w c) (Waited.Set set)) (sym is) (covers_disbanded w set ports))
+            (λ p in_it. subst (λ (c : Change). Covers (touched_by w c) (Waited.Port p)) (sym is) (covers_member w set ports p (are.all p (set_is old s sh.agrees p (sh.lawful.no_sets p) set in_it)))),
+      ))
+
+      go : (o : Option Named) → Some (Target.set set) ≡ option_map target_of o → ByLosingAll old o told → OwnTouches s mid owed (touched_by w told)
+      go None f x = absurd (let h = f in cc)
+      go (Some (named.Receive q)) f x = absurd (let h = f in cc)
+      go (Some (named.Send q n)) f x = absurd (let h = f in cc)
+      go (Some (named.ReceiveAndSend q n)) f x = absurd (let h = f in cc)
+      go (Some (named.SendOnce q)) f x = absurd (let h = f in cc)
+      go (Some (named.DeadName n)) f x = absurd (let h = f in cc)
+      go (Some (named.Set t)) f x = by (subst (λ (n : ℕ). ByDisbanding old n told) (let g : t ≡ set = (let h = f in cc) in g) x)
+
+  -- a task ends that has no names
+  ending_own : (task : ℕ) (told : Change) → EndsTask task s mid owed → ByEnding old task told → OwnTouches s mid owed (touched_by w told)
+  ending_own task told e (inr any) = inl (any_all told any.1)
+  ending_own task told e (inl nameless) =
+      let few = nameless_holds task s sh.lawful (sym (sh.agrees.names_kept task nameless.0.space nameless.0.there) ∙ nameless.0.none) in
+      kept_all s mid owed _ (ends_keep task s mid owed e few) (ends_owing_none task s mid owed e few)
+
+  all_own : (task name : ℕ) (told : Change) → Destroys task name s mid owed → ByLosingAll old (entry_at old task name) told → OwnTouches s mid owed (touched_by w told)
+  all_own task name told (Target.port p, found, d) tells = port_own task name p told found d.0 d.1 d.2 (loss_is (entry_at old task name) (Target.port p) told (sym found ∙ sh.agrees.naming task name) tt tells)
+  all_own task name told (Target.once p, found, d) tells =
+      let e = sym found ∙ sh.agrees.naming task name in
+      loss_own task name p told d.0 d.1 (loss_is (entry_at old task name) (Target.once p) told e tt tells ∙ (once_queue (entry_at old task name) p e).1)
   all_own task name told (Target.dead n, found, d) tells =
       kept_all s mid owed _ (keeps_by s mid _ d.0 (λ p. refl) (λ p. refl) (λ p. refl) (λ p. refl) (λ p. refl) (λ set. refl) (λ test is. ap (λ (x : State). count test x.ledger) d.0)) d.1
-  all_own task name told (Target.set set, found, d) tells = inl (any_all told (tells ∙ set_any (entry_at old task name) set (sym found ∙ sh.agrees.naming task name)))
+  all_own task name told (Target.set set, found, d) tells = set_own task name set told found d.0 d.1 tells
 
   counted : (right : ℕ) → (right == 0 || right == 4) ≡ true → IsCounted right
   counted right is = elim (eqb_tells right 0) [
@@ -385,16 +445,18 @@ module _ (now : ℕ) (old w : WorldView) (s mid : State) (owed : Owed) (sh : Sho
       go (Some (named.Set set)) is e = absurd (cc)
 
   -- a right goes that counts no references
-  removed_own : (task name right : ℕ) (target : Target) (told : Change) → lookup s task name ≡ Some target → RemovesRight right task name target s mid owed → told ≡ by_losing_all (entry_at old task name) → OwnTouches s mid owed (touched_by w told)
-  removed_own task name right (Target.port p) told found r tells = inl (receive_own task name p told found r.1 tells)
-  removed_own task name right (Target.once p) told found r tells = loss_own task name p told r.1.0 r.1.1 (tells ∙ (once_queue (entry_at old task name) p (sym found ∙ sh.agrees.naming task name)).1)
-  removed_own task name right (Target.set set) told found r tells = inl (any_all told (tells ∙ set_any (entry_at old task name) set (sym found ∙ sh.agrees.naming task name)))
+  removed_own : (task name right : ℕ) (target : Target) (told : Change) → lookup s task name ≡ Some target → RemovesRight right task name target s mid owed → ByLosingAll old (entry_at old task name) told → OwnTouches s mid owed (touched_by w told)
+  removed_own task name right (Target.port p) told found r tells = inl (receive_own task name p told found r.1 (loss_is (entry_at old task name) (Target.port p) told (sym found ∙ sh.agrees.naming task name) tt tells))
+  removed_own task name right (Target.once p) told found r tells =
+      let e = sym found ∙ sh.agrees.naming task name in
+      loss_own task name p told r.1.0 r.1.1 (loss_is (entry_at old task name) (Target.once p) told e tt tells ∙ (once_queue (entry_at old task name) p e).1)
+  removed_own task name right (Target.set set) told found r tells = set_own task name set told found r.1.0 r.1.1 tells
   removed_own task name right (Target.dead n) told found r tells = absurd r
 
-  counts_own : (task name right : ℕ) (delta : ℤ) (told : Change) → Modifies task name right delta s mid owed → told ≡ by_references old task name right → OwnTouches s mid owed (touched_by w told)
+  counts_own : (task name right : ℕ) (delta : ℤ) (told : Change) → Modifies task name right delta s mid owed → ByReferences old task name right told → OwnTouches s mid owed (touched_by w told)
   counts_own task name right delta told m tells = go (right == 0 || right == 4) refl tells
     where
-      go : (b : Bool) → (right == 0 || right == 4) ≡ b → told ≡ (if b then change.Nothing else by_losing_all (entry_at old task name)) → OwnTouches s mid owed (touched_by w told)
+      go : (b : Bool) → (right == 0 || right == 4) ≡ b → MatchBool b (told ≡ change.Nothing) (ByLosingAll old (entry_at old task name) told) → OwnTouches s mid owed (touched_by w told)
       go true is tells = let k = counts_keep task name right delta s mid owed (counted right is) m in kept_all s mid owed _ k.0 k.1
       go false is tells =
           let not = counted_not right is in
@@ -536,7 +598,7 @@ module _ (now : ℕ) (old w : WorldView) (s mid : State) (owed : Owed) (sh : Sho
   own (Event.Send task bytes) (Reply.Code code) told d (sent, tells, is) = as_told is (sent_own task bytes sent d.1 d.2 tells)
   own (Event.Receive task name room large) reply told (waited, waits, receipt) tells = as_told tells (receipt_own task waited room large reply receipt)
   own (Event.ReceiveAgain task waited room large) reply told receipt tells = as_told tells (receipt_own task waited room large reply receipt)
-  own (Event.TaskTerminate task) reply told d tells = inl (any_all told tells)
+  own (Event.TaskTerminate task) (Reply.Code code) told d tells = ending_own task told d.1 tells
   own (Event.Deallocate task name) (Reply.Code code) told d tells = one_own task name told d.1 tells
   own (Event.Destroy task name) (Reply.Code code) told d tells = all_own task name told d.1 tells
   own (Event.ModRefs task name right delta) (Reply.Code code) told d tells = counts_own task name right delta told d.1 tells
@@ -606,6 +668,24 @@ not_request : (w : WorldView) (task name number : ℕ) → NotLost (by_request w
 not_request w task name number =
     not_either (name == 0) change.Nothing (if number == 16 then change.Any else by_paying (entry_at w task name)) tt (not_either (number == 16) change.Any (by_paying (entry_at w task name)) tt (not_paying (entry_at w task name)))
 
+not_disbanded : (set : ℕ) (ports : List ℕ) → NotLost (disbanded set ports)
+not_disbanded set [] = tt
+not_disbanded set (a ∷ []) = tt
+not_disbanded set (a ∷ b ∷ []) = tt
+not_disbanded set (a ∷ b ∷ c ∷ []) = tt
+not_disbanded set (a ∷ b ∷ c ∷ d ∷ xs) = tt
+
+-- of no set that went a lost receive right is told
+lost_loss : (v : WorldView) (o : Option Named) (told : Change) (p : ℕ) → ByLosingAll v o told → told ≡ change.Lost p → by_losing_all o ≡ change.Lost p
+lost_loss v None told p is lost = sym is ∙ lost
+lost_loss v (Some (named.Receive q)) told p is lost = sym is ∙ lost
+lost_loss v (Some (named.Send q n)) told p is lost = sym is ∙ lost
+lost_loss v (Some (named.ReceiveAndSend q n)) told p is lost = sym is ∙ lost
+lost_loss v (Some (named.SendOnce q)) told p is lost = sym is ∙ lost
+lost_loss v (Some (named.DeadName n)) told p is lost = sym is ∙ lost
+lost_loss v (Some (named.Set set)) told p (inl (ports, are, is)) lost = absurd (subst NotLost (sym is ∙ lost) (not_disbanded set ports))
+lost_loss v (Some (named.Set set)) told p (inr any) lost = absurd (subst NotLost (sym any ∙ lost) tt)
+
 -- what stands under a name of which this is told
 lost_target : (o : Option Named) (target : Target) (p : ℕ) → Some target ≡ option_map target_of o → by_losing_all o ≡ change.Lost p → target ≡ Target.port p
 lost_target None target p e is = absurd (cc)
@@ -624,31 +704,31 @@ module _ (now : ℕ) (old : WorldView) (s mid : State) (owed : Owed) (sh : Shows
   never : (c : Change) → told ≡ c → NotLost c → ⊥
   never c is not = subst NotLost (sym is ∙ lost) not
 
-  target_is : (task name : ℕ) (target : Target) → lookup s task name ≡ Some target → told ≡ by_losing_all (entry_at old task name) → target ≡ Target.port p
-  target_is task name target found tells = lost_target (entry_at old task name) target p (sym found ∙ sh.agrees.naming task name) (sym tells ∙ lost)
+  target_is : (task name : ℕ) (target : Target) → lookup s task name ≡ Some target → ByLosingAll old (entry_at old task name) told → target ≡ Target.port p
+  target_is task name target found tells = lost_target (entry_at old task name) target p (sym found ∙ sh.agrees.naming task name) (lost_loss old (entry_at old task name) told p tells lost)
 
   same_port : (q : ℕ) → Target.port q ≡ Target.port p → q ≡ p
   same_port q e = cc
 
-  destroyed_lost : (task name : ℕ) → Destroys task name s mid owed → told ≡ by_losing_all (entry_at old task name) → Loses
+  destroyed_lost : (task name : ℕ) → Destroys task name s mid owed → ByLosingAll old (entry_at old task name) told → Loses
   destroyed_lost task name (Target.port q, found, d) tells = (subst (λ (x : ℕ). LosesRight x s mid) (same_port q (target_is task name (Target.port q) found tells)) (all_lose task name q s mid d.0 d.1), d.2)
   destroyed_lost task name (Target.once q, found, d) tells = absurd (let e = target_is task name (Target.once q) found tells in cc)
   destroyed_lost task name (Target.dead n, found, d) tells = absurd (let e = target_is task name (Target.dead n) found tells in cc)
   destroyed_lost task name (Target.set set, found, d) tells = absurd (let e = target_is task name (Target.set set) found tells in cc)
 
-  removed_lost : (task name right : ℕ) (target : Target) → lookup s task name ≡ Some target → RemovesRight right task name target s mid owed → told ≡ by_losing_all (entry_at old task name) → Loses
+  removed_lost : (task name right : ℕ) (target : Target) → lookup s task name ≡ Some target → RemovesRight right task name target s mid owed → ByLosingAll old (entry_at old task name) told → Loses
   removed_lost task name right (Target.port q) found r tells = (subst (λ (x : ℕ). LosesRight x s mid) (same_port q (target_is task name (Target.port q) found tells)) (receive_lost task name q s mid r.1), r.2)
   removed_lost task name right (Target.once q) found r tells = absurd (let e = target_is task name (Target.once q) found tells in cc)
   removed_lost task name right (Target.set set) found r tells = absurd (let e = target_is task name (Target.set set) found tells in cc)
   removed_lost task name right (Target.dead n) found r tells = absurd r
 
-  modified_lost : (task name right : ℕ) (delta : ℤ) → Modifies task name right delta s mid owed → told ≡ by_references old task name right → Loses
+  modified_lost : (task name right : ℕ) (delta : ℤ) → Modifies task name right delta s mid owed → ByReferences old task name right told → Loses
   modified_lost task name right delta m tells = go (right == 0 || right == 4) refl tells
     where
       not : (right == 0 || right == 4) ≡ false → (right ≢ 0) × (right ≢ 4)
       not is = ((λ e. (let f : (right == 0 || right == 4) ≡ true = rw e refl in cc)), (λ e. (let f : (right == 0 || right == 4) ≡ true = rw e refl in cc)))
 
-      go : (b : Bool) → (right == 0 || right == 4) ≡ b → told ≡ (if b then change.Nothing else by_losing_all (entry_at old task name)) → Loses
+      go : (b : Bool) → (right == 0 || right == 4) ≡ b → MatchBool b (told ≡ change.Nothing) (ByLosingAll old (entry_at old task name) told) → Loses
       go true is tells = absurd (never change.Nothing tells tt)
       go false is tells = elim (modifies_removes task name right delta s mid owed (not is).0 (not is).1 m) [
         | inl same ↦ (none_lost p s mid same.0, same.1)
@@ -659,7 +739,8 @@ module _ (now : ℕ) (old : WorldView) (s mid : State) (owed : Owed) (sh : Shows
   own_lost (Event.Destroy task name) (Reply.Code code) d tells = destroyed_lost task name d.1 tells
   own_lost (Event.ModRefs task name right delta) (Reply.Code code) d tells = modified_lost task name right delta d.1 tells
   own_lost Event.TaskCreate reply d tells = absurd (never change.Nothing tells tt)
-  own_lost (Event.TaskTerminate task) reply d tells = absurd (never change.Any tells tt)
+  own_lost (Event.TaskTerminate task) reply d (inl nameless) = absurd (never change.Nothing nameless.1 tt)
+  own_lost (Event.TaskTerminate task) reply d (inr any) = absurd (never change.Any any.1 tt)
   own_lost (Event.Allocate task right) reply d tells = absurd (never (by_making right) tells (not_making right))
   own_lost (Event.AllocateName task right name) reply d tells = absurd (never (by_making right) tells (not_making right))
   own_lost (Event.Deallocate task name) reply d tells = absurd (never (by_losing_one (entry_at old task name)) tells (not_losing_one (entry_at old task name)))
@@ -761,6 +842,9 @@ module _ (old w new : WorldView) (event : Event) (reply : Reply) (turns : ℕ) (
   ends_touched (change.Queue p) ends tells is = any_touched ends is
   ends_touched (change.QueueNamed task name) ends tells is = any_touched ends is
   ends_touched (change.Left p set) ends tells is = any_touched ends is
+  ends_touched (change.Disbanded set) ends tells is = any_touched ends is
+  ends_touched (change.DisbandedTwo set a b) ends tells is = any_touched ends is
+  ends_touched (change.DisbandedThree set a b c) ends tells is = any_touched ends is
   ends_touched change.Any ends tells is = any_touched ends is
 
   pub touched_after : (told ends : Change) → TellsChange old event reply told → EndsIdle w told ends new ⊎ EndsAs w told ends → Touches old event reply new (touched_by new ends)

@@ -9,7 +9,7 @@ use Rattle.mach_laws.specs.Touching.{TouchesOnly}
 use Rattle.copyin_base.specs.Shows.{Shows}
 use Rattle.copyin_base.specs.Worlds.{WorldView, IsIdle}
 use Rattle.kernel_change.specs.declared.change.Change.{Change}
-use Rattle.kernel_change.specs.Changing.{by_send, change_of}
+use Rattle.kernel_change.specs.Changing.{by_send, Changes}
 use Rattle.copyin.specs.declared.judge.Plan.{Plan}
 use Rattle.kernel_core.specs.Send.{GoesTo, TellsSent}
 
@@ -26,7 +26,7 @@ TellsSend w task bytes told = (sent : Option ℕ) × TellsSent w task bytes sent
 -- What is told of a call that is answered so: of a send by where it went, of each other call by the tables before it and by its reply.
 abbrev pub TellsChange : WorldView → Event → Reply → (told : Change) → Type 0
 TellsChange w (Event.Send task bytes) reply told = TellsSend w task bytes told
-TellsChange w event reply told = told ≡ change_of w event reply
+TellsChange w event reply told = Changes w event reply told
 
 -- The end of a step had nothing to do: it left the tables, and what is told.
 pub record EndsIdle (w : WorldView) (told ends : Change) (new : WorldView) : Type 0 where

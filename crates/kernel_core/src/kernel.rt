@@ -24,7 +24,7 @@ ghost use Rattle.transfer.specs.Wanted.{WantsToInsert, WantsToExtract};
 ghost use Rattle.kernel_core.specs.Answers.{Answers};
 ghost use Rattle.kernel_core.specs.Bounds.{most_told, IsWithin};
 ghost use Rattle.kernel_change.specs.declared.change.Change.TheVariants.{Nothing};
-ghost use Rattle.kernel_change.specs.Changing.{few, by_losing_one, by_losing_all, by_moving, by_handing, by_request, EndsAs};
+ghost use Rattle.kernel_change.specs.Changing.{few, by_losing_one, by_moving, ByLosingAll, by_handing, by_request, EndsAs};
 ghost use Rattle.kernel_core.specs.Choices.{SameButTurns};
 ghost use Rattle.kernel_core.specs.InTurn.{StepsInTurn};
 ghost use Rattle.kernel_core.specs.Kernels.{TakesTurns};
@@ -253,7 +253,8 @@ impl Kernel {
     /// task, where send rights or dead names lost references, where a send-once right was lost, and where a notice was
     /// asked for. It is so too after a message that carried no receive right was sent, or was received with a body of
     /// raw bytes, or none was there. A port that dies with nothing queued, and no request on it or on a name of it, is
-    /// one of few.
+    /// one of few. So is a set that is destroyed with at most three members, if there was memory for their list. None
+    /// after the end of a task that had no names.
     ///
     /// `All` after every other call, and where other ports died or notices were sent at the end of the step. Takes no
     /// memory. Constant time, and logarithmic for a name above 65,535.
@@ -349,15 +350,21 @@ fn lose_one(world: &mut World, task: TaskId, name: Name, told: &mut Change) -> R
 /// Not in line in a step: with this the step would be so large that the kit drops its own hint to inline, and each call
 /// of it would cost a frame more.
 #[inline(never)]
-fn lose_all(world: &mut World, task: TaskId, name: Name, told: &mut Change) -> Result<Reply, Code>
+fn lose_all(
+    world: &mut World,
+    alloc: Global,
+    task: TaskId,
+    name: Name,
+    told: &mut Change,
+) -> Result<Reply, Code>
     requires there { HasTask world.old task }
     requires stands { Stands world.old }
     ensures serves { Serves world.old (AnyEvent.Destroy task name) result world.new }
     ensures spares { UsesSpares world.old world.new }
-    ensures tells { OnOk result (told.new ≡ by_losing_all (entry_at world.old task name)) }
+    ensures tells { OnOk result (ByLosingAll world.old (entry_at world.old task name) told.new) }
 {
     let entry = world.find(task, name)?;
-    *told = Change::by_losing_all(&entry);
+    *told = Change::by_losing_all(world, alloc, &entry);
     destroy(world, task, name, &entry);
     Ok(Reply::Code(0))
 }
@@ -463,7 +470,7 @@ fn serve(world: &mut World, alloc: Global, event: &Event, told: &mut Change) -> 
     match event {
         Event::TaskCreate => create_task(world, alloc),
         Event::TaskTerminate(task) => {
-            *told = Change::Any;
+            *told = Change::by_ending(world, *task);
             terminate_task(world, *task)
         }
         Event::Allocate(task, right) => {
@@ -475,9 +482,9 @@ fn serve(world: &mut World, alloc: Global, event: &Event, told: &mut Change) -> 
             allocate_name(world, *task, *right, *name)
         }
         Event::Deallocate(task, name) => lose_one(world, *task, *name, told),
-        Event::Destroy(task, name) => lose_all(world, *task, *name, told),
+        Event::Destroy(task, name) => lose_all(world, alloc, *task, *name, told),
         Event::ModRefs(task, name, right, delta) => {
-            *told = Change::by_references(world, *task, *name, *right);
+            *told = Change::by_references(world, alloc, *task, *name, *right);
             mod_refs(world, *task, *name, *right, *delta)
         }
         Event::GetRefs(task, name, right) => get_refs(world, *task, *name, *right),

@@ -38,3 +38,5 @@ pub mod QuietEnd
 pub mod LoneDeath
 pub mod Losing
 pub mod Moving
+pub mod Disbanding
+pub mod EndingTask

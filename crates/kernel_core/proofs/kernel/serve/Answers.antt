@@ -95,7 +95,7 @@ pub returns-in-TaskCreate-clause-tells : goal.returns-in-TaskCreate-clause-tells
 returns-in-TaskCreate-clause-tells c = rw c.in-TaskCreate.is (on_ok _ (λ reply. c.requires.nothing))
 
 pub returns-in-TaskTerminate-clause-tells : goal.returns-in-TaskTerminate-clause-tells
-returns-in-TaskTerminate-clause-tells c = rw c.in-TaskTerminate.is (on_ok _ (λ reply. refl))
+returns-in-TaskTerminate-clause-tells c = rw c.in-TaskTerminate.is (on_ok _ (λ reply. c.by_ending.ensures))
 
 pub returns-in-Allocate-clause-tells : goal.returns-in-Allocate-clause-tells
 returns-in-Allocate-clause-tells c = rw c.in-Allocate.is (on_ok _ (λ reply. c.by_making.ensures))
