@@ -295,6 +295,9 @@ fn name_members(set: SetId, a: PortId, b: PortId, c: Option<PortId>) -> Touched
 fn by_disbanding(world: &World, alloc: Global, set: SetId) -> Change
     ensures { ByDisbanding world.now set result }
 {
+    if world.ports.first_member(set).is_none() {
+        return Change::Disbanded(set);
+    }
     match world.ports.members(set, alloc) {
         Ok(members) => with_members(set, members.as_slice()),
         Err(_) => Change::Any,
