@@ -1,6 +1,6 @@
-//! What is read again of a history, and who made which entry of it.
+//! What is read again of a history, who made which entry of it, and what a pass knows of its last call.
 use kernel_lock::{Entry, Shared};
-use mach_types::{Bytes, Event, Name, Reply, TaskId};
+use mach_types::{Bytes, Event, Name, PortId, Reply, TaskId, Touched, Waited};
 use std::test::*;
 
 /// A message with no body to the port under 1, by a send right that is made, with the id 7.
@@ -68,5 +68,25 @@ fn one_history(rt: HostRuntime) -> Result<(), Fail> {
     assert!(rt; is_by(held.entries(), 0, 0));
     assert!(rt; is_by(held.entries(), 1, 1));
     assert!(rt; is_by(held.entries(), 2, 0));
+    Ok(())
+}
+
+/// A pass tells what its own last call touched.
+#[test]
+fn touched_by_a_pass(rt: HostRuntime) -> Result<(), Fail> {
+    let shared = Shared::new(rt.alloc())?;
+    let mut pass = shared.pass(&rt)?;
+    let mut other = shared.pass(&rt)?;
+    let task = TaskId::new(0);
+    assert!(rt; pass.touched() == Touched::none());
+    shared.call(&rt, &mut pass, Event::TaskCreate);
+    shared.call(&rt, &mut pass, Event::Allocate(task, 1));
+    let bytes = Bytes::from_vec(Vec::from_slice(rt.alloc(), &MESSAGE)?);
+    shared.call(&rt, &mut pass, Event::Send(task, bytes));
+    let port = Some(Waited::Port(PortId::new(0)));
+    assert!(rt; pass.touched() == Touched::Few([port, None, None, None]));
+    shared.call(&rt, &mut other, Event::GetRefs(task, Name::new(1), 1));
+    assert!(rt; other.touched() == Touched::none());
+    assert!(rt; pass.touched() == Touched::Few([port, None, None, None]));
     Ok(())
 }
