@@ -1,6 +1,8 @@
 //! The follower, and the questions that it is asked.
 ghost use Rattle.std.specs.Prelude.{◌≡◌, ◌≢◌};
 ghost use Rattle.mach_types.specs.declared.profiles.Profile.TheVariants.{Three};
+ghost use Rattle.mach_model.specs.State.{opening_in};
+ghost use Rattle.copyin_base.specs.Shows.{Shows};
 
 use crate::keys::key_of;
 use crate::seen::Seen;
@@ -41,9 +43,11 @@ pub struct Follower {
 }
 
 impl Follower {
-    /// Makes a follower at the beginning of a history of this profile. Takes no memory.
+    /// Makes a follower at the beginning of a history of this profile: its tables show the state in which nothing was made
+    /// yet. Takes no memory.
     pub fn new(alloc: Global, profile: Profile) -> Follower
         requires one_set { profile ≢ Three }
+        ensures opens { Shows result.kernel.tables (opening_in profile) }
     {
         Follower {
             kernel: Kernel::with_profile(alloc, profile),
