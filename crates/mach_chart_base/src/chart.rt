@@ -3,7 +3,7 @@ use crate::hops::{Hop, Place, Way, root_holder};
 use crate::rows::{Mark, Row, is_look, mark_of};
 use crate::waits::Waits;
 use kernel_lock::Entry;
-use mach_fates::{Ends, Fates, Origin};
+use mach_fates::{Come, Ends, Fates, Origin};
 use mach_follow::{Follower, describe_after, write_answer};
 use mach_types::{Disposition, Event, PortId, Reply, TaskId};
 use mach_words::{Labels, Text, kind_word, notice_word, task_of};
@@ -223,7 +223,7 @@ impl Chart {
         let Some(taken) = told.fates.taken() else {
             return Ok(());
         };
-        self.name_last(told, &taken.origin, taken.port);
+        self.name_last(told, &taken.origin, (taken.port, taken.place));
         self.leave(&taken.origin, told.is_shown)
     }
 
@@ -247,15 +247,20 @@ impl Chart {
     fn note_sent(&mut self, told: &Told<'_>) -> Result<(), AllocError> {
         for come in told.fates.effects().came.as_slice() {
             if !come.origin.is_notice {
-                self.name_last(told, &come.origin, come.port);
+                self.name_last(told, &come.origin, (come.port, come.place));
                 self.enter(&come.origin, told.is_shown)?;
             }
         }
         Ok(())
     }
 
-    /// Notes of the last row, if the entry is shown, which message it is about.
-    pub(crate) fn name_last(&mut self, told: &Told<'_>, origin: &Origin, port: u64) {
+    /// Notes of the last row, if the entry is shown, which message it is about, and its port and place.
+    pub(crate) fn name_last(
+        &mut self,
+        told: &Told<'_>,
+        origin: &Origin,
+        (port, place): (u64, u64),
+    ) {
         if !told.is_shown {
             return;
         }
@@ -264,6 +269,7 @@ impl Chart {
             row.is_notice = origin.is_notice;
             row.serial = origin.serial;
             row.port = Some(port);
+            row.place = place;
         }
     }
 
@@ -379,7 +385,7 @@ impl Chart {
         for id in NOTICES {
             for come in told.fates.effects().came.as_slice() {
                 if come.origin.is_notice && come.origin.id == *id {
-                    self.note_notice(told, &come.origin, come.port)?;
+                    self.note_notice(told, come)?;
                 }
             }
         }
@@ -387,22 +393,17 @@ impl Chart {
     }
 
     /// Notes a notice.
-    fn note_notice(
-        &mut self,
-        told: &Told<'_>,
-        origin: &Origin,
-        port: u64,
-    ) -> Result<(), AllocError> {
+    fn note_notice(&mut self, told: &Told<'_>, come: &Come) -> Result<(), AllocError> {
         if told.is_shown {
             self.comments.words("notice ");
-            write_title(origin, told.labels, &mut self.comments);
+            write_title(&come.origin, told.labels, &mut self.comments);
             self.comments.words(" to ");
             told.labels
-                .write_port(PortId::new(port), &mut self.comments);
+                .write_port(PortId::new(come.port), &mut self.comments);
             self.push(told.row(Mark::Told))?;
-            self.name_last(told, origin, port);
+            self.name_last(told, &come.origin, (come.port, come.place));
         }
-        self.enter(origin, told.is_shown)
+        self.enter(&come.origin, told.is_shown)
     }
 }
 

@@ -2,7 +2,7 @@
 use crate::chart::{Chart, Span};
 use crate::hops::Hop;
 use crate::rows::{Mark, Row};
-use mach_fates::{End, Origin, Sender};
+use mach_fates::End;
 use std::alloc::{AllocError, Global};
 
 /// A caller that acts on a task.
@@ -35,16 +35,7 @@ impl Chart {
 
     /// Returns what became of a row's message; `None` if the row has none. Constant time.
     pub fn end_of(&self, row: &Row) -> Option<End> {
-        self.ends.get(&Origin {
-            entry: row.number,
-            serial: row.serial,
-            sender: Sender {
-                caller: row.caller,
-                task: row.task,
-            },
-            id: row.id,
-            is_notice: row.is_notice,
-        })
+        self.ends.get(row.port?, row.place)
     }
 
     /// Notes, at the end of the history, who waits until then, and which tasks rows are about. Linear in rows and hops.

@@ -52,6 +52,8 @@ pub struct Row {
     pub id: u32,
     /// A message's number among all messages.
     pub serial: u64,
+    /// A message's number among all messages that ever came to its port.
+    pub place: u64,
     /// The identity of the port of a message or a right. There is none for a right whose port is dead.
     pub port: Option<u64>,
     /// Whether the message is a notice.
@@ -75,6 +77,7 @@ impl Row {
             other: task,
             id: 0,
             serial: 0,
+            place: 0,
             port: None,
             is_notice: false,
             is_waiting: false,

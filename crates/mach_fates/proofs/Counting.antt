@@ -13,7 +13,7 @@ entries_append : (xs ys : List Origin) → entries_of (xs ++ ys) ≡ entries_of 
 entries_append [] ys = refl
 entries_append (x ∷ xs) ys = ap (λ (zs : List ℕ). x.entry ∷ zs) (entries_append xs ys)
 
-entries_length : (xs : List Origin) → length (entries_of xs) ≡ length xs
+pub entries_length : (xs : List Origin) → length (entries_of xs) ≡ length xs
 entries_length [] = refl
 entries_length (x ∷ xs) = ap suc (entries_length xs)
 
@@ -27,7 +27,7 @@ pub record Appended (number place : ℕ) (old new : List Origin) : Type 0 where
 pub appended_none : (number place : ℕ) (old : List Origin) → length old ≡ place → Appended number place old old
 appended_none number place old long = record { added = []; more = sym (append-nil (entries_of old)); same = All-nil (λ n. n ≡ number); long = long }
 
-append_one : {A : Type 0} (xs : List A) (y : A) → length (xs ++ y ∷ []) ≡ length xs + 1
+pub append_one : {A : Type 0} (xs : List A) (y : A) → length (xs ++ y ∷ []) ≡ length xs + 1
 append_one [] y = refl
 append_one (x ∷ xs) y = let rest = append_one xs y in omega (arith, rest)
 

@@ -13,6 +13,7 @@ use Rattle.mach_types.specs.declared.profiles.Profile.{Profile}
 use Rattle.mach_types.specs.declared.touched.Touched.{Touched}
 use Rattle.mach_types.specs.Messages.{Entry}
 use Rattle.mach_model.specs.State.{State, queue, opening_in}
+use Rattle.mach_model.specs.Machine.{Step}
 use Rattle.mach_laws.specs.Paths.{Stage}
 use Rattle.mach_laws.specs.Touching.{TouchesOnly}
 use Rattle.port.specs.Ports.{PortView}
@@ -21,8 +22,8 @@ use Rattle.copyin_base.specs.Shows.{AllKept, Shows}
 use Rattle.copyin_base.specs.Worlds.{WorldView, port_at}
 use Rattle.mach_fates.specs.declared.effects.Lost.{Lost}
 use Rattle.mach_fates.specs.declared.fates.Fates.{Fates}
-use Rattle.mach_fates.specs.declared.origin.Origin.{Origin}
-use Rattle.mach_fates.specs.Keeping.{entries_of, kept_at, or_nothing, Grows, Settles, IsFirst, TakesFrom, IsPassed, Follows}
+use Rattle.mach_fates.specs.declared.origin.Waiting.{Waiting}
+use Rattle.mach_fates.specs.Keeping.{entries_in, kept_at, or_nothing, Grows, Settles, IsFirst, TakesFrom, IsPassed, Follows}
 use Rattle.mach_fates.specs.Places.{IsPut, ArePut, KeepsPort, Keeps, IsTaken, TellsTaken, Joins}
 use Rattle.mach_fates.specs.Stepping.{with_stage, TakesBy, GoesOn}
 use Rattle.mach_fates.proofs.Finding.{IsSource}
@@ -30,12 +31,12 @@ use Rattle.mach_fates.proofs.Visiting.{again, below}
 
 -- ---- lists
 
-get_left : {A : Type 0} (xs ys : List A) (k : ℕ) (x : A) → slice_get xs k ≡ Some x → slice_get (xs ++ ys) k ≡ Some x
+pub get_left : {A : Type 0} (xs ys : List A) (k : ℕ) (x : A) → slice_get xs k ≡ Some x → slice_get (xs ++ ys) k ≡ Some x
 get_left [] ys k x e = absurd (cc)
 get_left (a ∷ xs) ys zero x e = e
 get_left (a ∷ xs) ys (suc k) x e = get_left xs ys k x e
 
-get_last : {A : Type 0} (xs : List A) (x : A) → slice_get (xs ++ x ∷ []) (length xs) ≡ Some x
+pub get_last : {A : Type 0} (xs : List A) (x : A) → slice_get (xs ++ x ∷ []) (length xs) ≡ Some x
 get_last [] x = refl
 get_last (a ∷ xs) x = get_last xs x
 
@@ -59,10 +60,10 @@ same_list xs ys e = cc
 same_port : (p q : ℕ) → Some p ≡ Some q → p ≡ q
 same_port p q e = cc
 
-not_both : (b : Bool) → b ≡ true → b ≡ false → ⊥
+pub not_both : (b : Bool) → b ≡ true → b ≡ false → ⊥
 not_both b one other = let e : true ≡ false = sym one ∙ other in cc
 
-true_or_false : (b : Bool) → (b ≡ true) ⊎ (b ≡ false)
+pub true_or_false : (b : Bool) → (b ≡ true) ⊎ (b ≡ false)
 true_or_false true = inl refl
 true_or_false false = inr refl
 
@@ -248,6 +249,7 @@ module _ (number : ℕ) (w : WorldView) (profile : Profile) (path : List Stage) 
   told p n x port entry at put =
       let took = from.taken p at in
       record {
+        lives = subst (λ (q : ℕ). s.live_port q ≡ true) (sym port) took.2;
         there = subst (λ (q : ℕ). s.taken q < length (s.log q)) (sym port) took.0;
         goes = subst (λ (q : ℕ). t.taken q ≡ s.taken q + 1) (sym port) took.1;
         put = subst (λ (q : ℕ). IsPut path q (s.taken q) x.origin.entry) (sym port) (subst (IsPut path p (s.taken p)) (sym entry) put);
@@ -276,11 +278,14 @@ module _ (number : ℕ) (w : WorldView) (profile : Profile) (path : List Stage) 
 
 -- ---- an entry
 
+pub kept_same : (f g : Fates) → g.ports ≡ f.ports → (p : ℕ) → kept_at g p ≡ kept_at f p
+kept_same f g ports p = ap (λ (m : BTreeMap ℕ Waiting). option_map entries_in (get nat_cmp m p)) ports
+
 -- what the step before did is of no account
 pub keeps_same : (path : List Stage) (s : State) (f g : Fates) → g.ports ≡ f.ports → g.made ≡ f.made → Keeps f path s → Keeps g path s
 keeps_same path s f g ports made k = record {
-  live = λ p. ap (λ (m : BTreeMap ℕ (List Origin)). is_some (option_map entries_of (get nat_cmp m p))) ports ∙ k.live p;
-  origins = λ p xs e. k.origins p xs (ap (λ (m : BTreeMap ℕ (List Origin)). option_map entries_of (get nat_cmp m p)) (sym ports) ∙ e);
+  live = λ p. ap is_some (kept_same f g ports p) ∙ k.live p;
+  origins = λ p xs e. k.origins p xs (sym (kept_same f g ports p) ∙ e);
   made = made ∙ k.made;
 }
 
@@ -292,14 +297,15 @@ opens profile f empty none = record { live = λ p. ap is_some (nothing p); origi
     nothing p = rw empty refl
 
 -- a refusal changes nothing
-pub refusal_joins : (profile : Profile) (path : List Stage) (s : State) (event : Event) (reply : Reply) (t : State) (w : WorldView) (f : Fates) → GoesOn profile path s event reply t → Shows w t → Keeps f path s → f.taken ≡ None →
-    ((code : ℕ) × (reply ≡ Reply.Code code) × (code ≢ 0)) → Joins profile path s event reply w f
-refusal_joins profile path s event reply t w f g shown keeps nothing (code, is, some) =
+pub refusal_joins : (profile : Profile) (path : List Stage) (s : State) (event : Event) (reply : Reply) (t : State) (w : WorldView) (before f : Fates) → Step (length path) s event reply t → GoesOn profile path s event reply t → Shows w t → Keeps f path s → f.taken ≡ None →
+    f.ports ≡ before.ports → ((code : ℕ) × (reply ≡ Reply.Code code) × (code ≢ 0)) → Joins profile path s event reply w before f
+refusal_joins profile path s event reply t w before f step g shown keeps nothing ports (code, is, some) =
     let takes = subst (λ (r : Reply). TakesBy s event r t) is g.takes in
     let same : t ≡ s = takes.0 some in
     let stage : Stage = record { before = s; event = event; reply = reply; after = t } in
     record {
       t = t;
+      step = step;
       goes_on = g.path_then;
       shown = shown;
       keeps = subst (λ (x : State). Keeps f (with_stage path s event reply t) x) (sym same) (record {
@@ -308,4 +314,5 @@ refusal_joins profile path s event reply t w f g shown keeps nothing (code, is, 
         made = keeps.made;
       });
       taken = subst (TellsTaken path s t) (sym nothing) takes.1;
+      quiet = λ p apart. (kept_same before f ports p, takes.1 p);
     }

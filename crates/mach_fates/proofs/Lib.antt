@@ -1,6 +1,8 @@
 mod Counting
 mod Finding
+mod Growing
 mod Joining
 mod Naming
 mod Stepping
+mod Telling
 mod Visiting

@@ -1,15 +1,16 @@
 -- Ports that are visited one after another.
 use Rattle.std.proofs.Common.{◌≡◌, ◌≢◌, ◌⊎◌, ℕ, ◌<◌, ◌≤◌, List, [], ◌∷◌, ◌++◌, Option, Some, None, Ordering, Less, Equal, Greater, zero, suc, inl, inr, refl, sym, ap, subst, ◌∙◌, arith, append_assoc}
-use Rattle.std.specs.Prelude.{Contains, Result, Ok, Err, OnOk, is_some, false}
+use Rattle.std.specs.Prelude.{All, Contains, Result, Ok, Err, OnOk, is_some, false}
 use Rattle.std.specs.List.{list_any}
 use Rattle.std.specs.Option.{option_map}
 use Rattle.std.specs.Ordering.{is_eq, nat_cmp}
 use Rattle.std.specs.FinMap.{nat_cmp-IsAntisymmetric}
 use Rattle.std.proofs.lemmas.Bool.Decides.{eqb_tells}
 use Rattle.std.proofs.lemmas.List.Elements.{All-append, All-cons, All-nil, All-head, All-tail, All-contains}
+use Rattle.mach_types.specs.declared.touched.Touched.{Touched}
 use Rattle.copyin_base.specs.Worlds.{WorldView}
 use Rattle.mach_fates.specs.declared.fates.Fates.{Fates}
-use Rattle.mach_fates.specs.Keeping.{kept_at, or_nothing, Apart, Settles, Visits, VisitsBut}
+use Rattle.mach_fates.specs.Keeping.{kept_at, or_nothing, Apart, Sees, Settles, TakesFrom, Visits, VisitsBut, Follows}
 
 pub again : (number : ℕ) (w : WorldView) (p : ℕ) (a b c : Option (List ℕ)) → Settles number w p a b → Settles number w p b c → Settles number w p a c
 again number w p a b c x y = record {
@@ -25,13 +26,57 @@ again number w p a b c x y = record {
       };
 }
 
+-- ---- which ports were visited
+
+all_left : {A : Type 0} (P : A → Type 0) (xs ys : List A) → All P (xs ++ ys) → All P xs
+all_left P [] ys h = All-nil P
+all_left P (x ∷ xs) ys h = All-cons P x xs (All-head P x (xs ++ ys) h) (all_left P xs ys (All-tail P x (xs ++ ys) h))
+
+all_right : {A : Type 0} (P : A → Type 0) (xs ys : List A) → All P (xs ++ ys) → All P ys
+all_right P [] ys h = h
+all_right P (x ∷ xs) ys h = all_right P xs ys (All-tail P x (xs ++ ys) h)
+
+sees_none : (f : Fates) → Sees f f
+sees_none f = record { more = λ p apart. apart; quiet = λ p apart. refl }
+
+sees_then : (old mid new : Fates) → Sees old mid → Sees mid new → Sees old new
+sees_then old mid new a b = record { more = λ p apart. a.more p (b.more p apart); quiet = λ p apart. b.quiet p apart ∙ a.quiet p (b.more p apart) }
+
+sees_one : (number : ℕ) (w : WorldView) (q : ℕ) (old new : Fates) → Visits number w q old new → Sees old new
+sees_one number w q old new v = record {
+  more = λ p apart. all_left (λ y. y ≢ p) old.visited.items (q ∷ []) (subst (Apart p) v.visited apart);
+  quiet = λ p apart. (let last = All-head (λ y. y ≢ p) q [] (all_right (λ y. y ≢ p) old.visited.items (q ∷ []) (subst (Apart p) v.visited apart)) in v.others p (λ e. last (sym e)));
+}
+
+-- the port from which was taken is visited too
+pub sees_taken : (number : ℕ) (w : WorldView) (source : Option ℕ) (old new : Fates) → TakesFrom number w source old new → Sees old new
+sees_taken number w None old new h = subst (Sees old) (sym h) (sees_none old)
+sees_taken number w (Some q) old new (mid, takes, v) =
+    let seen = sees_one number w q mid new v in
+    record {
+      more = λ p apart. subst (Apart p) takes.visited (seen.more p apart);
+      quiet = λ p apart. (let last = All-head (λ y. y ≢ p) q [] (all_right (λ y. y ≢ p) mid.visited.items (q ∷ []) (subst (Apart p) v.visited apart)) in seen.quiet p apart ∙ takes.others p (λ e. last (sym e)));
+    }
+
+pub sees_source : (number : ℕ) (w : WorldView) (source : Option ℕ) (old new : Fates) → TakesFrom number w source old new → (p : ℕ) → source ≡ Some p → Apart p new.visited.items → ⊥
+sees_source number w None old new h p is apart = absurd (let no : None ≡ Some p = is in cc)
+sees_source number w (Some q) old new (mid, takes, v) p is apart =
+    let last = All-head (λ y. y ≢ p) q [] (all_right (λ y. y ≢ p) mid.visited.items (q ∷ []) (subst (Apart p) v.visited apart)) in
+    last (let same : Some q ≡ Some p = is in cc)
+
+pub sees_followed : (number : ℕ) (w : WorldView) (source : Option ℕ) (touched : Touched) (old mid new : Fates) → TakesFrom number w source old mid → Follows number w touched mid new → Sees old new
+sees_followed number w source touched old mid new takes follows = sees_then old mid new (sees_taken number w source old mid takes) follows.sees
+
+-- ---- ports that are visited
+
 pub none_visited : (P : ℕ → Type 0) (number : ℕ) (w : WorldView) (f : Fates) → ((p : ℕ) → P p) → VisitsBut P number w f f
-none_visited P number w f all = record { taken = refl; made = refl; each = λ p. inr (refl, all p) }
+none_visited P number w f all = record { taken = refl; made = refl; sees = sees_none f; each = λ p. inr (refl, all p) }
 
 pub one_visited : (number : ℕ) (w : WorldView) (q : ℕ) (old new : Fates) → Visits number w q old new → VisitsBut (λ p. p ≢ q) number w old new
 one_visited number w q old new v = record {
   taken = v.taken;
   made = v.made;
+  sees = sees_one number w q old new v;
   each = λ p. elim (eqb_tells p q) [
     | inl h ↦ inl (subst (λ (x : ℕ). Settles number w x (kept_at old x) (kept_at new x)) (sym h.1) v.settles)
     | inr h ↦ inr (v.others p h.1, h.1)
@@ -42,6 +87,7 @@ pub visited_then : (P Q R : ℕ → Type 0) (number : ℕ) (w : WorldView) (old 
 visited_then P Q R number w old mid new a b both = record {
   taken = b.taken ∙ a.taken;
   made = b.made ∙ a.made;
+  sees = sees_then old mid new a.sees b.sees;
   each = λ p. elim (a.each p) [
     | inl x ↦ elim (b.each p) [
       | inl y ↦ inl (again number w p (kept_at old p) (kept_at mid p) (kept_at new p) x y)
@@ -58,6 +104,7 @@ pub weaker : (P R : ℕ → Type 0) (number : ℕ) (w : WorldView) (old new : Fa
 weaker P R number w old new a less = record {
   taken = a.taken;
   made = a.made;
+  sees = a.sees;
   each = λ p. elim (a.each p) [ inl x ↦ inl x | inr x ↦ inr (x.0, less p x.1) ];
 }
 

@@ -11,6 +11,7 @@ use Rattle.copyin_base.specs.Kept.{Kept}
 use Rattle.copyin_base.specs.Worlds.{WorldView, port_at}
 use Rattle.mach_fates.specs.declared.effects.Lost.{Lost}
 use Rattle.mach_fates.specs.declared.origin.Origin.{Origin}
+use Rattle.mach_fates.specs.declared.origin.Waiting.{Waiting}
 use Rattle.mach_fates.specs.declared.fates.Fates.{Fates}
 
 -- ---- what is kept
@@ -19,9 +20,16 @@ use Rattle.mach_fates.specs.declared.fates.Fates.{Fates}
 abbrev pub entries_of : List Origin → List ℕ
 entries_of q = map (λ o. o.entry) q
 
+abbrev pub entries_in : Waiting → List ℕ
+entries_in w = entries_of w.origins
+
 -- what is kept of the port, if it is kept
 abbrev pub kept_at : Fates → ℕ → Option (List ℕ)
-kept_at f p = option_map entries_of (get nat_cmp f.ports p)
+kept_at f p = option_map entries_in (get nat_cmp f.ports p)
+
+-- how many messages are kept of it
+abbrev pub queued_at : Fates → ℕ → Option ℕ
+queued_at f p = option_map (λ (w : Waiting). length w.origins) (get nat_cmp f.ports p)
 
 abbrev pub or_nothing : Option (List ℕ) → List ℕ
 or_nothing None = []
@@ -48,6 +56,7 @@ pub record Settles (number : ℕ) (w : WorldView) (p : ℕ) (old new : Option (L
 -- The port is visited, and nothing else changes.
 pub record Visits (number : ℕ) (w : WorldView) (p : ℕ) (old new : Fates) : Type 0 where
   pub taken : new.taken ≡ old.taken
+  pub visited : new.visited.items ≡ old.visited.items ++ p ∷ []
   pub settles : Settles number w p (kept_at old p) (kept_at new p)
   pub others : (q : ℕ) → q ≢ p → kept_at new q ≡ kept_at old q
   pub made : new.made ≡ old.made
@@ -56,10 +65,16 @@ pub record Visits (number : ℕ) (w : WorldView) (p : ℕ) (old new : Fates) : T
 abbrev pub Apart : {A : Type 0} → A → List A → Type 0
 Apart x xs = All (λ y. y ≢ x) xs
 
+-- The list of visited ports grows, and has each port of which what is kept changed.
+pub record Sees (old new : Fates) : Type 0 where
+  pub more : (p : ℕ) → Apart p new.visited.items → Apart p old.visited.items
+  pub quiet : (p : ℕ) → Apart p new.visited.items → kept_at new p ≡ kept_at old p
+
 -- Each port is visited, or what is kept of it stays, and then this holds of it.
 pub record VisitsBut (Stays : ℕ → Type 0) (number : ℕ) (w : WorldView) (old new : Fates) : Type 0 where
   pub taken : new.taken ≡ old.taken
   pub made : new.made ≡ old.made
+  pub sees : Sees old new
   pub each : (p : ℕ) → Settles number w p (kept_at old p) (kept_at new p) ⊎ (kept_at new p ≡ kept_at old p) × Stays p
 
 -- ---- what is taken
@@ -75,6 +90,7 @@ pub record Takes (p : ℕ) (old new : Fates) : Type 0 where
   pub rest : kept_at new p ≡ option_map (drop 1) (kept_at old p)
   pub others : (q : ℕ) → q ≢ p → kept_at new q ≡ kept_at old q
   pub made : new.made ≡ old.made
+  pub visited : new.visited.items ≡ old.visited.items
 
 -- So it does where there is a port from which the step took; and that port is visited.
 abbrev pub TakesFrom : (number : ℕ) → WorldView → (source : Option ℕ) → (old new : Fates) → Type 0
@@ -95,4 +111,5 @@ IsPassed touched made old p = ¬ (Covers touched (Port p)) ⊎ (kept_at old p �
 pub record Follows (number : ℕ) (w : WorldView) (touched : Touched) (old new : Fates) : Type 0 where
   pub taken : new.taken ≡ old.taken
   pub made : new.made ≡ w.ports.made
+  pub sees : Sees old new
   pub each : (p : ℕ) → Settles number w p (kept_at old p) (kept_at new p) ⊎ (kept_at new p ≡ kept_at old p) × IsPassed touched w.ports.made old p

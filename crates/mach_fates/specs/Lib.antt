@@ -2,3 +2,5 @@ pub mod Keeping
 pub mod Sources
 pub mod Stepping
 pub mod Places
+pub mod Endings
+pub mod Noting

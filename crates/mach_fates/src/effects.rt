@@ -3,11 +3,13 @@ use crate::origin::{Come, Origin};
 use mach_types::PortId;
 use std::alloc::Global;
 
-/// A message that was destroyed.
+/// A message that left its queue.
 #[derive(Clone, Copy)]
 pub struct Lost {
     /// The identity of its port.
     pub port: u64,
+    /// Its number among all messages that ever came to the port, from 0.
+    pub place: u64,
     /// Where it came from.
     pub origin: Origin,
 }

@@ -1,5 +1,5 @@
 //! The origins of all queued messages.
-ghost use Rattle.std.specs.Prelude.{◌≡◌, ◌≢◌, ◌<◌, ◌≤◌, ◌⊎◌, ℕ, None, Some, true, false, is_some, Ok, IfOk, OnOk, []};
+ghost use Rattle.std.specs.Prelude.{◌≡◌, ◌≢◌, ◌<◌, ◌≤◌, ◌⊎◌, ℕ, None, Some, true, false, is_some, Ok, IfOk, OnOk, [], ◌∷◌, ◌++◌};
 ghost use Rattle.std.specs.BTreeMap.{get, keys, Updates};
 ghost use Rattle.std.specs.Set.{is_member};
 ghost use Rattle.std.specs.Option.{option_map};
@@ -11,11 +11,11 @@ ghost use Rattle.mach_model.specs.State.{opening_in};
 ghost use Rattle.mach_follow.specs.Replaying.{IsNoRefusal};
 ghost use Rattle.mach_follow.specs.declared.replay.Answered.TheVariants.{AsSaid};
 ghost use Rattle.mach_fates.specs.Places.{FollowsRuns, Keeps};
-ghost use Rattle.mach_fates.specs.Keeping.{kept_at, Apart, Follows, HasIdentities, IsPassed, Takes, TakesFrom, Visits, VisitsBut};
+ghost use Rattle.mach_fates.specs.Keeping.{kept_at, queued_at, Apart, Follows, HasIdentities, IsPassed, Takes, TakesFrom, Visits, VisitsBut};
 
 use crate::effects::{Effects, Lost};
 use crate::laws::next_step;
-use crate::origin::{Origin, Sender};
+use crate::origin::{Origin, Sender, Waiting};
 use crate::settle::Turn;
 use crate::source::{source_after, source_before};
 use copyin_base::World;
@@ -29,10 +29,12 @@ use std::collections::{BTreeMap, LinkedList};
 #[derive(Drop)]
 pub struct Fates {
     alloc: Global,
-    ports: BTreeMap<u64, LinkedList<Origin>>,
+    ports: BTreeMap<u64, Waiting>,
     // How many ports were ever made.
     made: u64,
     taken: Option<Lost>,
+    // The ports that the last step may have changed.
+    visited: Vec<u64>,
     effects: Effects,
 }
 
@@ -47,6 +49,7 @@ impl Fates {
             ports,
             made: 0,
             taken: None,
+            visited: Vec::new(alloc),
             effects: Effects::none(alloc),
         }
     }
@@ -66,7 +69,27 @@ impl Fates {
 
     /// Returns the origins of the messages queued at a live port, from the front. Logarithmic time.
     pub fn origins(&self, port: PortId) -> Option<&LinkedList<Origin>> {
-        self.ports.get(&port.number())
+        match self.ports.get(&port.number()) {
+            Some(waiting) => Some(&waiting.origins),
+            None => None,
+        }
+    }
+
+    /// Returns how many messages are queued at a port; `None` if it doesn't live. Logarithmic time.
+    pub(crate) fn queued(&self, port: u64) -> Option<usize>
+        ensures { result ≡ queued_at self.now port }
+    {
+        match self.ports.get(&port) {
+            Some(waiting) => Some(waiting.origins.len()),
+            None => None,
+        }
+    }
+
+    /// Returns the ports that the last entry's step may have changed.
+    pub(crate) fn visited(&self) -> &[u64]
+        ensures { result.now ≡ self.now.visited.items }
+    {
+        self.visited.as_slice()
     }
 
     /// Replays the entry of this number, as [`Follower::replay`] does, and follows the messages. The fates must have
@@ -109,6 +132,7 @@ impl Fates {
         ensures taken { self.new.taken ≡ None }
     {
         self.taken = None;
+        self.visited.clear();
         self.effects.clear();
     }
 
@@ -133,12 +157,13 @@ impl Fates {
     fn take(&mut self, port: u64) -> Result<(), AllocError>
         ensures { OnOk result (Takes port self.old self.new) }
     {
-        let Some(mut queue) = self.ports.remove(&port) else {
+        let Some(mut waiting) = self.ports.remove(&port) else {
             self.taken = None;
             return Ok(());
         };
-        self.taken = taken(port, queue.pop_front());
-        keep(&mut self.ports, port, queue)
+        let place = waiting.first();
+        self.taken = taken(port, place, waiting.origins.pop_front());
+        keep(&mut self.ports, port, waiting)
     }
 
     /// Follows a step by the tables after it, and by what it touched.
@@ -237,9 +262,10 @@ impl Fates {
     fn visit(&mut self, world: &World, port: u64, turn: &Turn) -> Result<(), AllocError>
         ensures { OnOk result (Visits turn.now.number world.now port self.old self.new) }
     {
+        self.visited.push(port)?;
         let before = self.ports.remove(&port);
         match self.effects.settle(self.alloc, world, port, before, turn)? {
-            Some(queue) => keep(&mut self.ports, port, queue),
+            Some(waiting) => keep(&mut self.ports, port, waiting),
             None => Ok(()),
         }
     }
@@ -254,24 +280,24 @@ fn is_refusal(reply: &Reply) -> bool
 }
 
 /// Returns the message that was taken, if there was one.
-fn taken(port: u64, origin: Option<Origin>) -> Option<Lost>
-    ensures { result ≡ option_map (λ x. record { port = port; origin = x }) origin }
+fn taken(port: u64, place: u64, origin: Option<Origin>) -> Option<Lost>
+    ensures { result ≡ option_map (λ x. record { port = port; place = place; origin = x }) origin }
 {
     match origin {
-        Some(origin) => Some(Lost { port, origin }),
+        Some(origin) => Some(Lost {
+            port,
+            place,
+            origin,
+        }),
         None => None,
     }
 }
 
 /// Keeps the port's origins.
-fn keep(
-    ports: &mut BTreeMap<u64, LinkedList<Origin>>,
-    port: u64,
-    queue: LinkedList<Origin>,
-) -> Result<(), AllocError>
-    ensures { OnOk result (Updates nat_cmp ports.old ports.new port (Some queue)) }
+fn keep(ports: &mut BTreeMap<u64, Waiting>, port: u64, waiting: Waiting) -> Result<(), AllocError>
+    ensures { OnOk result (Updates nat_cmp ports.old ports.new port (Some waiting)) }
 {
-    match ports.insert(port, queue) {
+    match ports.insert(port, waiting) {
         Ok(_) => Ok(()),
         Err(_) => Err(AllocError),
     }

@@ -61,7 +61,7 @@ impl<'a> Below<'a> {
         for come in effects.came.as_slice() {
             if !come.origin.is_notice {
                 self.begin("-> queued at ", come.port, out);
-                self.write_end(", ", ends.get(&come.origin), out);
+                self.write_end(", ", ends.get(come.port, come.place), out);
                 out.words("\n");
             }
         }
@@ -127,7 +127,7 @@ impl<'a> Below<'a> {
         out.words(" to ");
         self.labels.write_port(PortId::new(come.port), out);
         if let Some(ends) = self.ends {
-            self.write_end(": ", ends.get(&come.origin), out);
+            self.write_end(": ", ends.get(come.port, come.place), out);
         }
         out.words("\n");
     }

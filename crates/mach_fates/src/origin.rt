@@ -3,6 +3,7 @@ use copyin_base::{Queued, Slot};
 use kernel_lock::Entry;
 use mach_types::TaskId;
 use mach_words::task_of;
+use std::collections::LinkedList;
 
 /// Who made a call.
 #[derive(Clone, Copy)]
@@ -38,11 +39,29 @@ pub struct Origin {
     pub is_notice: bool,
 }
 
+/// The messages that are queued at a live port.
+#[derive(Drop)]
+pub(crate) struct Waiting {
+    /// How many messages ever came to the port.
+    pub(crate) came: u64,
+    /// Where those came from that are queued, from the front.
+    pub(crate) origins: LinkedList<Origin>,
+}
+
+impl Waiting {
+    /// Returns how many messages came before the one in front.
+    pub(crate) fn first(&self) -> u64 {
+        self.came.saturating_sub(self.origins.len() as u64)
+    }
+}
+
 /// A message that came to a port.
 #[derive(Clone, Copy)]
 pub struct Come {
     /// The port's identity.
     pub port: u64,
+    /// Its number among all messages that ever came to the port, from 0.
+    pub place: u64,
     /// Where it came from.
     pub origin: Origin,
 }

@@ -1,10 +1,10 @@
 //! What a step did to one port.
 ghost use Rattle.std.specs.Prelude.{◌≡◌, IfOk, OnOk};
 ghost use Rattle.std.specs.Option.{option_map};
-ghost use Rattle.mach_fates.specs.Keeping.{entries_of, or_nothing, Appends, Settles};
+ghost use Rattle.mach_fates.specs.Keeping.{entries_in, or_nothing, Appends, Settles};
 
 use crate::effects::{Effects, Lost};
-use crate::origin::{Come, NO_TITLE, Origin, Sender, Title, title_of};
+use crate::origin::{Come, NO_TITLE, Origin, Sender, Title, Waiting, title_of};
 use copyin_base::{Queued, World};
 use mach_types::PortId;
 use std::alloc::{AllocError, Global};
@@ -20,35 +20,41 @@ pub(crate) struct Turn {
 }
 
 impl Effects {
-    /// Returns the port's origins after the step, if it lives then. `before` is those that it had before the step, without
-    /// what the step took.
+    /// Returns what is queued at the port after the step, if it lives then. `before` is what was queued before the step,
+    /// without what the step took.
     pub(crate) fn settle(
         &mut self,
         alloc: Global,
         world: &World,
         port: u64,
-        before: Option<LinkedList<Origin>>,
+        before: Option<Waiting>,
         turn: &Turn,
-    ) -> Result<Option<LinkedList<Origin>>, AllocError>
-        ensures { IfOk result (λ after. Settles turn.now.number world.now port (option_map entries_of before) (option_map entries_of after)) }
+    ) -> Result<Option<Waiting>, AllocError>
+        ensures { IfOk result (λ after. Settles turn.now.number world.now port (option_map entries_in before) (option_map entries_in after)) }
     {
         if !world.ports.contains(PortId::new(port)) {
             self.lose(port, before)?;
             return Ok(None);
         }
-        let mut queue = or_none(alloc, before);
-        self.append(alloc, world, port, &mut queue, turn)?;
-        Ok(Some(queue))
+        let mut waiting = or_none(alloc, before);
+        self.append(alloc, world, port, &mut waiting, turn)?;
+        Ok(Some(waiting))
     }
 
     /// Notes that the port died, with these messages, if it lived.
-    fn lose(&mut self, port: u64, before: Option<LinkedList<Origin>>) -> Result<(), AllocError> {
-        let Some(queue) = before else {
+    fn lose(&mut self, port: u64, before: Option<Waiting>) -> Result<(), AllocError> {
+        let Some(waiting) = before else {
             return Ok(());
         };
         self.died.push(PortId::new(port))?;
-        for origin in queue {
-            self.lost.push(Lost { port, origin })?;
+        let mut place = waiting.first();
+        for origin in waiting.origins {
+            self.lost.push(Lost {
+                port,
+                place,
+                origin,
+            })?;
+            place = place.wrapping_add(1);
         }
         Ok(())
     }
@@ -59,22 +65,23 @@ impl Effects {
         alloc: Global,
         world: &World,
         port: u64,
-        queue: &mut LinkedList<Origin>,
+        waiting: &mut Waiting,
         turn: &Turn,
     ) -> Result<(), AllocError>
-        ensures { OnOk result (Appends turn.now.number world.now port (entries_of queue.old) (entries_of queue.new)) }
+        ensures { OnOk result (Appends turn.now.number world.now port (entries_in waiting.old) (entries_in waiting.new)) }
     {
         let queued = world.ports.queued(PortId::new(port));
         let mut titles = Vec::new(alloc);
         self.newest(
             world,
             PortId::new(port),
-            queued.saturating_sub(queue.len()),
+            queued.saturating_sub(waiting.origins.len()),
             &mut titles,
         )?;
-        for place in queue.len()..queued {
-            let origin = self.come(titles.pop(), port, turn)?;
-            queue.push_back(origin)?;
+        for place in waiting.origins.len()..queued {
+            let origin = self.come(titles.pop(), port, waiting.came, turn)?;
+            waiting.came = waiting.came.wrapping_add(1);
+            waiting.origins.push_back(origin)?;
         }
         Ok(())
     }
@@ -98,8 +105,14 @@ impl Effects {
         Ok(())
     }
 
-    /// Notes that a message with this title came to the port, and returns its origin.
-    fn come(&mut self, title: Option<Title>, port: u64, turn: &Turn) -> Result<Origin, AllocError>
+    /// Notes that a message with this title came to the port's place, and returns its origin.
+    fn come(
+        &mut self,
+        title: Option<Title>,
+        port: u64,
+        place: u64,
+        turn: &Turn,
+    ) -> Result<Origin, AllocError>
         ensures { IfOk result (λ origin. origin.entry ≡ turn.now.number) }
     {
         let title = title.unwrap_or(NO_TITLE);
@@ -111,7 +124,11 @@ impl Effects {
             is_notice: title.is_notice,
         };
         self.serial = self.serial.wrapping_add(1);
-        self.came.push(Come { port, origin })?;
+        self.came.push(Come {
+            port,
+            place,
+            origin,
+        })?;
         Ok(origin)
     }
 
@@ -126,12 +143,15 @@ impl Effects {
     }
 }
 
-/// Returns the origins, or none for a port that didn't live.
-fn or_none(alloc: Global, before: Option<LinkedList<Origin>>) -> LinkedList<Origin>
-    ensures { entries_of result ≡ or_nothing (option_map entries_of before) }
+/// Returns what was queued, or nothing for a port that didn't live.
+fn or_none(alloc: Global, before: Option<Waiting>) -> Waiting
+    ensures { entries_in result ≡ or_nothing (option_map entries_in before) }
 {
     match before {
-        Some(queue) => queue,
-        None => LinkedList::new(alloc),
+        Some(waiting) => waiting,
+        None => Waiting {
+            came: 0,
+            origins: LinkedList::new(alloc),
+        },
     }
 }

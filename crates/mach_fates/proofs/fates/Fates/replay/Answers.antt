@@ -1,4 +1,4 @@
-use Rattle.std.proofs.Common.{◌≡◌, ℕ, Option, length, subst}
+use Rattle.std.proofs.Common.{◌≡◌, ◌∙◌, ℕ, Option, length, subst}
 use Rattle.std.specs.Option.{option_or}
 use Rattle.mach_types.specs.declared.touched.Touched.{Touched}
 use Rattle.mach_laws.specs.Touching.{TouchesOnly}
@@ -7,7 +7,8 @@ use Rattle.mach_fates.specs.Keeping.{TakesFrom, HasIdentities, Follows}
 use Rattle.mach_fates.specs.Places.{Keeps}
 use Rattle.mach_fates.specs.Sources.{source_before, IsSourceAfter}
 use Rattle.mach_fates.proofs.Finding.{IsSource, find_source}
-use Rattle.mach_fates.proofs.Joining.{keeps_on, taken_told, keeps_same, refusal_joins}
+use Rattle.mach_fates.proofs.Joining.{keeps_on, taken_told, kept_same, keeps_same, refusal_joins}
+use Rattle.mach_fates.proofs.Visiting.{sees_followed, sees_source}
 use Rattle.mach_fates.proofs.fates.Fates.replay.Goals as goal
 
 pub returns-then-is_refusal : goal.returns-then-is_refusal
@@ -16,7 +17,7 @@ returns-then-is_refusal c = record {
       let e = c.args.entry.now in
       let r = c.in_ok-answered.ensures.said said (length path) s shown in
       let g = c.next_step.ensures profile path s e.event e.reply r.0 is r.1 in
-      refusal_joins profile path s e.event e.reply r.0 c.replay.new.self.kernel.tables c.begin.new.self g r.2 (keeps_same path s c.args.self.now c.begin.new.self c.begin.ensures.ports c.begin.ensures.made keeps) c.begin.ensures.taken (c.is_refusal.ensures.yes c.if-is_refusal.true);
+      refusal_joins profile path s e.event e.reply r.0 c.replay.new.self.kernel.tables c.args.self.now c.begin.new.self r.1 g r.2 (keeps_same path s c.args.self.now c.begin.new.self c.begin.ensures.ports c.begin.ensures.made keeps) c.begin.ensures.taken c.begin.ensures.ports (c.is_refusal.ensures.yes c.if-is_refusal.true);
 }
 
 pub returns : goal.returns
@@ -43,9 +44,14 @@ returns c = record {
       let before : Keeps c.begin.new.self path s = keeps_same path s c.args.self.now c.begin.new.self c.begin.ensures.ports c.begin.ensures.made keeps in
       record {
         t = t;
+        step = r.1;
         goes_on = g.path_then;
         shown = r.2;
         keeps = keeps_on c.args.number w profile path s e.event e.reply t c.begin.new.self c.take_from.new.self c.follow.new.self source touched number g r.2 only before c.begin.ensures.taken found takes follows;
         taken = taken_told c.args.number w profile path s e.event e.reply t c.begin.new.self c.take_from.new.self c.follow.new.self source touched number g r.2 only before c.begin.ensures.taken found takes follows;
+        quiet = λ p apart. (
+          (sees_followed c.args.number w source touched c.begin.new.self c.take_from.new.self c.follow.new.self takes follows).quiet p apart ∙ kept_same c.args.self.now c.begin.new.self c.begin.ensures.ports p,
+          found.others p (λ is. sees_source c.args.number w source c.begin.new.self c.take_from.new.self takes p is (follows.sees.more p apart)),
+        );
       };
 }

@@ -1,7 +1,7 @@
 use Rattle.std.proofs.Common.{◌≡◌, ◌⊎◌, ◌<◌, ◌≤◌, None, inl, inr, subst, ◌∙◌, arith}
 use Rattle.std.specs.BTreeMap.{get}
 use Rattle.std.specs.Ordering.{nat_cmp}
-use Rattle.mach_fates.specs.Keeping.{kept_at, entries_of, Apart, HasIdentities, VisitsBut}
+use Rattle.mach_fates.specs.Keeping.{kept_at, entries_in, Apart, HasIdentities, VisitsBut}
 use Rattle.mach_fates.proofs.Visiting.{visited_then, apart_none, none_kept, on_ok}
 use Rattle.mach_fates.proofs.fates.Fates.visit_all.Goals as goal
 
@@ -18,6 +18,6 @@ returns c =
     (HasIdentities w → VisitsBut (λ p. (kept_at old p ≡ None) × ((p < old.made) ⊎ (w.ports.made ≤ p))) number w old new) c.visit_made.ensures
     (λ made few. visited_then (λ p. Apart p ports) (λ p. (p < mid.made) ⊎ (w.ports.made ≤ p)) (λ p. (kept_at old p ≡ None) × ((p < old.made) ⊎ (w.ports.made ≤ p))) number w old mid new kept (made few)
     (λ p apart where_is. (
-      none_kept entries_of (get nat_cmp old.ports p) (c.kept_ports.ensures.has p ∙ apart_none _ p (subst (Apart p) (c.as_slice.ensures.value ∙ c.in_ok-kept.ensures.same) apart)),
+      none_kept entries_in (get nat_cmp old.ports p) (c.kept_ports.ensures.has p ∙ apart_none _ p (subst (Apart p) (c.as_slice.ensures.value ∙ c.in_ok-kept.ensures.same) apart)),
       elim where_is [ inl h ↦ inl (let same = kept.made in omega (arith, h, same)) | inr h ↦ inr h ],
     )))
