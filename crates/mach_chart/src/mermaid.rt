@@ -127,7 +127,7 @@ impl<'a> Mermaid<'a> {
         write_safe(self.chart.comment(index)?, out);
         match row.mark {
             Mark::Refused => {
-                out.words(" ✗ ");
+                out.words(if row.is_waiting { " ◌ waits, " } else { " ✗ " });
                 write_safe(self.chart.reply(index)?, out);
             }
             Mark::Empty if row.is_waiting => out.words(" ◌ waits"),

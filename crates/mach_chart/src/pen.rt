@@ -153,7 +153,7 @@ impl Pen {
             Mark::Why => Ok(()),
             mark => {
                 self.draw_crosses(layout, drawn.hops);
-                if let Some(cell) = cell_of(mark) {
+                if let Some(cell) = cell_of(mark, drawn.row.is_waiting) {
                     self.canvas.put(drawn.at, cell);
                 }
                 Ok(())
@@ -329,9 +329,10 @@ fn fill_to(end: usize, out: &mut Text) {
     }
 }
 
-/// Returns the cell of a mark at a lifeline.
-fn cell_of(mark: Mark) -> Option<Cell> {
+/// Returns the cell of a mark at a lifeline. A caller that waits from the row on has that of a receive that found no message.
+fn cell_of(mark: Mark, is_waiting: bool) -> Option<Cell> {
     match mark {
+        Mark::Refused if is_waiting => Some(Cell::Empty),
         Mark::Made => Some(Cell::Made),
         Mark::Called => Some(Cell::Called),
         Mark::Looked => Some(Cell::Looked),
@@ -428,7 +429,11 @@ fn write_comment(chart: &Chart, index: usize, row: &Row, out: &mut Text) -> Resu
     out.plain(chart.comment(index)?);
     match row.mark {
         Mark::Refused => {
-            out.words("  ✗ ");
+            out.words(if row.is_waiting {
+                "  ◌ waits, "
+            } else {
+                "  ✗ "
+            });
             out.plain(chart.reply(index)?);
         }
         Mark::Empty if row.is_waiting => out.words("  ◌ waits"),

@@ -50,7 +50,9 @@ impl Chart {
             let Some(row) = self.rows.get(index).copied() else {
                 break;
             };
-            if row.mark == Mark::Empty && self.waits.last(row.caller, row.task) == Some(index) {
+            if matches!(row.mark, Mark::Empty | Mark::Refused)
+                && self.waits.last(row.caller, row.task) == Some(index)
+            {
                 self.wait_from(index);
             }
         }
