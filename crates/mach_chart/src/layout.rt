@@ -16,11 +16,11 @@ const GREATEST_GAP: usize = 26;
 
 /// A lifeline.
 #[derive(Clone, Copy)]
-pub(crate) struct Lifeline {
+pub struct Lifeline {
     /// The number of its task.
-    pub(crate) task: u32,
+    pub task: u32,
     /// The number of its caller.
-    pub(crate) caller: u64,
+    pub caller: u64,
     /// Its place in a row.
     pub(crate) at: usize,
     /// Whether its caller waits.
@@ -29,15 +29,15 @@ pub(crate) struct Lifeline {
 
 /// A task's column: its lifelines, then its lanes.
 #[derive(Clone, Copy)]
-pub(crate) struct Column {
+pub struct Column {
     /// The task's number.
-    pub(crate) task: u32,
+    pub task: u32,
     /// The index of its first lifeline.
-    pub(crate) first: usize,
+    pub first: usize,
     /// How many lifelines it has.
-    pub(crate) lifelines: usize,
+    pub lifelines: usize,
     /// How many lanes it has.
-    pub(crate) lanes: usize,
+    pub lanes: usize,
     /// The place of its last lifeline in a row.
     pub(crate) base: usize,
     /// How many messages its lanes have.
@@ -103,6 +103,16 @@ impl Layout {
         self.widen(alloc, chart, labels)?;
         self.set_places();
         Ok(())
+    }
+
+    /// Returns the columns of the tasks, from the left. Constant time.
+    pub fn columns(&self) -> &[Column] {
+        self.columns.as_slice()
+    }
+
+    /// Returns the lifelines, from the left. Constant time.
+    pub fn each_lifeline(&self) -> &[Lifeline] {
+        self.lifelines.as_slice()
     }
 
     /// Returns how many lifelines there are. Constant time.
@@ -204,8 +214,8 @@ impl Layout {
         self.width = at.saturating_sub(self.gap).saturating_add(6);
     }
 
-    /// Returns the index of the column of the task of this number.
-    fn index_of(&self, task: u32) -> Option<usize> {
+    /// Returns the index of the column of the task of this number; `None` if it has none. Linear in the columns.
+    pub fn column_index(&self, task: u32) -> Option<usize> {
         for (index, column) in self.columns.as_slice().iter().enumerate() {
             if column.task == task {
                 return Some(index);
@@ -216,17 +226,18 @@ impl Layout {
 
     /// Returns the column of the task of this number.
     pub(crate) fn column(&self, task: u32) -> Option<Column> {
-        self.columns.get(self.index_of(task)?).copied()
+        self.columns.get(self.column_index(task)?).copied()
     }
 
     /// Returns the column of the task of this number, to change.
     pub(crate) fn column_mut(&mut self, task: u32) -> Option<&mut Column> {
-        let index = self.index_of(task)?;
+        let index = self.column_index(task)?;
         self.columns.get_mut(index)
     }
 
     /// Returns the index of the lifeline of a task and a caller: the task's first, if the caller has none.
-    pub(crate) fn lifeline(&self, task: u32, caller: u64) -> Option<usize> {
+    /// `None` if the task has no column. Linear in the columns and in the task's lifelines.
+    pub fn lifeline(&self, task: u32, caller: u64) -> Option<usize> {
         let column = self.column(task)?;
         for index in column.first..column.first.saturating_add(column.lifelines) {
             if let Some(lifeline) = self.lifelines.get(index) {
@@ -310,7 +321,8 @@ fn least_from(task: u32, from: u64, callers: &[Caller]) -> Option<u64> {
 }
 
 /// Writes the label of a row's arrow, if it has one: the message and its port, or the right that is handed on.
-pub(crate) fn write_label(row: &Row, labels: &Labels, out: &mut Text) {
+/// Constant time.
+pub fn write_label(row: &Row, labels: &Labels, out: &mut Text) {
     match row.mark {
         Mark::Sent | Mark::Told => {
             write_name(row.id, row.is_notice, labels, out);

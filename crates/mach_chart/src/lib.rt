@@ -11,6 +11,6 @@ mod layout;
 mod mermaid;
 mod pen;
 
-pub use layout::{Layout, MOST_LIFELINES};
+pub use layout::{Column, Layout, Lifeline, MOST_LIFELINES, write_label};
 pub use mermaid::Mermaid;
 pub use pen::Pen;
