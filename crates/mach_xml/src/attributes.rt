@@ -5,7 +5,7 @@ ghost use Rattle.mach_xml.specs.Names.{IsName};
 ghost use Rattle.mach_xml.specs.Elements.{Adds, HasAttributes, IsAttribute};
 ghost use Rattle.mach_xml.specs.declared.attributes.Attribute.{Attribute};
 
-use crate::characters::write_text;
+use crate::characters::{write_byte, write_text};
 use crate::names::is_name;
 use std::alloc::AllocError;
 
@@ -20,7 +20,7 @@ pub struct Point {
 
 /// The value of an attribute.
 #[derive(Clone, Copy)]
-pub(crate) enum Value<'a> {
+pub enum Value<'a> {
     /// Words.
     Words(&'a str),
     /// Tenths of a pixel, written in pixels.
@@ -29,15 +29,19 @@ pub(crate) enum Value<'a> {
     Number(u64),
     /// Places, written in pixels.
     Points(&'a [Point]),
+    /// A curve from a place to the last, bent by the two between.
+    Curve(&'a [Point; 4]),
     /// The corners of a rectangle from the upper left of the drawing, written in pixels.
     Corners(Point),
 }
 
 /// An attribute of a tag.
 #[derive(Clone, Copy)]
-pub(crate) struct Attribute<'a> {
-    pub(crate) name: &'static str,
-    pub(crate) value: Value<'a>,
+pub struct Attribute<'a> {
+    /// Its name. If that is no name, the attribute is left out.
+    pub name: &'static str,
+    /// Its value.
+    pub value: Value<'a>,
 }
 
 /// How many bytes two places have at most. A place has a space, two numbers of nine digits, each with a point and a digit,
@@ -152,6 +156,24 @@ fn write_points(points: &[Point], out: &mut Vec<u8>) -> Result<(), AllocError>
     Ok(())
 }
 
+/// Appends a letter of a curve, and places.
+fn write_stretch(letter: u8, points: &[Point], out: &mut Vec<u8>) -> Result<(), AllocError>
+    ensures { OnOk result (Adds IsText out.old.items out.new.items) }
+{
+    write_byte(letter, out)?;
+    write_points(points, out)?;
+    Ok(())
+}
+
+/// Appends a curve from the first of four places to the last.
+fn write_curve(points: &[Point; 4], out: &mut Vec<u8>) -> Result<(), AllocError>
+    ensures { OnOk result (Adds IsText out.old.items out.new.items) }
+{
+    write_stretch(b'M', &points[..1], out)?;
+    write_stretch(b'C', &points[1..], out)?;
+    Ok(())
+}
+
 /// Appends the value of an attribute.
 fn write_value(value: &Value<'_>, out: &mut Vec<u8>) -> Result<(), AllocError>
     ensures { OnOk result (Adds IsText out.old.items out.new.items) }
@@ -161,6 +183,7 @@ fn write_value(value: &Value<'_>, out: &mut Vec<u8>) -> Result<(), AllocError>
         Value::Tenths(tenths) => write_tenths(*tenths, out),
         Value::Number(number) => write_number(*number, out),
         Value::Points(points) => write_points(points, out),
+        Value::Curve(points) => write_curve(points, out),
         Value::Corners(last) => write_corners(last, out),
     }
 }

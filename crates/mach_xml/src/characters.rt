@@ -29,7 +29,7 @@ fn reference_for(byte: u8) -> Option<&'static str>
 }
 
 /// Appends a byte as text.
-fn write_byte(byte: u8, out: &mut Vec<u8>) -> Result<(), AllocError>
+pub(crate) fn write_byte(byte: u8, out: &mut Vec<u8>) -> Result<(), AllocError>
     ensures { OnOk result (Adds IsText out.old.items out.new.items) }
 {
     match reference_for(byte) {
@@ -39,8 +39,10 @@ fn write_byte(byte: u8, out: &mut Vec<u8>) -> Result<(), AllocError>
     Ok(())
 }
 
-/// Appends bytes as text.
-pub(crate) fn write_text(bytes: &[u8], out: &mut Vec<u8>) -> Result<(), AllocError>
+/// Appends bytes as text: markup is escaped, and a byte that is no line feed and isn't printable ASCII becomes a full stop.
+///
+/// Returns `AllocError` if out of memory; `out` then has a part of it. Linear in the bytes.
+pub fn write_text(bytes: &[u8], out: &mut Vec<u8>) -> Result<(), AllocError>
     ensures { OnOk result (Adds IsText out.old.items out.new.items) }
 {
     for byte in bytes {

@@ -1,6 +1,6 @@
 //! Drawings.
-ghost use Rattle.std.specs.Prelude.{OnOk};
-ghost use Rattle.mach_xml.specs.Elements.{Adds, IsContent, IsElement};
+ghost use Rattle.std.specs.Prelude.{OnOk, codes};
+ghost use Rattle.mach_xml.specs.Elements.{Adds, IsContent, IsElement, IsTag};
 
 use crate::attributes::{Attribute, Point, Value};
 use crate::characters::{ARROW, CUT, write_text};
@@ -9,10 +9,22 @@ use crate::names::Tag;
 use crate::shapes::{Form, Letters, Shape, Size, class_of, pixels, write_shapes};
 use std::alloc::{AllocError, Global};
 
+/// The entries that a group is about.
+#[derive(Clone, Copy)]
+pub enum Time {
+    /// It is always shown.
+    Always,
+    /// It shows the entry of this number.
+    Entry(u64),
+    /// It holds from the entry of this number up to that before the second.
+    Entries(u64, u64),
+}
+
 /// Shapes that belong together, and what a reader who points at them is told.
 #[derive(Clone, Copy)]
 struct Group {
     class: &'static str,
+    time: Time,
     title: Letters,
     // The place behind its last shape.
     end: usize,
@@ -56,11 +68,22 @@ impl Drawing {
         }
     }
 
+    /// Returns how many shapes it has. Constant time.
+    pub fn len(&self) -> usize {
+        self.shapes.len()
+    }
+
     /// Ends a group: the shapes that were added since the last belong to it. Its class names rules of the style.
     pub fn end_group(&mut self, class: &'static str, title: &[u8]) {
+        self.end_group_of(class, Time::Always, title);
+    }
+
+    /// Ends a group that is about entries.
+    pub fn end_group_of(&mut self, class: &'static str, time: Time, title: &[u8]) {
         let title = self.add_letters(title, title.len(), 0);
         let group = Group {
             class,
+            time,
             title,
             end: self.shapes.len(),
         };
@@ -87,6 +110,11 @@ impl Drawing {
     /// Adds a triangle.
     pub fn triangle(&mut self, class: &'static str, corners: [Point; 3]) {
         self.add(class, Form::Triangle(corners));
+    }
+
+    /// Adds a curve from the first place to the last, bent by the two between.
+    pub fn curve(&mut self, class: &'static str, points: [Point; 4]) {
+        self.add(class, Form::Curve(points));
     }
 
     /// Adds letters from a place on, the left end of their base line. If there are more than fit, they are cut, and an
@@ -207,11 +235,39 @@ impl Drawing {
         ensures { OnOk result (Adds IsElement out.old.items out.new.items) }
     {
         let letters = self.letters.as_slice();
-        write_tag("g", &[class_of(group.class)], ">", out)?;
+        group.write_tag(out)?;
         write_texted(Tag::Title, &[], group.title.among(letters), out)?;
         write_shapes(shapes, letters, out)?;
         write_end("g", out)?;
         Ok(())
+    }
+}
+
+impl Group {
+    /// Appends the group's tag, with the entries that it is about.
+    fn write_tag(&self, out: &mut Vec<u8>) -> Result<(), AllocError>
+        ensures { OnOk result (Adds (IsTag (codes "g") (codes ">")) out.old.items out.new.items) }
+    {
+        let class = class_of(self.class);
+        match self.time {
+            Time::Always => write_tag("g", &[class], ">", out)?,
+            Time::Entry(number) => {
+                write_tag("g", &[class, number_of("data-n", number)], ">", out)?;
+            }
+            Time::Entries(from, to) => {
+                let attributes = [class, number_of("data-a", from), number_of("data-z", to)];
+                write_tag("g", &attributes, ">", out)?;
+            }
+        }
+        Ok(())
+    }
+}
+
+/// Returns an attribute for a number.
+fn number_of<'a>(name: &'static str, number: u64) -> Attribute<'a> {
+    Attribute {
+        name,
+        value: Value::Number(number),
     }
 }
 

@@ -7,8 +7,11 @@ use crate::characters::write_text;
 use crate::names::Tag;
 use std::alloc::AllocError;
 
-/// Appends a tag of this name. `end` is `>`, or `/>` if the element has no content.
-pub(crate) fn write_tag(
+/// Appends a tag of this name. `end` is `>`, or `/>` if the element has no content. An attribute whose name is no name, or
+/// stands twice, is left out.
+///
+/// Returns `AllocError` if out of memory; `out` then has a part of it. Linear in the attributes, for each in those before it.
+pub fn write_tag(
     name: &str,
     attributes: &[Attribute<'_>],
     end: &str,
@@ -23,8 +26,8 @@ pub(crate) fn write_tag(
     Ok(())
 }
 
-/// Appends an end tag of this name.
-pub(crate) fn write_end(name: &str, out: &mut Vec<u8>) -> Result<(), AllocError>
+/// Appends an end tag of this name. Returns `AllocError` if out of memory; `out` then has a part of it.
+pub fn write_end(name: &str, out: &mut Vec<u8>) -> Result<(), AllocError>
     ensures { OnOk result (out.new.items ≡ out.old.items ++ end_tag name.now) }
 {
     out.extend_from_slice("</".as_bytes())?;
@@ -33,8 +36,8 @@ pub(crate) fn write_end(name: &str, out: &mut Vec<u8>) -> Result<(), AllocError>
     Ok(())
 }
 
-/// Appends an element without content.
-pub(crate) fn write_empty(
+/// Appends an element without content. Errors and cost are those of [`write_tag`].
+pub fn write_empty(
     tag: Tag,
     attributes: &[Attribute<'_>],
     out: &mut Vec<u8>,
@@ -46,8 +49,8 @@ pub(crate) fn write_empty(
     Ok(())
 }
 
-/// Appends an element whose content is text.
-pub(crate) fn write_texted(
+/// Appends an element whose content is text. Errors are those of [`write_tag`]. Linear in the text, and as [`write_tag`].
+pub fn write_texted(
     tag: Tag,
     attributes: &[Attribute<'_>],
     text: &[u8],

@@ -11,6 +11,9 @@ mod elements;
 mod names;
 mod shapes;
 
-pub use attributes::Point;
-pub use drawing::{Drawing, Fit};
+pub use attributes::{Attribute, Point, Value};
+pub use characters::write_text;
+pub use drawing::{Drawing, Fit, Time};
+pub use elements::{write_empty, write_end, write_tag, write_texted};
+pub use names::Tag;
 pub use shapes::Size;

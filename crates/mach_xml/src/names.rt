@@ -5,19 +5,44 @@ ghost use Rattle.std.specs.List.{list_all};
 
 /// The name of an element.
 #[derive(Clone, Copy)]
-pub(crate) enum Tag {
+pub enum Tag {
+    /// Rules of how things look.
     Style,
+    /// What a reader who points at something is told, or a page's title.
     Title,
+    /// A line.
     Line,
+    /// A rectangle.
     Rect,
+    /// A circle.
     Circle,
+    /// A triangle.
     Polygon,
+    /// A curve.
+    Path,
+    /// Letters.
     Text,
+    /// What a browser is told about a page.
+    Meta,
+    /// A heading.
+    Heading,
+    /// A button.
+    Button,
+    /// A slider.
+    Input,
+    /// Words in a line.
+    Span,
+    /// A part of a page.
+    Division,
+    /// Lines as they are.
+    Lines,
+    /// A script.
+    Script,
 }
 
 impl Tag {
-    /// Returns the name as it is written.
-    pub(crate) fn name(self) -> &'static str
+    /// Returns the name as it is written. Constant time.
+    pub fn name(self) -> &'static str
         ensures { IsName result.now }
     {
         match self {
@@ -27,7 +52,16 @@ impl Tag {
             Tag::Rect => "rect",
             Tag::Circle => "circle",
             Tag::Polygon => "polygon",
+            Tag::Path => "path",
             Tag::Text => "text",
+            Tag::Meta => "meta",
+            Tag::Heading => "h1",
+            Tag::Button => "button",
+            Tag::Input => "input",
+            Tag::Span => "span",
+            Tag::Division => "div",
+            Tag::Lines => "pre",
+            Tag::Script => "script",
         }
     }
 }

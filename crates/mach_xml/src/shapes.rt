@@ -25,6 +25,8 @@ pub(crate) enum Form {
     Circle(Point, u32),
     /// A triangle.
     Triangle([Point; 3]),
+    /// A curve from the first place to the last, bent by the two between.
+    Curve([Point; 4]),
     /// Letters from a place on.
     Letters(Point, Letters),
 }
@@ -83,6 +85,7 @@ impl Shape {
             Form::Rect(corner, size) => write_rect(class, *corner, *size, out),
             Form::Circle(center, radius) => write_circle(class, *center, *radius, out),
             Form::Triangle(corners) => write_triangle(class, corners, out),
+            Form::Curve(points) => write_curve(class, points, out),
             Form::Letters(at, run) => write_letters(
                 class,
                 *at,
@@ -165,6 +168,24 @@ fn write_triangle(
         },
     ];
     write_empty(Tag::Polygon, &attributes, out)
+}
+
+/// Appends a curve.
+fn write_curve(
+    class: Attribute<'_>,
+    points: &[Point; 4],
+    out: &mut Vec<u8>,
+) -> Result<(), AllocError>
+    ensures { OnOk result (Adds IsElement out.old.items out.new.items) }
+{
+    let attributes = [
+        class,
+        Attribute {
+            name: "d",
+            value: Value::Curve(points),
+        },
+    ];
+    write_empty(Tag::Path, &attributes, out)
 }
 
 /// Appends letters, which are so wide.

@@ -1,0 +1,11 @@
+use Rattle.std.proofs.Common.{rules}
+use Rattle.mach_xml.specs.Characters.{IsText}
+use Rattle.mach_xml.specs.Elements.{Adds}
+use Rattle.mach_xml.proofs.Adding.{adds-text}
+use Rattle.mach_xml.proofs.attributes.write_stretch.Goals as goal
+
+pub returns : goal.returns
+returns c =
+    let first : Adds IsText c.args.out.now.items c.write_byte.new.out.items = search rules in
+    let next : Adds IsText c.write_byte.new.out.items c.write_points.new.out.items = search rules in
+    adds-text c.args.out.now.items c.write_byte.new.out.items c.write_points.new.out.items first next
