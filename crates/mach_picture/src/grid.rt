@@ -1,5 +1,5 @@
 //! The places of columns, from the left.
-use crate::painter::Picture;
+use crate::painter::{Part, Picture};
 use crate::places::{FOOT, LETTER, Rows, SMALL, wide};
 use crate::survey::Survey;
 use mach_chart::{Column, Layout};
@@ -17,8 +17,10 @@ const LANE: u32 = 150;
 const LANES: u32 = 130;
 
 const MANY_LANES: u32 = 90;
-/// How wide a picture is at least.
+/// How wide a picture is at least, and the rows of a page.
 const WIDTH: u32 = 12_800;
+
+const PAGE: u32 = 6_900;
 /// The room for comments, if there is none to spare.
 const COMMENTS: u32 = 3_300;
 /// The least and greatest distance from a task's last lane to the next task.
@@ -50,15 +52,16 @@ impl Grid {
     pub(crate) fn new(alloc: Global, picture: &Picture<'_>) -> Result<Grid, AllocError> {
         let Picture { chart, layout, .. } = *picture;
         let survey = Survey::of(alloc, chart, picture.labels)?;
+        let is_whole = picture.part == Part::Whole;
         let mut grid = Grid {
-            rows: Rows::new(chart.rows().len()),
+            rows: Rows::new(chart.rows().len(), is_whole),
             lifelines: Vec::new(alloc),
             lanes: Vec::new(alloc),
             lane_step: lane_step(layout.columns()),
             gap: LEAST_GAP,
             comments: 0,
             size: Size {
-                width: WIDTH,
+                width: if is_whole { WIDTH } else { PAGE },
                 height: 0,
             },
         };
@@ -77,7 +80,7 @@ impl Grid {
             taken = taken.saturating_add(self.width_of(column));
         }
         taken = taken.saturating_add(wide(survey.comment, LETTER));
-        let spare = WIDTH.saturating_sub(taken);
+        let spare = self.size.width.saturating_sub(taken);
         let gaps = u32::try_from(columns.len().saturating_sub(1)).unwrap_or(u32::MAX);
         let even = if gaps == 0 { spare } else { spare / gaps };
         self.gap = need.max(even.min(GREATEST_GAP));
@@ -108,7 +111,7 @@ impl Grid {
         let needed = wide(survey.comment, LETTER)
             .saturating_add(160)
             .min(COMMENTS);
-        self.size.width = WIDTH.max(self.comments.saturating_add(needed));
+        self.size.width = self.size.width.max(self.comments.saturating_add(needed));
         Ok(())
     }
 

@@ -14,6 +14,6 @@ mod style;
 mod survey;
 mod svg;
 
-pub use painter::Picture;
+pub use painter::{Part, Picture, draw_chart};
 pub use style::Scheme;
 pub use svg::write_svg;

@@ -5,8 +5,20 @@ use crate::style::Scheme;
 use mach_chart::Layout;
 use mach_chart_base::{Chart, Hop, Mark, Row};
 use mach_words::{Labels, Text};
-use mach_xml::{Drawing, Fit, Point, Size};
+use mach_xml::{Drawing, Fit, Point, Size, Time};
 use std::alloc::{AllocError, Global};
+
+/// What of a chart is drawn.
+#[derive(Clone, Copy, PartialEq, Eq)]
+pub enum Part {
+    /// All, at least 1,280 pixels wide.
+    Whole,
+    /// The rows, for a page: each row has the number of its entry, and there are two rectangles of the classes `pick` and
+    /// `veil`, which have no height. At least 690 pixels wide, without rules and names.
+    Rows,
+    /// The names of the lifelines over these rows.
+    Names,
+}
 
 /// A chart that is to be drawn.
 #[derive(Clone, Copy)]
@@ -19,13 +31,16 @@ pub struct Picture<'a> {
     pub labels: &'a Labels,
     /// Its title, if it has one.
     pub title: Option<&'a str>,
-    /// Its colours.
+    /// Its colours, if it is drawn whole.
     pub scheme: Scheme,
+    /// What is drawn.
+    pub part: Part,
 }
 
 /// Draws a chart on its grid.
 #[derive(Clone, Copy)]
 pub(crate) struct Painter<'a> {
+    pub(crate) part: Part,
     pub(crate) chart: &'a Chart,
     pub(crate) layout: &'a Layout,
     pub(crate) labels: &'a Labels,
@@ -43,33 +58,49 @@ pub(crate) struct Drawn<'a> {
     pub(crate) mark: Point,
 }
 
-/// Draws a chart. Returns `AllocError` if out of memory.
-pub(crate) fn draw_chart(alloc: Global, picture: &Picture<'_>) -> Result<Drawing, AllocError> {
+/// Draws a chart, or a part of it. Returns `AllocError` if out of memory. Linear in the rows and hops, for each in the
+/// lifelines, and in the comments.
+pub fn draw_chart(alloc: Global, picture: &Picture<'_>) -> Result<Drawing, AllocError> {
     let grid = Grid::new(alloc, picture)?;
-    let mut drawing = Drawing::new(alloc, grid.size, picture.scheme.rules());
     let painter = Painter {
+        part: picture.part,
         chart: picture.chart,
         layout: picture.layout,
         labels: picture.labels,
         grid: &grid,
     };
+    let mut scratch = Text::new(alloc);
+    if picture.part == Part::Names {
+        return painter.draw_only_names(alloc, &mut scratch);
+    }
+    let rules = match picture.part {
+        Part::Whole => picture.scheme.rules(),
+        _ => "",
+    };
+    let mut drawing = Drawing::new(alloc, grid.size, rules);
     painter.draw_back(&mut drawing);
     painter.draw_lifelines(&mut drawing);
     painter.draw_waits(alloc, &mut drawing)?;
     painter.draw_bars(alloc, &mut drawing)?;
     let title = picture.title.unwrap_or("message sequence chart");
     drawing.end_group("ground", title.as_bytes());
-    let mut scratch = Text::new(alloc);
     painter.draw_rows(&mut drawing, &mut scratch)?;
-    painter.draw_names(&mut drawing, &mut scratch)?;
-    drawing.end_group("names", b"tasks");
+    if picture.part == Part::Whole {
+        painter.draw_names(&mut drawing, &mut scratch)?;
+        drawing.end_group("names", b"tasks");
+    } else {
+        drawing.rect("veil", at(0, TOP), painter.row_of_no_height());
+        drawing.end_group("later", b"");
+    }
     Ok(drawing)
 }
 
 impl<'a> Painter<'a> {
     /// Draws the ground, and a band behind every second entry.
     fn draw_back(&self, drawing: &mut Drawing) {
-        drawing.rect("back", at(0, 0), self.grid.size);
+        if self.part == Part::Whole {
+            drawing.rect("back", at(0, 0), self.grid.size);
+        }
         let mut is_odd = false;
         let mut first = 0;
         for index in 0..self.chart.rows().len() {
@@ -87,6 +118,29 @@ impl<'a> Painter<'a> {
                 drawing.rect("band", at(0, top), size);
             }
         }
+        if self.part == Part::Rows {
+            drawing.rect("pick", at(0, TOP), self.row_of_no_height());
+        }
+    }
+
+    /// Returns the size of a row that can't be seen.
+    fn row_of_no_height(&self) -> Size {
+        Size {
+            width: self.grid.size.width,
+            height: 0,
+        }
+    }
+
+    /// Draws the names of the lifelines alone.
+    fn draw_only_names(&self, alloc: Global, scratch: &mut Text) -> Result<Drawing, AllocError> {
+        let size = Size {
+            width: self.grid.size.width,
+            height: TOP.saturating_sub(10),
+        };
+        let mut drawing = Drawing::new(alloc, size, "");
+        self.draw_names(&mut drawing, scratch)?;
+        drawing.end_group("names", b"tasks");
+        Ok(drawing)
     }
 
     /// Whether the row at this index is the first of an entry, or none has the index.
@@ -118,7 +172,12 @@ impl<'a> Painter<'a> {
             self.draw_number(&drawn, drawing, scratch)?;
             self.draw_comment(&drawn, drawing)?;
             self.write_title(&drawn, scratch)?;
-            drawing.end_group(if is_odd { "odd" } else { "even" }, scratch.whole()?);
+            let time = match self.part {
+                Part::Rows => Time::Entry(row.number),
+                _ => Time::Always,
+            };
+            let class = if is_odd { "odd" } else { "even" };
+            drawing.end_group_of(class, time, scratch.whole()?);
         }
         Ok(())
     }

@@ -49,9 +49,9 @@ pub(crate) struct Rows {
 const NAMES_EVERY: usize = 30;
 
 impl Rows {
-    /// Returns the places of so many rows.
-    pub(crate) fn new(count: usize) -> Rows {
-        let every = if count > NAMES_EVERY + 10 {
+    /// Returns the places of so many rows, between which names stand again or not.
+    pub(crate) fn new(count: usize, has_names: bool) -> Rows {
+        let every = if has_names && count > NAMES_EVERY + 10 {
             NAMES_EVERY
         } else {
             usize::MAX
