@@ -16,4 +16,4 @@ pub use filter::Filter;
 pub use linting::{Kind, lint_text};
 pub use output::{Done, Output};
 pub use reading::{READ_AT_ONCE, TOO_MANY, next_line, read_labels};
-pub use text::{Shown, bad_line, show_history};
+pub use text::{Shown, Teller, bad_line, show_history};

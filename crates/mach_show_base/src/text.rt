@@ -105,7 +105,7 @@ struct Numbered<'a> {
 
 /// Tells a history entry by entry.
 #[derive(Drop)]
-struct Teller<'a, 'b> {
+pub struct Teller<'a, 'b> {
     shown: Shown<'a, 'b>,
     follower: Follower,
     // Where queued messages came from.
@@ -122,7 +122,7 @@ struct Teller<'a, 'b> {
 
 impl<'a, 'b> Teller<'a, 'b> {
     /// Stands at the beginning of a history of this profile. Takes no memory.
-    fn new(shown: &Shown<'a, 'b>, profile: Profile) -> Teller<'a, 'b>
+    pub fn new(shown: &Shown<'a, 'b>, profile: Profile) -> Teller<'a, 'b>
         requires one_set { profile ≢ Three }
     {
         Teller {
@@ -144,9 +144,16 @@ impl<'a, 'b> Teller<'a, 'b> {
         Done::Unseen(number.saturating_sub(1))
     }
 
-    /// Makes the call of the entry of this number, whose line this is. Leaves in `text` what is shown of it. Returns
+    /// Returns what is shown of the entry that was told last. Constant time.
+    pub fn text(&self) -> &Text {
+        &self.text
+    }
+
+    /// Makes the call of the entry of this number, whose line this is. Leaves in [`Teller::text`] what is shown of it. Returns
     /// whether the kernel's reply is that of the entry.
-    fn tell(&mut self, number: u64, line: &[u8]) -> Result<bool, Fault<'static>> {
+    ///
+    /// Returns the fault of a line that is no entry, and `OutOfMemory`. Takes the time of the call.
+    pub fn tell(&mut self, number: u64, line: &[u8]) -> Result<bool, Fault<'static>> {
         self.told.clear();
         self.text.clear();
         self.details.clear();
