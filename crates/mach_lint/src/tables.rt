@@ -108,7 +108,7 @@ pub(crate) fn near_call(word: &[u8]) -> Option<&'static str> {
     nearest.look(CALLS);
     nearest.look(LINES);
     nearest.look(LONGER);
-    let near = nearest.word()?;
+    let near = nearest.found()?;
     match find(LONGER, near.as_bytes()) {
         Some(call) => Some(call),
         None => Some(near),
@@ -119,5 +119,5 @@ pub(crate) fn near_call(word: &[u8]) -> Option<&'static str> {
 pub(crate) fn near_reply(word: &[u8]) -> Option<&'static str> {
     let mut nearest = Nearest::to(word);
     nearest.look(REPLIES);
-    nearest.word()
+    nearest.found()
 }
