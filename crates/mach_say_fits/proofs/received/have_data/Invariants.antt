@@ -1,0 +1,6 @@
+use Rattle.mach_say_fits.proofs.Items.{LeavesData}
+use Rattle.mach_say_fits.proofs.received.have_data.Given as goal
+
+-- what is left of the items, and of the data
+abbrev pub invariant-loop : goal.invariant-loop
+invariant-loop l = LeavesData l.fn.items.bytes.now l.fn.wanted l.left.bytes.now l.rest
