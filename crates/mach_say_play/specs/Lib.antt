@@ -1,0 +1,4 @@
+pub mod Stages
+pub mod Calls
+pub mod Answers
+pub mod Played
