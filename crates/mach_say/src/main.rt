@@ -1,0 +1,152 @@
+//! The program `mach_say`: runs storyboards, which are protocols of Mach ports written with names.
+//!
+//! `main` reads the command line and opens the file. [`perform`] does the job over any reader and writers.
+#![tactic(auto)]
+
+mod command_line;
+mod fault;
+mod job;
+mod recorded;
+
+use clap::error::ErrorKind;
+use command_line::{Request, read_words};
+use fault::{Fault, reason_of, report};
+use job::{Job, perform};
+use mach_words::Labels;
+use recorded::{perform_from, read_labels};
+use std::fs::File;
+use std::io::{BufWriter, Read, Write};
+use std::process::ExitCode;
+use std::rt::Stderr;
+use std::{env, io};
+
+/// The status for a wrong command line.
+const USAGE: u8 = 2;
+/// How many bytes of output are buffered.
+const WRITTEN_AT_ONCE: usize = 65_536;
+
+fn main(rt: HostRuntime) -> ExitCode {
+    ExitCode::from(answer(&rt))
+}
+
+/// Does what the command line asks for, and returns the status: 2, with the usage on standard error, if it names no job.
+fn answer(rt: &HostRuntime) -> u8 {
+    match words_of(rt) {
+        Ok(words) => answer_words(rt, words.as_slice()),
+        Err(error) => report_words(&error, &mut rt.stderr()),
+    }
+}
+
+/// The same, with these words.
+fn answer_words(rt: &HostRuntime, words: &[String]) -> u8 {
+    match read_words(rt.alloc(), words) {
+        Ok(request) => start(rt, &request),
+        Err(error) => answer_without(rt, &error),
+    }
+}
+
+/// Writes what clap says of words that name no job: help or the version, or what is wrong with them.
+fn answer_without(rt: &HostRuntime, error: &clap::Error) -> u8 {
+    if error.use_stderr() {
+        return report_usage(error, &mut rt.stderr());
+    }
+    let _ = write!(rt.stdout(), "{error}");
+    0
+}
+
+/// Writes to `err` why there are no words: out of memory, or one of them isn't UTF-8.
+fn report_words(error: &io::Error, err: &mut Stderr) -> u8 {
+    if error.kind() == io::ErrorKind::OutOfMemory {
+        return report(Fault::OutOfMemory, err);
+    }
+    let _ = err.write_all(b"error: a word is not UTF-8\n\nUsage: mach_say <COMMAND>\n");
+    USAGE
+}
+
+/// Writes to `err` why the words name no job.
+fn report_usage(error: &clap::Error, err: &mut Stderr) -> u8 {
+    if error.kind() == ErrorKind::OutOfMemory {
+        return report(Fault::OutOfMemory, err);
+    }
+    let _ = write!(err, "{error}");
+    USAGE
+}
+
+/// Returns the words of the command line, the program's name first.
+fn words_of(rt: &HostRuntime) -> io::Result<Vec<String>> {
+    Ok(env::args(rt)?.collect(rt.alloc())?)
+}
+
+/// Does the job of the request.
+fn start(rt: &HostRuntime, request: &Request<'_>) -> u8 {
+    match request.job {
+        Some(job) => open(rt, job, request.file),
+        None => start_from(rt, request),
+    }
+}
+
+/// Opens the storyboard, or standard input without one, and does the job.
+fn open(rt: &HostRuntime, job: Job, file: Option<&str>) -> u8 {
+    let Some(name) = file else {
+        return work(rt, job, "-", &mut rt.reader());
+    };
+    match File::open(rt, name) {
+        Ok(mut file) => work(rt, job, name, &mut file),
+        Err(error) => report(Fault::CannotRead(name, reason_of(&error)), &mut rt.stderr()),
+    }
+}
+
+/// Does the job, and buffers its output.
+fn work<R: Read>(rt: &HostRuntime, job: Job, name: &str, file: &mut R) -> u8 {
+    let alloc = rt.alloc();
+    let mut err = rt.stderr();
+    match BufWriter::with_capacity(alloc, WRITTEN_AT_ONCE, rt.stdout()) {
+        Ok(mut out) => perform(alloc, job, name, file, &mut out, &mut err),
+        Err(_) => report(Fault::OutOfMemory, &mut err),
+    }
+}
+
+/// Reads the request's labels, and makes a storyboard of its history.
+fn start_from(rt: &HostRuntime, request: &Request<'_>) -> u8 {
+    let mut labels = Labels::new(rt.alloc());
+    match enter_labels(rt, request.labels, &mut labels) {
+        Ok(()) => open_from(rt, labels, request.file),
+        Err(fault) => report(fault, &mut rt.stderr()),
+    }
+}
+
+/// Enters the labels of the file of this name. Without a name there are none.
+fn enter_labels<'a>(
+    rt: &HostRuntime,
+    name: Option<&'a str>,
+    labels: &mut Labels,
+) -> Result<(), Fault<'a>> {
+    let Some(name) = name else {
+        return Ok(());
+    };
+    match File::open(rt, name) {
+        Ok(mut file) => read_labels(rt.alloc(), name, &mut file, labels),
+        Err(error) => Err(Fault::CannotRead(name, reason_of(&error))),
+    }
+}
+
+/// Opens the history, or standard input without one, and makes a storyboard of it.
+fn open_from(rt: &HostRuntime, labels: Labels, file: Option<&str>) -> u8 {
+    let Some(name) = file else {
+        return work_from(rt, labels, "-", &mut rt.reader());
+    };
+    match File::open(rt, name) {
+        Ok(mut file) => work_from(rt, labels, name, &mut file),
+        Err(error) => report(Fault::CannotRead(name, reason_of(&error)), &mut rt.stderr()),
+    }
+}
+
+/// Makes a storyboard of the history, and buffers the output.
+fn work_from<R: Read>(rt: &HostRuntime, labels: Labels, name: &str, file: &mut R) -> u8 {
+    let alloc = rt.alloc();
+    let mut err = rt.stderr();
+    match BufWriter::with_capacity(alloc, WRITTEN_AT_ONCE, rt.stdout()) {
+        Ok(mut out) => perform_from(alloc, name, labels, file, &mut out, &mut err),
+        Err(_) => report(Fault::OutOfMemory, &mut err),
+    }
+}
