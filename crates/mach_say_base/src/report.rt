@@ -166,7 +166,7 @@ fn write_fault(play: &Play, line: &[u8], word: &[u8], fault: &PlayFault, out: &m
         PlayFault::Expected(_) => write_expected(play, line, out),
         PlayFault::NoActor(_) => write_no_actor(&play.board, word, out),
         PlayFault::NoTask(_) => write_no_task(play, word, out),
-        PlayFault::NoMessage(_) => write_no_message(play, word, out),
+        PlayFault::NoMessage(_) => write_no_message(play, line, word, out),
         PlayFault::NoName(_, task) => write_no_name(play, *task, word, out),
         _ => write_short(line, word, fault, out),
     }
@@ -200,7 +200,7 @@ fn write_short(line: &[u8], word: &[u8], fault: &PlayFault, out: &mut Text) {
         }
         PlayFault::WaitsForNothing(_) => {
             write_who(line, out);
-            out.words(" waits for nothing");
+            out.words(" waits for nothing: a receive that is to wait says '=> waits'");
         }
         _ => {}
     }
@@ -242,8 +242,8 @@ fn write_no_task(play: &Play, word: &[u8], out: &mut Text) {
     tasks.write("; tasks are: ", word, out);
 }
 
-/// Writes that no message has the word, and which there are.
-fn write_no_message(play: &Play, word: &[u8], out: &mut Text) {
+/// Writes that no message has the word, and which there are. Behind `=>` other words may stand, too.
+fn write_no_message(play: &Play, line: &[u8], word: &[u8], out: &mut Text) {
     let mut messages = List::new(play.alloc);
     for message in play.board.messages.as_slice() {
         messages.add(&message.word);
@@ -251,6 +251,9 @@ fn write_no_message(play: &Play, word: &[u8], out: &mut Text) {
     out.quoted(word);
     out.words(" is no message");
     messages.write("; messages are: ", word, out);
+    if behind_arrow(line).before_arrow().text.starts_with(word) {
+        out.words("; or 'waits', 'empty', 'notice'");
+    }
 }
 
 /// Writes that the task has no such name, and which it has.
@@ -272,6 +275,10 @@ fn write_no_name(play: &Play, task: TaskId, word: &[u8], out: &mut Text) {
 /// Writes what the last call was to answer, and what it answered.
 fn write_expected(play: &Play, line: &[u8], out: &mut Text) {
     let said = behind_arrow(line).before_arrow();
+    if said.text.is_empty() && matches!(last_reply(play), Some(Reply::Empty(_))) {
+        out.words("expected a message, but none is there; write '=> waits' or '=> empty'");
+        return;
+    }
     out.words("expected ");
     if said.text.is_empty() {
         out.words("success");
