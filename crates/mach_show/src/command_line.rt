@@ -1,13 +1,17 @@
 //! The command line.
-use crate::chart::Style;
 use crate::job::Job;
 use clap::builder::ValueParser;
 use clap::{Arg, ArgAction, ArgMatches, Command, Error};
+use mach_picture::Scheme;
 use mach_show_base::{Filter, Kind};
+use mach_show_pictures::{Form, Style};
 use std::alloc::{AllocError, Global};
 
 /// The kinds of text that `lint` reads.
 const KINDS: &[&str] = &["script", "history"];
+
+/// The colours of a picture.
+const SCHEMES: &[&str] = &["light", "dark", "both"];
 
 /// An option of a subcommand.
 #[derive(Clone, Copy)]
@@ -40,6 +44,60 @@ const NUMBER: ValueParser<'static> = ValueParser::Unsigned(0, u64::MAX);
 /// The number of an entry, without the last, so that it can be counted to.
 const ENTRY: ValueParser<'static> = ValueParser::Unsigned(1, u64::MAX - 1);
 
+/// The first entry that is shown.
+const FROM: Choice = Choice {
+    value: "FROM",
+    long: "from",
+    action: ArgAction::Set,
+    parser: NUMBER,
+    help: "Only entries from this number on",
+};
+
+/// The last entry that is shown.
+const TO: Choice = Choice {
+    value: "TO",
+    long: "to",
+    action: ArgAction::Set,
+    parser: NUMBER,
+    help: "Only entries up to this number",
+};
+
+/// The file of labels.
+const LABELS: Choice = Choice {
+    value: "LABELS",
+    long: "labels",
+    action: ArgAction::Set,
+    parser: ValueParser::String,
+    help: "A file of labels: lines 'task N WORD', or with port, set, id or caller for task",
+};
+
+/// Whether a picture is drawn.
+const SVG: Choice = Choice {
+    value: "SVG",
+    long: "svg",
+    action: ArgAction::SetTrue,
+    parser: ValueParser::Bool,
+    help: "Writes a picture as SVG",
+};
+
+/// The colours of a picture.
+const SCHEME: Choice = Choice {
+    value: "SCHEME",
+    long: "scheme",
+    action: ArgAction::Set,
+    parser: ValueParser::Names(SCHEMES),
+    help: "The colours of the picture; without it, the reader's choice",
+};
+
+/// The title of a chart or a page.
+const TITLE: Choice = Choice {
+    value: "TITLE",
+    long: "title",
+    action: ArgAction::Set,
+    parser: ValueParser::String,
+    help: "The title",
+};
+
 /// The options of `text` and `chart`.
 const OF_ENTRIES: &[Choice] = &[
     Choice {
@@ -63,27 +121,9 @@ const OF_ENTRIES: &[Choice] = &[
         parser: ValueParser::String,
         help: "Only entries that name this port, or carry a right for it: its identity or label",
     },
-    Choice {
-        value: "FROM",
-        long: "from",
-        action: ArgAction::Set,
-        parser: NUMBER,
-        help: "Only entries from this number on",
-    },
-    Choice {
-        value: "TO",
-        long: "to",
-        action: ArgAction::Set,
-        parser: NUMBER,
-        help: "Only entries up to this number",
-    },
-    Choice {
-        value: "LABELS",
-        long: "labels",
-        action: ArgAction::Set,
-        parser: ValueParser::String,
-        help: "A file of labels: lines 'task N WORD', or with port, set, id or caller for task",
-    },
+    FROM,
+    TO,
+    LABELS,
 ];
 
 /// The options of `chart`, beside those of the entries.
@@ -102,13 +142,9 @@ const OF_CHART: &[Choice] = &[
         parser: ValueParser::Bool,
         help: "Writes a sequence diagram in Mermaid's notation",
     },
-    Choice {
-        value: "TITLE",
-        long: "title",
-        action: ArgAction::Set,
-        parser: ValueParser::String,
-        help: "The title of the chart",
-    },
+    SVG,
+    SCHEME,
+    TITLE,
 ];
 
 /// The options of `text` alone.
@@ -121,13 +157,10 @@ const OF_TEXT: &[Choice] = &[Choice {
 }];
 
 /// The options of `state`.
-const OF_STATE: &[Choice] = &[Choice {
-    value: "LABELS",
-    long: "labels",
-    action: ArgAction::Set,
-    parser: ValueParser::String,
-    help: "A file of labels: lines 'task N WORD', or with port, set, id or caller for task",
-}];
+const OF_STATE: &[Choice] = &[LABELS, SVG, SCHEME];
+
+/// The options of `page`.
+const OF_PAGE: &[Choice] = &[FROM, TO, LABELS, TITLE];
 
 /// The options of `lint`.
 const OF_LINT: &[Choice] = &[Choice {
@@ -165,6 +198,14 @@ const SUBCOMMANDS: &[Subcommand] = &[
         file: "The history; without it, standard input",
     },
     Subcommand {
+        name: "page",
+        about: "Writes an HTML file in which one goes from entry to entry",
+        choices: OF_PAGE,
+        own: &[],
+        has_number: false,
+        file: "The history; without it, standard input",
+    },
+    Subcommand {
         name: "lint",
         about: "Lists the bad lines of a script or a history, and why they are bad",
         choices: OF_LINT,
@@ -187,6 +228,8 @@ pub struct Request<'a> {
     pub file: Option<&'a str>,
     /// The file of labels, if there is one.
     pub labels: Option<&'a str>,
+    /// The storyboard to run instead, if there is one.
+    pub say: Option<&'a str>,
 }
 
 /// Reads the words of the command line. The first is the program's name.
@@ -207,6 +250,7 @@ fn request_of<'a>(matches: &ArgMatches<'a>) -> Request<'a> {
             port: of_subcommand.get_str("PORT"),
             file: of_subcommand.get_str("FILE"),
             labels: of_subcommand.get_str("LABELS"),
+            say: of_subcommand.get_str("SAY"),
         },
         None => Request {
             job: Job::Text(Filter::all()),
@@ -214,6 +258,7 @@ fn request_of<'a>(matches: &ArgMatches<'a>) -> Request<'a> {
             port: None,
             file: None,
             labels: None,
+            say: None,
         },
     }
 }
@@ -222,18 +267,36 @@ fn request_of<'a>(matches: &ArgMatches<'a>) -> Request<'a> {
 fn job_named<'a>(name: &str, of_subcommand: &ArgMatches<'a>) -> Job<'a> {
     match name {
         "lint" => Job::Lint(kind_named(of_subcommand.get_str("KIND"))),
-        "state" => Job::State(of_subcommand.get_one::<u64>("N").unwrap_or(1)),
+        "state" => state_named(of_subcommand),
+        "page" => Job::Page(window_named(of_subcommand), of_subcommand.get_str("TITLE")),
         "chart" => Job::Chart(filter_named(of_subcommand), style_named(of_subcommand)),
         _ if of_subcommand.get_flag("LIVE") => Job::Live(filter_named(of_subcommand)),
         _ => Job::Text(filter_named(of_subcommand)),
     }
 }
 
+/// Returns the job of `state`.
+fn state_named<'a>(of_subcommand: &ArgMatches<'a>) -> Job<'a> {
+    let number = of_subcommand.get_one::<u64>("N").unwrap_or(1);
+    if of_subcommand.get_flag("SVG") {
+        return Job::Picture(number, scheme_named(of_subcommand.get_str("SCHEME")));
+    }
+    Job::State(number)
+}
+
+/// Returns the filter of the first and the last entry that the options name.
+fn window_named(of_subcommand: &ArgMatches<'_>) -> Filter {
+    let mut filter = Filter::all();
+    filter.from = of_subcommand.get_one::<u64>("FROM").unwrap_or(0);
+    filter.to = of_subcommand.get_one::<u64>("TO").unwrap_or(u64::MAX);
+    filter
+}
+
 /// Returns how a chart is drawn.
 fn style_named<'a>(of_subcommand: &ArgMatches<'a>) -> Style<'a> {
     Style {
         has_looks: of_subcommand.get_flag("LOOKS"),
-        is_mermaid: of_subcommand.get_flag("MERMAID"),
+        form: form_of(of_subcommand),
         title: of_subcommand.get_str("TITLE"),
     }
 }
@@ -246,6 +309,26 @@ fn filter_named(of_subcommand: &ArgMatches<'_>) -> Filter {
         refused: of_subcommand.get_flag("REFUSED"),
         from: of_subcommand.get_one::<u64>("FROM").unwrap_or(0),
         to: of_subcommand.get_one::<u64>("TO").unwrap_or(u64::MAX),
+    }
+}
+
+/// Returns the form of a chart.
+fn form_of(of_subcommand: &ArgMatches<'_>) -> Form {
+    if of_subcommand.get_flag("SVG") {
+        return Form::Svg(scheme_named(of_subcommand.get_str("SCHEME")));
+    }
+    if of_subcommand.get_flag("MERMAID") {
+        return Form::Mermaid;
+    }
+    Form::Terminal
+}
+
+/// Returns the scheme that the word is for.
+fn scheme_named(word: Option<&str>) -> Scheme {
+    match word {
+        Some("light") => Scheme::Light,
+        Some("dark") => Scheme::Dark,
+        _ => Scheme::Both,
     }
 }
 
@@ -278,10 +361,22 @@ fn command_of<'a>(alloc: Global, subcommand: &Subcommand) -> Result<Command<'a>,
     for choice in subcommand.own {
         command = command.arg(option_of(alloc, choice))?;
     }
+    if subcommand.name != "lint" {
+        command = command.arg(say_option(alloc)?)?;
+    }
     if subcommand.has_number {
         command = command.arg(number_of(alloc))?;
     }
     command.arg(Arg::new(alloc, "FILE").help(subcommand.file))
+}
+
+/// Makes the option that names a storyboard. With it there is no other file.
+fn say_option<'a>(alloc: Global) -> Result<Arg<'a>, AllocError> {
+    Arg::new(alloc, "SAY")
+        .long("say")
+        .help("A storyboard to run: its history is shown, with its words")
+        .conflicts_with("FILE")?
+        .conflicts_with("LABELS")
 }
 
 /// Makes the argument for the number of an entry.

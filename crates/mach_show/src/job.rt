@@ -1,12 +1,13 @@
 //! The jobs of the program.
 ghost use Rattle.std.specs.Prelude.{◌≡◌, ◌≤◌};
 
-use crate::chart::{Style, show_chart};
 use crate::state::show_state;
+use mach_picture::Scheme;
 use mach_show_base::{
     Done, Fault, Filter, Kind, Output, READ_AT_ONCE, Shown, lint_text, report, show_history,
     show_whole,
 };
+use mach_show_pictures::{Style, show_chart, show_page, show_picture};
 use mach_words::Labels;
 use std::alloc::Global;
 use std::io::{BufReader, Read, Write};
@@ -23,6 +24,10 @@ pub enum Job<'a> {
     Chart(Filter, Style<'a>),
     /// Shows the state after the entry of this number.
     State(u64),
+    /// Draws the state after the entry of this number, in these colours.
+    Picture(u64, Scheme),
+    /// Writes a page of these entries, with this title.
+    Page(Filter, Option<&'a str>),
     /// Lists the bad lines of a text of this kind. Without a kind the first line decides.
     Lint(Option<Kind>),
 }
@@ -47,7 +52,8 @@ pub struct Work<'a> {
 ///
 /// `Live` takes the time and memory of a kernel that makes the history's calls, and memory for names and queued messages.
 /// `Text` makes the calls twice, and takes memory for the text and for each message too.
-/// `Chart` and `State` make the calls once. They take memory for the chart or the text too.
+/// `Chart`, `State` and `Picture` make the calls once. They take memory for the chart, the text or the picture too.
+/// `Page` makes them twice, and takes memory for the history, the chart and the page.
 /// `lint` is linear in the text, and takes memory for its longest line.
 pub fn perform<R: Read>(
     alloc: Global,
@@ -101,6 +107,10 @@ fn read_all<'a, R: Read>(
         Job::Live(_) => show_history(&shown, reader, line, out)?,
         Job::Chart(_, style) => show_chart(&shown, &style, reader, line, out)?,
         Job::State(number) => show_state(&shown, number, reader, line, out)?,
+        Job::Picture(number, scheme) => {
+            show_picture(&shown, (number, scheme), reader, line, out)?
+        }
+        Job::Page(_, title) => show_page(&shown, title, reader, line, out)?,
         Job::Lint(kind) => lint_text(alloc, (name, kind), reader, line, out)?,
     };
     out.flush()?;
@@ -110,8 +120,9 @@ fn read_all<'a, R: Read>(
 /// Returns the job's filter.
 fn filter_of(job: Job<'_>) -> Filter {
     match job {
-        Job::Text(filter) | Job::Live(filter) | Job::Chart(filter, _) => filter,
-        Job::State(_) | Job::Lint(_) => Filter::all(),
+        Job::Text(filter) | Job::Live(filter) | Job::Chart(filter, _) | Job::Page(filter, _) =>
+            filter,
+        Job::State(_) | Job::Picture(..) | Job::Lint(_) => Filter::all(),
     }
 }
 

@@ -5,10 +5,10 @@
 //! in `mach_show_base`.
 #![tactic(auto)]
 
-mod chart;
 mod command_line;
 mod job;
 mod naming;
+mod said;
 mod state;
 
 use clap::error::ErrorKind;
@@ -17,6 +17,7 @@ use job::{Job, Work, perform};
 use mach_show_base::{Fault, read_labels, reason_of, report};
 use mach_words::Labels;
 use naming::job_of;
+use said::show_said;
 use std::fs::File;
 use std::io::{BufWriter, Read, Write};
 use std::process::ExitCode;
@@ -43,8 +44,16 @@ fn answer(rt: &HostRuntime) -> u8 {
 /// The same, with these words.
 fn answer_words(rt: &HostRuntime, words: &[String]) -> u8 {
     match read_words(rt.alloc(), words) {
-        Ok(request) => name_things(rt, &request),
+        Ok(request) => answer_request(rt, &request),
         Err(error) => answer_without(rt, &error),
+    }
+}
+
+/// Does what is asked for, on a storyboard or on a history.
+fn answer_request(rt: &HostRuntime, request: &Request<'_>) -> u8 {
+    match request.say {
+        Some(name) => show_said(rt, request, name),
+        None => name_things(rt, request),
     }
 }
 

@@ -15,6 +15,8 @@ pub fn job_of<'a>(request: &Request<'a>, labels: &Labels) -> Result<Job<'a>, Fau
         Job::Live(filter) => Ok(Job::Live(with_names(filter, request, labels)?)),
         Job::Chart(filter, style) => Ok(Job::Chart(with_names(filter, request, labels)?, style)),
         Job::State(number) => Ok(Job::State(number)),
+        Job::Picture(number, scheme) => Ok(Job::Picture(number, scheme)),
+        Job::Page(filter, title) => Ok(Job::Page(filter, title)),
         Job::Lint(kind) => Ok(Job::Lint(kind)),
     }
 }

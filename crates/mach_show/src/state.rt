@@ -5,39 +5,15 @@ ghost use Rattle.mach_types.specs.declared.profiles.Profile.TheVariants.{Three};
 use kernel_lock::Entry;
 use mach_fates::Fates;
 use mach_follow::{Answered, Follower, describe_after, describe_before, write_answer};
-use mach_show_base::{Done, Fault, Filter, Output, Shown, bad_line, next_line};
+use mach_show_base::{Done, Fault, Output, Shown, bad_line, next_line};
+use mach_show_pictures::Source;
 use mach_state::{Deaths, State, write_state};
 use mach_types::{Profile, TaskId};
-use mach_words::{Labels, Text, task_of};
-use std::alloc::{AllocError, Global};
+use mach_words::{Text, task_of};
+use std::alloc::AllocError;
 use std::io::{BufReader, Read, Write};
 use tracer::{behind_heading, first_line};
 use tracer_base::TextFault;
-
-/// What a job is asked for, without what becomes of messages.
-#[derive(Clone, Copy)]
-pub(crate) struct Source<'a> {
-    /// The name of the file, for faults.
-    pub(crate) name: &'a str,
-    /// The allocator.
-    pub(crate) alloc: Global,
-    /// Which entries are shown.
-    pub(crate) filter: Filter,
-    /// The labels.
-    pub(crate) labels: &'a Labels,
-}
-
-impl<'a> Source<'a> {
-    /// Leaves out what becomes of messages.
-    pub(crate) fn of(shown: &Shown<'a, '_>) -> Source<'a> {
-        Source {
-            name: shown.name,
-            alloc: shown.alloc,
-            filter: shown.filter,
-            labels: shown.labels,
-        }
-    }
-}
 
 /// Shows the state after the entry of this number of the history that the reader has.
 pub(crate) fn show_state<'a, R: Read>(

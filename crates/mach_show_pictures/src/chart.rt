@@ -2,16 +2,18 @@
 ghost use Rattle.std.specs.Prelude.{◌≢◌};
 ghost use Rattle.mach_types.specs.declared.profiles.Profile.TheVariants.{Three};
 
-use crate::state::Source;
+use crate::source::Source;
 use kernel_lock::Entry;
 use mach_causes::{explain, write_cause};
 use mach_chart::{Layout, MOST_LIFELINES, Mermaid, Pen};
 use mach_chart_base::{Chart, Told, handed_port};
 use mach_fates::Fates;
 use mach_follow::{Answered, Follower, describe_before, is_answer_about, is_call_about};
+use mach_picture::{Part, Picture, Scheme, draw_chart, write_svg};
 use mach_show_base::{Done, Fault, Output, Shown, TOO_MANY, bad_line, next_line};
 use mach_types::{Event, PortId, Profile, Reply};
-use mach_words::Text;
+use mach_words::{Labels, Text};
+use mach_xml::Drawing;
 use std::alloc::AllocError;
 use std::io::{BufReader, Read, Write};
 use tracer::{behind_heading, first_line};
@@ -20,19 +22,33 @@ use tracer_base::TextFault;
 /// How many rows a chart has at most, unless the first or the last entry is named.
 const MOST_ROWS: usize = 10_000;
 
+/// The form of a chart.
+#[derive(Clone, Copy)]
+pub enum Form {
+    /// Rows of a terminal.
+    Terminal,
+    /// Mermaid's notation.
+    Mermaid,
+    /// SVG, in these colours.
+    Svg(Scheme),
+}
+
 /// How a chart is drawn.
 #[derive(Clone, Copy)]
 pub struct Style<'a> {
     /// Whether it has calls that only look.
     pub has_looks: bool,
-    /// Whether it is written in Mermaid's notation.
-    pub is_mermaid: bool,
+    /// In which form it is written.
+    pub form: Form,
     /// Its title.
     pub title: Option<&'a str>,
 }
 
 /// Draws the history that the reader has.
-pub(crate) fn show_chart<'a, R: Read>(
+///
+/// Returns the faults of a history, `TooLong` for a chart of more than 10,000 rows without a window, `TooWide` for more than
+/// 64 lifelines, and those of the output. Makes the calls once, and takes memory for the chart.
+pub fn show_chart<'a, R: Read>(
     shown: &Shown<'a, '_>,
     style: &Style<'a>,
     reader: &mut BufReader<&mut R>,
@@ -52,9 +68,9 @@ pub(crate) fn show_chart<'a, R: Read>(
 
 /// The chart that is asked for.
 #[derive(Clone, Copy)]
-struct Asked<'a> {
-    source: Source<'a>,
-    style: Style<'a>,
+pub(crate) struct Asked<'a> {
+    pub(crate) source: Source<'a>,
+    pub(crate) style: Style<'a>,
 }
 
 /// Draws the entries of a history of this profile. It owns the drawer, and does nothing else.
@@ -73,12 +89,12 @@ fn draw_entries<'a, R: Read>(
 
 /// Follows a history, and draws it.
 #[derive(Drop)]
-struct Drawer<'a> {
-    shown: Source<'a>,
+pub(crate) struct Drawer<'a> {
+    pub(crate) shown: Source<'a>,
     style: Style<'a>,
-    follower: Follower,
-    fates: Fates,
-    chart: Chart,
+    pub(crate) follower: Follower,
+    pub(crate) fates: Fates,
+    pub(crate) chart: Chart,
     // The call, before it is made, and why it was refused.
     call: Text,
     why: Text,
@@ -95,7 +111,7 @@ struct Added<'a> {
 
 impl<'a> Drawer<'a> {
     /// Stands at the beginning of a history of this profile. Takes no memory.
-    fn new(asked: &Asked<'a>, profile: Profile) -> Drawer<'a>
+    pub(crate) fn new(asked: &Asked<'a>, profile: Profile) -> Drawer<'a>
         requires one_set { profile ≢ Three }
     {
         Drawer {
@@ -146,7 +162,11 @@ impl<'a> Drawer<'a> {
     }
 
     /// Makes the entry's call, and adds the entry to the chart.
-    fn follow_entry(&mut self, number: u64, entry: &Entry) -> Result<(), Fault<'static>> {
+    pub(crate) fn follow_entry(
+        &mut self,
+        number: u64,
+        entry: &Entry,
+    ) -> Result<(), Fault<'static>> {
         let may_show = self.shown.filter.shows(number, entry);
         let is_called = may_show && self.is_call_shown(entry);
         self.describe(entry, may_show)?;
@@ -260,10 +280,10 @@ impl<'a> Drawer<'a> {
         if layout.lifelines() > MOST_LIFELINES {
             return Err(Fault::TooWide(layout.lifelines() as u64));
         }
-        if self.style.is_mermaid {
-            self.write_mermaid(&layout, out)?;
-        } else {
-            self.write_rows(&mut layout, out)?;
+        match self.style.form {
+            Form::Terminal => self.write_rows(&mut layout, out)?,
+            Form::Mermaid => self.write_mermaid(&layout, out)?,
+            Form::Svg(scheme) => self.write_picture(&layout, scheme, out)?,
         }
         Ok(Done::Well)
     }
@@ -290,6 +310,43 @@ impl<'a> Drawer<'a> {
         Ok(())
     }
 
+    /// Returns the chart as SVG.
+    fn picture(&self, layout: &Layout, scheme: Scheme) -> Result<Vec<u8>, AllocError> {
+        let picture = picture_of(
+            &self.chart,
+            layout,
+            self.shown.labels,
+            self.style.title,
+            (scheme, Part::Whole),
+        );
+        write_svg(self.shown.alloc, &picture)
+    }
+
+    /// Draws a part of the chart for a page.
+    pub(crate) fn draw_part(&self, layout: &Layout, part: Part) -> Result<Drawing, AllocError> {
+        let picture = picture_of(
+            &self.chart,
+            layout,
+            self.shown.labels,
+            self.style.title,
+            (Scheme::Both, part),
+        );
+        draw_chart(self.shown.alloc, &picture)
+    }
+
+    /// Writes the chart as SVG.
+    fn write_picture(
+        &self,
+        layout: &Layout,
+        scheme: Scheme,
+        out: &mut Output,
+    ) -> Result<(), Fault<'a>> {
+        let text = self.picture(layout, scheme)?;
+        out.write_all(text.as_slice())?;
+        out.write_all(b"\n")?;
+        Ok(())
+    }
+
     /// Writes the chart in Mermaid's notation.
     fn write_mermaid(&mut self, layout: &Layout, out: &mut Output) -> Result<(), Fault<'a>> {
         let mermaid = Mermaid {
@@ -306,5 +363,23 @@ impl<'a> Drawer<'a> {
         }
         out.write_all(b"\n")?;
         Ok(())
+    }
+}
+
+/// Returns what of a chart is drawn, with this title and in these colours.
+fn picture_of<'x>(
+    chart: &'x Chart,
+    layout: &'x Layout,
+    labels: &'x Labels,
+    title: Option<&'x str>,
+    (scheme, part): (Scheme, Part),
+) -> Picture<'x> {
+    Picture {
+        chart,
+        layout,
+        labels,
+        title,
+        scheme,
+        part,
     }
 }
