@@ -1,6 +1,7 @@
 //! Plays a script by one whole run of the kernel (`run_with`), and prints the replies, one a line.
 //!
-//! `script_tests PROFILE FILE`: the kernel has this profile, 1 or 2. The script has calls only: a line that begins a
+//! `script_tests PROFILE FILE`: the kernel has this profile, 1 or 2. `script_tests PROFILE FILE touched` prints what the last
+//! call may have changed in place of the replies: a line for each port and set, or `all`. The script has calls only: a line that begins a
 //! block, or is a message call that waits, is a bad call here. A fault is one line on standard error, and the status is 1.
 //! `mach_run run` plays a script call by call instead (`perform`). The gate compares what both print with the same file.
 #![tactic(auto)]
@@ -9,9 +10,9 @@ ghost use Rattle.std.specs.Prelude.{◌≢◌, IfSome};
 ghost use Rattle.mach_types.specs.declared.profiles.Profile.TheVariants.{Three};
 
 use kernel_core::run_with;
-use mach_types::{Event, Profile, Reply};
+use mach_types::{Event, Profile, Reply, Touched, Waited};
 use std::alloc::Global;
-use std::io::{BufWriter, Write};
+use std::io::{self, BufWriter, Write};
 use std::process::ExitCode;
 use std::rt::{Env, Files};
 use std::{env, fs};
@@ -26,7 +27,7 @@ const WRITTEN_AT_ONCE: usize = 65_536;
 #[derive(Clone, Copy, Debug, Error)]
 enum Fault {
     /// The words of the command line are others.
-    #[error("usage: script_tests PROFILE FILE")]
+    #[error("usage: script_tests PROFILE FILE [touched]")]
     Usage,
     /// The file can't be opened or read.
     #[error("cannot read the script")]
@@ -40,6 +41,15 @@ enum Fault {
     /// Memory was refused.
     #[error("out of memory")]
     OutOfMemory,
+}
+
+/// What is printed of a run.
+#[derive(Clone, Copy)]
+enum Wanted {
+    /// The replies.
+    Replies,
+    /// The ports and sets that the last call may have changed.
+    Touched,
 }
 
 fn main(rt: HostRuntime) -> ExitCode {
@@ -61,7 +71,10 @@ fn play_words<R: Env + Files + AllocGlobal, W: Write + Drop>(rt: &R, out: W) -> 
         return Err(Fault::OutOfMemory);
     };
     match words.as_slice() {
-        [_, number, file] => play_file(rt, number.as_str(), file.as_str(), out),
+        [_, number, file] => { play_file(rt, number.as_str(), file.as_str(), Wanted::Replies, out) }
+        [_, number, file, wanted] if wanted.as_str() == "touched" => {
+            play_file(rt, number.as_str(), file.as_str(), Wanted::Touched, out)
+        }
         _ => Err(Fault::Usage),
     }
 }
@@ -71,6 +84,7 @@ fn play_file<R: Files + AllocGlobal, W: Write + Drop>(
     rt: &R,
     number: &str,
     file: &str,
+    wanted: Wanted,
     out: W,
 ) -> Result<(), Fault> {
     let Some(profile) = profile_numbered(number) else {
@@ -80,7 +94,7 @@ fn play_file<R: Files + AllocGlobal, W: Write + Drop>(
         return Err(Fault::CannotRead);
     };
     match read_script(rt.alloc(), text.as_slice()) {
-        Ok(events) => print_run(rt.alloc(), profile, events, out),
+        Ok(events) => print_run(rt.alloc(), profile, events, wanted, out),
         Err(ScriptFault::BadCall(line)) => Err(Fault::BadCall(line)),
         Err(ScriptFault::OutOfMemory) => Err(Fault::OutOfMemory),
     }
@@ -97,22 +111,51 @@ fn profile_numbered(number: &str) -> Option<Profile>
     }
 }
 
-/// Makes the calls on a new kernel of the profile, all in one run, and then prints the replies.
+/// Makes the calls on a new kernel of the profile, all in one run, and then prints what is wanted of it.
 fn print_run<W: Write + Drop>(
     alloc: Global,
     profile: Profile,
     events: Vec<Event>,
+    wanted: Wanted,
     out: W,
 ) -> Result<(), Fault>
     requires one_set { profile ≢ Three }
 {
-    let Ok((_, replies)) = run_with(alloc, profile, events) else {
+    let Ok((kernel, replies)) = run_with(alloc, profile, events) else {
         return Err(Fault::OutOfMemory);
     };
-    match BufWriter::with_capacity(alloc, WRITTEN_AT_ONCE, out) {
-        Ok(mut out) => print(replies.as_slice(), &mut out),
-        Err(_) => Err(Fault::OutOfMemory),
+    match (
+        wanted,
+        BufWriter::with_capacity(alloc, WRITTEN_AT_ONCE, out),
+    ) {
+        (Wanted::Replies, Ok(mut out)) => print(replies.as_slice(), &mut out),
+        (Wanted::Touched, Ok(mut out)) => print_touched(kernel.touched(), &mut out),
+        (_, Err(_)) => Err(Fault::OutOfMemory),
     }
+}
+
+/// Prints a line for each port and set, or `all`.
+fn print_touched<W: Write>(touched: Touched, out: &mut W) -> Result<(), Fault> {
+    let written = match touched {
+        Touched::All => writeln!(out, "all"),
+        Touched::Few(places) => write_places(&places, out),
+    };
+    match written {
+        Ok(()) => out.flush().map_err(|_| Fault::CannotWrite),
+        Err(_) => Err(Fault::CannotWrite),
+    }
+}
+
+/// Writes a line for each port and set.
+fn write_places<W: Write>(places: &[Option<Waited>], out: &mut W) -> io::Result<()> {
+    for place in places {
+        match place {
+            Some(Waited::Port(port)) => writeln!(out, "port {}", port.number())?,
+            Some(Waited::Set(set)) => writeln!(out, "set {}", set.number())?,
+            None => {}
+        }
+    }
+    Ok(())
 }
 
 /// Prints the replies, one a line.
