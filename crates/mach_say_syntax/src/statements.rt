@@ -3,7 +3,7 @@ use crate::answers::read_answer;
 use crate::calls::read_call;
 use crate::reader::{Reader, instead, unknown};
 use crate::syntax::{Answer, Said, SaidCall, SaidMessage, Statement};
-use mach_say_words::{Cause, Fault, Line, Vocabulary, Wanted, Word, bytes_of};
+use mach_say_words::{Cause, Fault, Line, Vocabulary, Wanted, Word, bytes_of, find_call};
 use mach_types::Profile;
 use std::alloc::Global;
 use tracer_base::split_once;
@@ -130,7 +130,7 @@ fn profile<'a>(reader: &mut Reader<'a>) -> Result<Statement<'a>, Fault<'a>> {
 /// Reads `: CALL [=> ANSWER]`.
 fn call<'a>(reader: &mut Reader<'a>, who: Word<'a>) -> Result<Statement<'a>, Fault<'a>> {
     if !reader.take(":") {
-        return Err(unknown(&who, Vocabulary::Statement));
+        return Err(no_colon(reader, &who));
     }
     let (word, call) = read_call(reader)?;
     let (answer, expected) = if reader.take("=>") {
@@ -147,6 +147,14 @@ fn call<'a>(reader: &mut Reader<'a>, who: Word<'a>) -> Result<Statement<'a>, Fau
         answer,
         expected,
     }))
+}
+
+/// Returns the fault of a statement with this first word and no `:` behind it. Where a call follows, the `:` is missing.
+fn no_colon<'a>(reader: &mut Reader<'a>, who: &Word<'a>) -> Fault<'a> {
+    match reader.line.peek() {
+        Some(word) if find_call(word.text).is_some() => instead(&word, Wanted::Word(":")),
+        _ => unknown(who, Vocabulary::Statement),
+    }
 }
 
 /// What a call is to answer where nothing is said.

@@ -1,5 +1,5 @@
 //! Why a line is no statement.
-use crate::vocabulary::Vocabulary;
+use crate::vocabulary::{Vocabulary, nearest_joining};
 use mach_words::Text;
 use std::alloc::{AllocError, AllocFailed};
 
@@ -77,6 +77,11 @@ pub fn write_cause(cause: &Cause<'_>, out: &mut Text) {
             write_wanted(*wanted, out);
         }
         Cause::Unknown(word, vocabulary) => write_unknown(word, *vocabulary, out),
+        Cause::Behind(word) => {
+            out.quoted(word);
+            out.words(" behind the end of the statement");
+            write_nearest(nearest_joining(word), out);
+        }
         Cause::NoQuote => out.words("the text has no closing quote"),
         _ => write_about(cause, out),
     }
@@ -85,7 +90,6 @@ pub fn write_cause(cause: &Cause<'_>, out: &mut Text) {
 /// Writes a cause that is about one word.
 fn write_about(cause: &Cause<'_>, out: &mut Text) {
     let (word, about) = match cause {
-        Cause::Behind(word) => (word, " behind the end of the statement"),
         Cause::Reserved(word) => (word, " is a word of the notation, and names nothing"),
         Cause::NoWord(word) => (
             word,
@@ -121,14 +125,19 @@ fn write_unknown(word: &[u8], vocabulary: Vocabulary, out: &mut Text) {
     out.words(" is no ");
     out.words(vocabulary.noun());
     match vocabulary.nearest(word) {
-        Some(near) => {
-            out.words("; did you mean ");
-            out.quoted(near.as_bytes());
-            out.words("?");
-        }
+        Some(near) => write_nearest(Some(near), out),
         None => {
             out.words("; one of: ");
             vocabulary.write_words(out);
         }
+    }
+}
+
+/// Writes which word may be meant, if one is near.
+fn write_nearest(near: Option<&'static str>, out: &mut Text) {
+    if let Some(near) = near {
+        out.words("; did you mean ");
+        out.quoted(near.as_bytes());
+        out.words("?");
     }
 }

@@ -332,6 +332,16 @@ const RESERVED: &[(&str, ())] = &[
     ("sync", ()),
 ];
 
+/// Words that join a further part to a statement.
+const JOINING: &[(&str, ())] = &[
+    ("answer", ()),
+    ("as", ()),
+    ("keep", ()),
+    ("room", ()),
+    ("sync", ()),
+    ("with", ()),
+];
+
 // Each table is named by one function alone: each mention of it takes long to prove.
 
 /// The words that statements begin with.
@@ -394,6 +404,11 @@ fn reserved_words() -> &'static [(&'static str, ())] {
     RESERVED
 }
 
+/// The words that join a further part.
+fn joining_words() -> &'static [(&'static str, ())] {
+    JOINING
+}
+
 /// Returns what the word means in the table.
 fn find<T: Copy>(table: &[(&'static str, T)], word: &[u8]) -> Option<T> {
     for (known, meaning) in table {
@@ -424,6 +439,13 @@ fn write_all<T>(table: &[(&'static str, T)], out: &mut Text) {
 /// Whether the word is one of the notation's own that names nothing.
 pub fn is_reserved(word: &[u8]) -> bool {
     find(reserved_words(), word).is_some()
+}
+
+/// Returns the word that joins a further part and is nearest to this one; `None` if none is near.
+pub(crate) fn nearest_joining(word: &[u8]) -> Option<&'static str> {
+    let mut nearest = Nearest::to(word);
+    look(joining_words(), &mut nearest);
+    nearest.found()
 }
 
 /// Returns the call that the word begins.
