@@ -53,7 +53,7 @@ use Rattle.port.specs.Ports.{PortView}
 use Rattle.message_codec.specs.declared.words.PortWord.{PortWord}
 use Rattle.copyin_base.specs.Kept.{Kept}
 use Rattle.copyin_base.specs.Posted.{with_notice, with_posted}
-use Rattle.copyin_base.specs.Serving.{Completes, Declines}
+use Rattle.copyin_base.specs.Serving.{Declines}
 use Rattle.copyin_base.specs.Shows.{Agrees, Shows, target_of}
 use Rattle.copyin_base.specs.Worlds.{WorldView, entry_at, port_at, IsIdle}
 use Rattle.copyin_base.specs.Serving.{ShowsMid}
@@ -65,9 +65,11 @@ use Rattle.destroy.specs.Stages.{SettlesIn}
 use Rattle.kernel_change.specs.declared.change.Change.TheVariants as change
 use Rattle.kernel_change.specs.declared.change.Change.{Change}
 use Rattle.kernel_change.specs.Changing.{few, made_last, port_under, set_of, with_set, named_left, touched_by, gives_none, by_message, by_receipt, by_send, by_paying, by_request, by_making, by_losing_one, by_losing_all, disbanded, ByDisbanding, ByLosingAll, ByReferences, ByEnding, left_by, moved_from, by_moving, by_handing, DiesAlone, EndsAs}
+use Rattle.kernel_core.specs.InTurn.{CompletesInTurn}
 use Rattle.kernel_core.specs.Send.{MovesNoReceive, SendsTo, TellsSent}
 use Rattle.kernel_core.specs.Touching.{TellsChange, Touches, EndsIdle}
 use Rattle.kernel_core.proofs.Alone.{none_kept, is_lone}
+use Rattle.kernel_core.proofs.Taking.{settled_in_turn, refused_in_turn}
 
 -- ---- where nothing is left to do, the state midway and the one after are shown by the same tables
 
@@ -766,19 +768,21 @@ module _ (now : ℕ) (old : WorldView) (s mid : State) (owed : Owed) (sh : Shows
 
 -- ---- the step
 
-module _ (old w new : WorldView) (event : Event) (reply : Reply) (turns : ℕ) (acts : Completes old event reply w) (settles : SettlesIn w turns new) where
+module _ (old w new : WorldView) (event : Event) (reply : Reply) (turns : ℕ) (acts : CompletesInTurn old event reply w) (settles : SettlesIn w turns new) where
   pub all_touched : Touches old event reply new Any
   all_touched = λ now s sh.
-      let d = acts.acts now s sh in
+      let x = acts.acts now s sh in
+      let d = x.0 in
       let e = settles now old s d.mid d.owed sh d.shows in
-      (e.0, inr (record { performed = record { mid = d.mid; owed = d.owed; does = d.does; settles = e.1 }; unrefused = d.unrefused; judged = d.judged }), e.2, touches_all s e.0)
+      (e.0, inr (record { performed = record { mid = d.mid; owed = d.owed; does = d.does; settles = e.1 }; unrefused = d.unrefused; judged = d.judged }), e.2, touches_all s e.0, settled_in_turn old event reply now s d.mid e.0 d.owed e.1 x.1)
 
   any_touched : (ends : Change) → ends ≡ change.Any → Touches old event reply new (touched_by new ends)
   any_touched ends is = subst (λ (c : Change). Touches old event reply new (touched_by new c)) (sym is) all_touched
 
   pub few_touched : (told : Change) → TellsChange old event reply told → IsIdle w → new ≡ w → Touches old event reply new (touched_by new told)
   few_touched told tells idle same = λ now s sh.
-      let d = acts.acts now s sh in
+      let x = acts.acts now s sh in
+      let d = x.0 in
       let e = settles now old s d.mid d.owed sh d.shows in
       let here : Shows w e.0 = subst (λ (x : WorldView). Shows x e.0) same e.2 in
       let ends : (none : d.owed ≡ []) → Keeps d.mid e.0 = λ none.
@@ -791,7 +795,8 @@ module _ (old w new : WorldView) (event : Event) (reply : Reply) (turns : ℕ) (
         e.0,
         inr (record { performed = record { mid = d.mid; owed = d.owed; does = d.does; settles = e.1 }; unrefused = d.unrefused; judged = d.judged }),
         e.2,
-        subst (λ (x : WorldView). TouchesOnly s e.0 (touched_by x told)) (sym same) only,
+        subst (λ (v : WorldView). TouchesOnly s e.0 (touched_by v told)) (sym same) only,
+        settled_in_turn old event reply now s d.mid e.0 d.owed e.1 x.1,
       )
     where
       by : {s mid t : State} {owed : Owed} {touched : Touched} → OwnTouches s mid owed touched → ((none : owed ≡ []) → Keeps mid t) →
@@ -803,7 +808,8 @@ module _ (old w new : WorldView) (event : Event) (reply : Reply) (turns : ℕ) (
   -- a port dies alone: it is covered, with the set that it was in
   lone_touched : (p : ℕ) (told : Change) → told ≡ change.Lost p → TellsChange old event reply told → DiesAlone w p → Touches old event reply new (touched_by new (left_by p (set_of w p)))
   lone_touched p told lost tells alone = λ now s sh.
-      let d = acts.acts now s sh in
+      let x = acts.acts now s sh in
+      let d = x.0 in
       let e = settles now old s d.mid d.owed sh d.shows in
       let own = own_lost now old s d.mid d.owed sh p told lost event reply d.does tells in
       let a : Agrees w d.mid = agree now old w s d.mid d.owed sh d.shows own.1 in
@@ -814,6 +820,7 @@ module _ (old w new : WorldView) (event : Event) (reply : Reply) (turns : ℕ) (
         inr (record { performed = record { mid = d.mid; owed = d.owed; does = d.does; settles = e.1 }; unrefused = d.unrefused; judged = d.judged }),
         e.2,
         dead_touched s d.mid e.0 p a e.2 own.0 (l.no_sets p) (others_trans p s d.mid e.0 own.0.others ends),
+        settled_in_turn old event reply now s d.mid e.0 d.owed e.1 x.1,
       )
     where
       dead_touched : (s mid t : State) (p : ℕ) → Agrees w mid → Shows new t → LosesRight p s mid → (mid.live_port p ≡ false → mid.sets_of p ≡ []) → KeepsOthers p s t → TouchesOnly s t (touched_by new (left_by p (set_of w p)))
@@ -858,6 +865,7 @@ none_touched old new event code d = λ now s sh. (
   inl (record { declined = record { code = code; failed = refusal_fails s event code (d.refuses s sh); told = refl; same = refl }; refuses = d.refuses s sh }),
   d.shows s sh,
   touches s s None None (few None None) (changes_none s s None None (keeps_same s s refl)) (λ p e. absurd (none_some p e)) (λ p e. absurd (none_some p e)) (λ p set e. absurd (none_some p e)),
+  refused_in_turn old event code s s,
 )
 
 -- what holds however a call is answered

@@ -30,6 +30,7 @@ use Rattle.kernel_core.specs.InTurn.{KeepsTurns, told_by}
 use Rattle.kernel_core.specs.Send.{UsesSlot}
 use Rattle.transfer.specs.Room.{MakesSlots}
 use Rattle.kernel_core.specs.Wanted.{memory_code, WantsMemory, Wanted, UsesSlots, LeavesSlots, LeavesSpares, Performs}
+use Rattle.kernel_core.proofs.Taking.{IsNoReceipt, other_turns, other_takes}
 use Rattle.kernel_core.proofs.Unused.{shown_unused, midway_unused}
 
 -- ---- codes
@@ -197,19 +198,37 @@ asks task name a = Event.RequestNotification task name a.variant a.sync a.notify
 
 -- a call that accepts no message
 pub carried : (old : WorldView) (event : Event) (result : Result Reply Code) (new : WorldView) → Serves old event result new →
-    IfErr result (λ code. code_number code ≡ memory_code event → WantsMemory old event) → KeepsSpares old new → OwesNone event → ((reply : Reply) → accepts event reply ≡ 0) → KeepsTurns old event (told_by result) new → Performs old event result new
-carried old event result new serves wanted keeps owes none turns = record { serves = serves; wanted = wanted; spares = spared old event result new keeps owes none; turns = turns }
+    IfErr result (λ code. code_number code ≡ memory_code event → WantsMemory old event) → KeepsSpares old new → OwesNone event → ((reply : Reply) → accepts event reply ≡ 0) → IsNoReceipt event → Performs old event result new
+carried old event result new serves wanted keeps owes none other = record {
+  serves = serves;
+  wanted = wanted;
+  spares = spared old event result new keeps owes none;
+  turns = other_turns old event (told_by result) new other;
+  takes = other_takes old event result new other serves;
+}
 
 -- a call that loses a right
 pub lost : (old : WorldView) (event : Event) (result : Result Reply Code) (new : WorldView) → Serves old event result new →
-    IfErr result (λ code. code_number code ≡ memory_code event → WantsMemory old event) → UsesSpares old new → ¬ (MayNeedSlots event) → KeepsTurns old event (told_by result) new → Performs old event result new
-lost old event result new serves wanted uses few turns = record { serves = serves; wanted = wanted; spares = used_spares old event result new uses few; turns = turns }
+    IfErr result (λ code. code_number code ≡ memory_code event → WantsMemory old event) → UsesSpares old new → ¬ (MayNeedSlots event) → IsNoReceipt event → Performs old event result new
+lost old event result new serves wanted uses few other = record {
+  serves = serves;
+  wanted = wanted;
+  spares = used_spares old event result new uses few;
+  turns = other_turns old event (told_by result) new other;
+  takes = other_takes old event result new other serves;
+}
 
 -- a call that hands a right on
 pub handed_on : (old : WorldView) (event : Event) (result : Result Reply Code) (new : WorldView) → Serves old event result new →
     IfErr result (λ code. code_number code ≡ memory_code event → WantsMemory old event) → MakesSlots old new → ((reply : Reply) → accepts event reply ≡ 0) →
-    ((s : State) (reply : Reply) → LosesNone s event reply) → OwesNone event → KeepsTurns old event (told_by result) new → Performs old event result new
-handed_on old event result new serves wanted keeps none loses owes turns = record { serves = serves; wanted = wanted; spares = handed_spares old event result new keeps none loses owes; turns = turns }
+    ((s : State) (reply : Reply) → LosesNone s event reply) → OwesNone event → IsNoReceipt event → Performs old event result new
+handed_on old event result new serves wanted keeps none loses owes other = record {
+  serves = serves;
+  wanted = wanted;
+  spares = handed_spares old event result new keeps none loses owes;
+  turns = other_turns old event (told_by result) new other;
+  takes = other_takes old event result new other serves;
+}
 
 -- a request for a notice
 asked_slots : (old : WorldView) (task name : ℕ) (a : Asked) (reply : Reply) (new : WorldView) (now : ℕ) (s : State) → Shows old s → IsUnusedOfAll old.ledger → IsUnusedOfAll new.ledger →
@@ -230,7 +249,8 @@ asked_spares old task name a (Err code) new l = record { rooms = l.rooms; slots 
 
 pub asked : (old : WorldView) (task name : ℕ) (a : Asked) (result : Result Reply Code) (new : WorldView) → Serves old (asks task name a) result new →
     IfErr result (λ code. code_number code ≡ kern_number ResourceShortage → WantsToRequest old task name a) → LeavesRequest old a result new → Performs old (asks task name a) result new
-asked old task name a result new serves wanted leaves = record { serves = serves; wanted = wanted; spares = asked_spares old task name a result new leaves; turns = tt }
+asked old task name a result new serves wanted leaves =
+    record { serves = serves; wanted = wanted; spares = asked_spares old task name a result new leaves; turns = tt; takes = other_takes old (asks task name a) result new tt serves }
 
 -- a refusal that leaves the tables
 refused_turns : (w : WorldView) (event : Event) (code : ℕ) → KeepsTurns w event (Reply.Code code) w
@@ -245,4 +265,5 @@ no_task w event declines = record {
   wanted = λ is. absurd ((code_apart event).1 (sym is));
   spares = refused_spares w event (Kern InvalidTask) w (keeps_refl w);
   turns = refused_turns w event (kern_number InvalidTask);
+  takes = tt;
 }

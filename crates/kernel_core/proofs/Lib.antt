@@ -6,6 +6,7 @@ mod Unused
 mod Ending
 mod Freed
 mod Stepping
+mod Taking
 mod Keeping
 mod Sparing
 mod Listed

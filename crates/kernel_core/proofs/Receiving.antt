@@ -1,7 +1,7 @@
 -- A receipt: where it takes from, and that it is refused in each state that the tables show, or done.
 use Rattle.std.proofs.Common.{◌≡◌, ℕ, zero, suc, ◌<◌, ◌≤◌, List, [], ◌∷◌, Some, None, refl, sym, ap, subst, ◌∙◌, ◌⊎◌, inl, inr, length, true, false, Bool, arith}
-use Rattle.std.specs.Prelude.{◌≢◌, is_some, min, Contains, MatchBool}
-use Rattle.std.specs.Option.{option_map, option_to_list}
+use Rattle.std.specs.Prelude.{◌≢◌, is_some, min, Contains, Option, MatchBool, MatchOption}
+use Rattle.std.specs.Option.{option_map, option_and_then, option_to_list}
 use Rattle.std.specs.FinMap as map
 use Rattle.mach_types.specs.declared.calls.Event.{Event}
 use Rattle.mach_types.specs.declared.calls.Reply.{Reply}
@@ -17,24 +17,26 @@ use Rattle.mach_model.specs.NameGuards.{NamesReceive, IsSet}
 use Rattle.mach_model.specs.Acts.{Does}
 use Rattle.mach_model.specs.ReceivedMeans.{message_length}
 use Rattle.mach_model.specs.Receive.{TakesFrom, IsEmptyFor, Receipt}
-use Rattle.mach_model.specs.Refusals.{again_guards, call_guards}
+use Rattle.mach_model.specs.Lawful.{IsLawful}
+use Rattle.mach_model.specs.Refusals.{again_guards, call_guards, guards}
 use Rattle.mach_model.specs.Machine.{Judged}
 use Rattle.mach_model.proofs.MessagesLawful.{Receives-removes}
-use Rattle.mach_model.proofs.StepLawful.{TakesFrom-live}
+use Rattle.mach_model.proofs.StepLawful.{TakesFrom-live, Does-mid}
+use Rattle.mach_laws.specs.Counts.{takes_from as messages_taken}
 use Rattle.name_space.specs.declared.Entry.{Entry}
 use Rattle.name_space.specs.declared.Entry.TheVariants as entry
 use Rattle.name_space.specs.Entry.{port_named, has_receive, receive_named, set_named}
 use Rattle.port.specs.Ports.{PortView}
 use Rattle.port.specs.declared.Attributes.{Attributes}
 use Rattle.port_set.specs.declared.SetRecord.{SetRecord}
-use Rattle.copyin_base.specs.Serving.{Completes, Declines, IsRefused, IsAllowed}
+use Rattle.copyin_base.specs.Serving.{IsDone, Declines, IsRefused, IsAllowed}
 use Rattle.copyin_base.specs.Changes.{MakesRoom, HasAttributes, SameButRoom}
 use Rattle.copyin_base.specs.Finds.{FindsReceive}
 use Rattle.copyin_base.specs.Kept.{Kept}
 use Rattle.copyin_base.specs.Shows.{target_of, Shows}
 use Rattle.copyin_base.specs.Stands.{Stands}
 use Rattle.copyin_base.specs.Worlds.{WorldView, entry_at, port_at, HasTask}
-use Rattle.copyin_base.proofs.Acting.{Leaves-so, refused, refused_later, none_left, makes_none, done_leaving}
+use Rattle.copyin_base.proofs.Acting.{tasks_live, refused, refused_later, none_left, makes_none}
 use Rattle.copyin_base.proofs.Told.{port_of, receive_has, unused, found, names_port, holds_receive, names_receive, not_receive, receive_lives, port_there, among_tasks}
 use Rattle.copyin_base.proofs.Gets.{seen}
 use Rattle.copyin_base.proofs.Roomier.{room_made, room_entry, room_shows}
@@ -47,7 +49,9 @@ use Rattle.copyout.proofs.FrontTaken.{message_received}
 use Rattle.notifications.specs.Destroying.{DestroysMessage, CanDestroy}
 use Rattle.notifications.proofs.MessageDestroyed.{can_destroy, message_destroyed}
 use Rattle.kernel_core.proofs.Freed.{destroyed_sends, front_same}
-use Rattle.kernel_core.specs.Receive.{named_guards, Sources, IsMember, IsAlone, IsOf, IsFrom, HasMessage, NoneWaits, ReceiptOf, IsReceipt, StaysFor}
+use Rattle.kernel_core.specs.InTurn.{IsFirst, source_of, source, TakesByTurn, CompletesInTurn}
+use Rattle.kernel_core.specs.Receive.{named_guards, Sources, IsMember, IsAlone, IsOf, IsFrom, HasMessage, NoneWaits, taken_by, ReceiptOf, IsReceipt, StaysFor, waited_at}
+use Rattle.kernel_core.proofs.Taking.{named_takes, again_takes, message_one, destroyed_one, source_first}
 use Rattle.kernel_core_base.proofs.Holding.{in_one, one_in, none_in, some_in, held_lives, one_true}
 use Rattle.transfer.proofs.Judged.{not_not}
 
@@ -288,11 +292,13 @@ module _ (w : WorldView) (task : ℕ) (below : HasTask w task) (waited : Waited)
   from s sh port f = takes_from w s sh task waited (good.allowed s sh) port f
 
   -- a receipt that leaves the tables
-  as_before : (now : ℕ) (large : Bool) (s : State) → Shows w s → (reply : Reply) → Receipt s task waited room large reply s [] → ReceiptOf now w s task waited room large reply w
-  as_before now large s sh reply receipt = record {
+  as_before : (now : ℕ) (large : Bool) (ready : Option ℕ) (s : State) → Shows w s → (reply : Reply) → taken_by large reply ≡ 0 → Receipt s task waited room large reply s [] →
+      ReceiptOf now w s task waited room large ready reply w
+  as_before now large ready s sh reply none receipt = record {
     mid = s;
     owed = [];
     receipt = receipt;
+    takes = λ one. absurd (omega (arith, none, one));
     agrees = sh.agrees;
     holders = sh.holders;
     carriers = sh.carriers;
@@ -303,14 +309,14 @@ module _ (w : WorldView) (task : ℕ) (below : HasTask w task) (waited : Waited)
     left = none_left w s sh.idle.none_lost (λ p o. let one = sh.lawful.one_receive p o.0 in let none = o.1 in omega (arith, one, none));
   }
 
-  pub receipt_empty : (large : Bool) → NoneWaits w waited → IsReceipt w task waited room large (Reply.Empty waited) w
-  receipt_empty large none = record { receipt = λ now s sh. as_before now large s sh (Reply.Empty waited) (refl, empty_for w s sh task waited none, refl, refl) }
+  pub receipt_empty : (large : Bool) (ready : Option ℕ) → NoneWaits w waited → IsReceipt w task waited room large ready (Reply.Empty waited) w
+  receipt_empty large ready none = record { receipt = λ now s sh. as_before now large ready s sh (Reply.Empty waited) refl (refl, empty_for w s sh task waited none, refl, refl) }
 
   module _ (port : ℕ) (f : IsFrom w waited port) where
-    pub receipt_message : (name : ℕ) → FindsReceive w task name port → (bytes : List ℕ) (number : ℕ) (start taken new : WorldView) → MakesRoom w task number start →
+    pub receipt_message : (ready : Option ℕ) → ready ≡ Some port → (name : ℕ) → FindsReceive w task name port → (bytes : List ℕ) (number : ℕ) (start taken new : WorldView) → MakesRoom w task number start →
         (t : TakesMessage start task port name bytes taken) → length t.takes.front.bytes ≤ min room most_bytes → NotesFront taken port t.takes.front new →
-        (large : Bool) → IsReceipt w task waited room large (Reply.Message bytes) new
-    receipt_message name finds bytes number start taken new mr t fits notes large = record {
+        (large : Bool) → IsReceipt w task waited room large ready (Reply.Message bytes) new
+    receipt_message ready is_ready name finds bytes number start taken new mr t fits notes large = record {
       receipt = λ now s sh.
           let same : SameButRoom w start = room_made w start task number mr in
           let at : entry_at start task name ≡ Some finds.entry = room_entry w start same task name ∙ finds.found in
@@ -319,6 +325,7 @@ module _ (w : WorldView) (task : ℕ) (below : HasTask w task) (waited : Waited)
             mid = x.t;
             owed = [];
             receipt = (port, from s sh port f, x.receives, refl);
+            takes = λ one. (port, is_ready, message_one s x.t task port room bytes sh.lawful (TakesFrom-live s sh.lawful task waited port (from s sh port f)) (live s sh) x.receives);
             agrees = x.agrees;
             holders = x.holders;
             carriers = x.carriers;
@@ -334,15 +341,16 @@ module _ (w : WorldView) (task : ℕ) (below : HasTask w task) (waited : Waited)
     }
 
     module _ (m : Kept) (h : HasFront w port m) where
-      pub receipt_too_large : (n : ℕ) → n ≡ length m.bytes → min room most_bytes < length m.bytes → IsReceipt w task waited room true (Reply.TooLarge n) w
-      receipt_too_large n is above = record {
-        receipt = λ now s sh. as_before now true s sh (Reply.TooLarge n)
+      pub receipt_too_large : (ready : Option ℕ) (n : ℕ) → n ≡ length m.bytes → min room most_bytes < length m.bytes → IsReceipt w task waited room true ready (Reply.TooLarge n) w
+      receipt_too_large ready n is above = record {
+        receipt = λ now s sh. as_before now true ready s sh (Reply.TooLarge n) refl
             (receipt_large w s sh task port (live s sh) h.v h.there m h.behind h.queue waited (from s sh port f) room n is (omega (arith, is, above)));
       }
 
       -- ... or is destroyed
-      pub receipt_lost : (n : ℕ) → n ≡ length m.bytes → min room most_bytes < length m.bytes → (new : WorldView) → DestroysMessage w port new → IsReceipt w task waited room false (Reply.TooLarge n) new
-      receipt_lost n is above new d = record {
+      pub receipt_lost : (ready : Option ℕ) → ready ≡ Some port → (n : ℕ) → n ≡ length m.bytes → min room most_bytes < length m.bytes → (new : WorldView) → DestroysMessage w port new →
+          IsReceipt w task waited room false ready (Reply.TooLarge n) new
+      receipt_lost ready is_ready n is above new d = record {
         receipt = λ now s sh.
             let x = message_destroyed w s sh now port new d in
             let front = shown_front w s sh.agrees port h.v h.there m h.behind h.queue in
@@ -352,6 +360,7 @@ module _ (w : WorldView) (task : ℕ) (below : HasTask w task) (waited : Waited)
               mid = x.mid;
               owed = x.owed;
               receipt = (port, x.e, from s sh port f, x.front, is ∙ sym long, omega (arith, is, above), x.destroys);
+              takes = λ one. (port, is_ready, destroyed_one s x.mid port x.e x.owed x.destroys);
               agrees = x.agrees;
               holders = x.holders;
               carriers = x.carriers;
@@ -363,10 +372,10 @@ module _ (w : WorldView) (task : ℕ) (below : HasTask w task) (waited : Waited)
             };
       }
 
-      pub large_ended : (large : Bool) (n : ℕ) → n ≡ length m.bytes → min room most_bytes < length m.bytes → (new : WorldView) → MatchBool large (new ≡ w) (DestroysMessage w port new) →
-          IsReceipt w task waited room large (Reply.TooLarge n) new
-      large_ended true n is above new same = subst (IsReceipt w task waited room true (Reply.TooLarge n)) (sym same) (receipt_too_large n is above)
-      large_ended false n is above new d = receipt_lost n is above new d
+      pub large_ended : (ready : Option ℕ) → ready ≡ Some port → (large : Bool) (n : ℕ) → n ≡ length m.bytes → min room most_bytes < length m.bytes → (new : WorldView) →
+          MatchBool large (new ≡ w) (DestroysMessage w port new) → IsReceipt w task waited room large ready (Reply.TooLarge n) new
+      large_ended ready is_ready true n is above new same = subst (IsReceipt w task waited room true ready (Reply.TooLarge n)) (sym same) (receipt_too_large ready n is above)
+      large_ended ready is_ready false n is above new d = receipt_lost ready is_ready n is above new d
 
       pub stays_for_names : length m.bytes ≤ min room most_bytes → LackNames w task (carried_by m) → StaysFor w task waited room (msg_number ReceiveBodyErrorNames)
       stays_for_names fits lack = record { refuses = λ s sh. refuses_names w s sh task port (live s sh) h.v h.there m h.behind h.queue waited (from s sh port f) room fits lack }
@@ -376,24 +385,33 @@ module _ (w : WorldView) (task : ℕ) (below : HasTask w task) (waited : Waited)
 
 -- ---- the calls
 
--- a call whose own part is this receipt
-does_receipt : {task room : ℕ} {waited : Waited} {large : Bool} (w : WorldView) (event : Event) (reply : Reply) (new : WorldView) (now : ℕ) (s : State) →
-    (y : ReceiptOf now w s task waited room large reply new) → (does : Does now s event reply y.mid y.owed) → Judged now s event reply y.mid y.owed does →
-    Leaves-so w event reply new now s
-does_receipt w event reply new now s y does judged = record {
-  mid = y.mid;
-  owed = y.owed;
-  does = does;
-  judged = judged;
-  agrees = y.agrees;
-  holders = y.holders;
-  carriers = y.carriers;
-  slots = y.slots;
-  requested = y.requested;
-  notes = y.notes;
-  makes = y.makes;
-  left = y.left;
-}
+-- a call whose own part is this receipt, from the port that is ready
+does_receipt : {task room : ℕ} {waited : Waited} {large : Bool} {ready : Option ℕ} (w : WorldView) (event : Event) (reply : Reply) (new : WorldView) (now : ℕ) (s : State) → IsLawful s → NoneHolds (guards s event) →
+    (y : ReceiptOf now w s task waited room large ready reply new) → (does : Does now s event reply y.mid y.owed) → Judged now s event reply y.mid y.owed does →
+    messages_taken event reply ≡ taken_by large reply → ((port : ℕ) → ready ≡ Some port → source w event ≡ Some port) → (done : IsDone now w s event reply new) × TakesByTurn w event reply s done.mid
+does_receipt w event reply new now s l unrefused y does judged takes from = (
+  record {
+    unrefused = unrefused;
+    mid = y.mid;
+    owed = y.owed;
+    does = does;
+    judged = judged;
+    shows = record {
+      agrees = y.agrees;
+      holders = y.holders;
+      carriers = y.carriers;
+      slots = y.slots;
+      requested = y.requested;
+      notes = y.notes;
+      makes = y.makes;
+      left = y.left;
+      lawful = Does-mid now s event reply y.mid y.owed unrefused does judged l;
+    };
+  },
+  λ one.
+      let x = y.takes (sym takes ∙ one) in
+      (x.0, from x.0 x.1, x.2),
+)
 
 module _ (w : WorldView) (task room : ℕ) (large : Bool) (below : HasTask w task) where
   module _ (name : ℕ) where
@@ -407,9 +425,15 @@ module _ (w : WorldView) (task room : ℕ) (large : Bool) (below : HasTask w tas
       pub named_stays : (code : ℕ) → StaysFor w task waited room code → Declines w (Event.Receive task name room large) code w
       named_stays code r = refused_later w (Event.Receive task name room large) below code good (λ s sh. (waited, x.waits s sh, r.refuses s sh))
 
-      pub named_received : (reply : Reply) (new : WorldView) → IsReceipt w task waited room large reply new → Completes w (Event.Receive task name room large) reply new
-      named_received reply new r = done_leaving w (Event.Receive task name room large) reply new below good (λ now s sh.
-          let y = r.receipt now s sh in does_receipt w (Event.Receive task name room large) reply new now s y (waited, x.waits s sh, y.receipt) tt)
+      pub named_received : (ready : Option ℕ) (reply : Reply) (new : WorldView) → option_and_then waited_at (entry_at w task name) ≡ Some waited → IsFirst w waited ready →
+          MatchOption ready (NoneWaits w waited) (HasMessage w waited) → IsReceipt w task waited room large ready reply new → CompletesInTurn w (Event.Receive task name room large) reply new
+      named_received ready reply new named first has r = record {
+        acts = λ now s sh.
+            let event : Event = Event.Receive task name room large in
+            let y = r.receipt now s sh in
+            does_receipt w event reply new now s sh.lawful (tasks_live w s sh.agrees event below, good.allowed s sh) y (waited, x.waits s sh, y.receipt) tt
+            (named_takes task name room large reply) (λ port is. ap (option_and_then (source_of w)) named ∙ source_first w waited ready port first has is);
+      }
 
   module _ (waited : Waited) where
     pub again_declined : (code : ℕ) → IsRefused w (λ s. again_guards s task waited) code → Declines w (Event.ReceiveAgain task waited room large) code w
@@ -419,6 +443,12 @@ module _ (w : WorldView) (task room : ℕ) (large : Bool) (below : HasTask w tas
       pub again_stays : (code : ℕ) → StaysFor w task waited room code → Declines w (Event.ReceiveAgain task waited room large) code w
       again_stays code r = refused_later w (Event.ReceiveAgain task waited room large) below code record { allowed = λ s sh. good.allowed s sh } (λ s sh. r.refuses s sh)
 
-      pub again_received : (reply : Reply) (new : WorldView) → IsReceipt w task waited room large reply new → Completes w (Event.ReceiveAgain task waited room large) reply new
-      again_received reply new r = done_leaving w (Event.ReceiveAgain task waited room large) reply new below record { allowed = λ s sh. good.allowed s sh } (λ now s sh.
-          let y = r.receipt now s sh in does_receipt w (Event.ReceiveAgain task waited room large) reply new now s y y.receipt tt)
+      pub again_received : (ready : Option ℕ) (reply : Reply) (new : WorldView) → IsFirst w waited ready → MatchOption ready (NoneWaits w waited) (HasMessage w waited) →
+          IsReceipt w task waited room large ready reply new → CompletesInTurn w (Event.ReceiveAgain task waited room large) reply new
+      again_received ready reply new first has r = record {
+        acts = λ now s sh.
+            let event : Event = Event.ReceiveAgain task waited room large in
+            let y = r.receipt now s sh in
+            does_receipt w event reply new now s sh.lawful (tasks_live w s sh.agrees event below, good.allowed s sh) y y.receipt tt (again_takes task waited room large reply)
+            (λ port is. source_first w waited ready port first has is);
+      }

@@ -28,6 +28,7 @@ use Rattle.notifications.specs.Destroying.{DestroysMessage}
 use Rattle.kernel_core.specs.Receive.{named_guards, taken_by, FreesSlot}
 use Rattle.kernel_core.specs.Wanted.{LeavesSpares}
 use Rattle.kernel_core.proofs.Freed.{destroyed_frees}
+use Rattle.kernel_core.proofs.Taking.{named_takes, again_takes}
 use Rattle.kernel_core.proofs.Unused.{shown_unused, midway_unused}
 
 -- ---- a receipt
@@ -109,19 +110,9 @@ freed_spares old event large reply new task room f none taken does = record {
 pub named_spares : (old : WorldView) (task name room : ℕ) (large : Bool) (reply : Reply) (new : WorldView) → FreesSlot old large reply new →
     LeavesSpares old (Event.Receive task name room large) (Ok reply) new
 named_spares old task name room large reply new f =
-    freed_spares old (Event.Receive task name room large) large reply new task room f refl (takes reply) (λ now s mid owed d. (d.0, d.2))
-  where
-    takes : (r : Reply) → takes_from (Event.Receive task name room large) r ≡ taken_by large r
-    takes (Reply.Message bytes) = refl
-    takes (Reply.TooLarge n) = refl
-    takes r = refl
+    freed_spares old (Event.Receive task name room large) large reply new task room f refl (named_takes task name room large reply) (λ now s mid owed d. (d.0, d.2))
 
 pub again_spares : (old : WorldView) (task : ℕ) (waited : Waited) (room : ℕ) (large : Bool) (reply : Reply) (new : WorldView) → FreesSlot old large reply new →
     LeavesSpares old (Event.ReceiveAgain task waited room large) (Ok reply) new
 again_spares old task waited room large reply new f =
-    freed_spares old (Event.ReceiveAgain task waited room large) large reply new task room f refl (takes reply) (λ now s mid owed d. (waited, d))
-  where
-    takes : (r : Reply) → takes_from (Event.ReceiveAgain task waited room large) r ≡ taken_by large r
-    takes (Reply.Message bytes) = refl
-    takes (Reply.TooLarge n) = refl
-    takes r = refl
+    freed_spares old (Event.ReceiveAgain task waited room large) large reply new task room f refl (again_takes task waited room large reply) (λ now s mid owed d. (waited, d))

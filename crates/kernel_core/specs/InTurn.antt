@@ -1,18 +1,21 @@
 -- From which member of a set a receipt takes, and what becomes of the turns.
-use Rattle.std.specs.Prelude.{◌≡◌, ℕ, Bool, true, false, List, [], ◌∷◌, ◌++◌, Option, Some, Result, Ok, Err, All, slice_get, ◌⊎◌}
+use Rattle.std.specs.Prelude.{◌≡◌, ℕ, Bool, true, false, List, [], ◌∷◌, ◌++◌, Option, Some, None, Result, Ok, Err, All, slice_get, ◌⊎◌}
 use Rattle.std.specs.Option.{option_and_then, option_map}
 use Rattle.mach_types.specs.declared.calls.Event.{Event}
 use Rattle.mach_types.specs.declared.calls.Reply.{Reply}
 use Rattle.mach_types.specs.declared.calls.Waited.{Waited}
+use Rattle.mach_model.specs.State.{State}
+use Rattle.mach_laws.specs.Counts.{takes_from}
 use Rattle.member_lists.specs.Lists.{without}
 use Rattle.port.specs.Ports.{PortView}
 use Rattle.port.specs.Turns.{turns_of, with_turns}
 use Rattle.copyin_base.specs.declared.code.Code.{Code}
-use Rattle.copyin_base.specs.Serving.{code_number, Completes}
+use Rattle.copyin_base.specs.Serving.{code_number, Completes, IsDone}
 use Rattle.copyin_base.specs.Kept.{Kept}
+use Rattle.copyin_base.specs.Shows.{Shows}
 use Rattle.copyin_base.specs.Worlds.{WorldView, entry_at, port_at}
 use Rattle.destroy.specs.Stages.{SettlesIn}
-use Rattle.kernel_core.specs.Receive.{waited_at}
+use Rattle.kernel_core.specs.Receive.{waited_at, TakesOne}
 
 -- the members of the set that have messages, in their turns
 abbrev pub in_turn : WorldView → (set : ℕ) → List ℕ
@@ -68,6 +71,28 @@ KeepsTurns old (Event.Receive task name room large) reply new =
 KeepsTurns old (Event.ReceiveAgain task waited room large) (Reply.Code code) new = new ≡ old
 KeepsTurns old (Event.ReceiveAgain task waited room large) reply new = TakesInTurn old waited large reply new
 KeepsTurns old event reply new = Unit {0}
+
+-- ---- the state that goes with it
+
+-- the port that a receipt takes from: of a set, the member whose turn it is
+abbrev pub source_of : WorldView → Waited → Option ℕ
+source_of w (Waited.Port p) = Some p
+source_of w (Waited.Set set) = slice_get (in_turn w set) 0
+
+abbrev pub source : WorldView → Event → Option ℕ
+source w (Event.Receive task name room large) = option_and_then (source_of w) (option_and_then waited_at (entry_at w task name))
+source w (Event.ReceiveAgain task waited room large) = source_of w waited
+source w event = None
+
+-- An event that takes a message, gives it or destroys it as too long, takes the one in front of its source.
+abbrev pub TakesByTurn : (old : WorldView) → Event → Reply → (s t : State) → Type 0
+TakesByTurn old event reply s t = takes_from event reply ≡ 1 → (port : ℕ) × (source old event ≡ Some port) × TakesOne s t port
+
+-- The event is done in each state that the tables show before, and takes its message so.
+pub record CompletesInTurn (old : WorldView) (event : Event) (reply : Reply) (new : WorldView) : Type 0 where
+  pub acts : (now : ℕ) (s : State) → Shows old s → (done : IsDone now old s event reply new) × TakesByTurn old event reply s done.mid
+
+-- ---- a step
 
 -- what a call is answered by
 abbrev pub told_by : Result Reply Code → Reply

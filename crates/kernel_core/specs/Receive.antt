@@ -65,13 +65,25 @@ NoneWaits w waited = (p : ℕ) (v : PortView Kept) → port_at w p ≡ Some v �
 
 -- ---- what becomes of it, in each state that the tables show
 
+-- The message in front of this port was taken, and no other.
+pub record TakesOne (s t : State) (port : ℕ) : Type 0 where
+  pub next : t.taken port ≡ s.taken port + 1
+  pub others : (p : ℕ) → p ≢ port → t.taken p ≡ s.taken p
+
+-- how many messages such an answer takes from a queue
+abbrev pub taken_by : (large : Bool) → Reply → ℕ
+taken_by large (Reply.Message bytes) = 1
+taken_by large (Reply.TooLarge n) = if large then 0 else 1
+taken_by large reply = 0
+
 -- A receipt of the machine, after which the tables agree with its state, where what it owes was posted, each port knows who holds its receive
 -- right, slots suffice, each request stands on what is there, a port that lost its last send right is noted, one that lost its receive right is
--- left to the step's end, and then no port has more send rights; old are the tables before.
-pub record ReceiptOf (now : ℕ) (old : WorldView) (s : State) (task : ℕ) (waited : Waited) (room : ℕ) (large : Bool) (reply : Reply) (new : WorldView) : Type 0 where
+-- left to the step's end, and then no port has more send rights; old are the tables before. A message that it takes is this port's.
+pub record ReceiptOf (now : ℕ) (old : WorldView) (s : State) (task : ℕ) (waited : Waited) (room : ℕ) (large : Bool) (from : Option ℕ) (reply : Reply) (new : WorldView) : Type 0 where
   pub mid : State
   pub owed : Owed
   pub receipt : Receipt s task waited room large reply mid owed
+  pub takes : taken_by large reply ≡ 1 → (port : ℕ) × (from ≡ Some port) × TakesOne s mid port
   pub agrees : Agrees new (with_posted now mid owed)
   pub holders : HoldersAgree new
   pub carriers : CarriersAgree new
@@ -82,14 +94,8 @@ pub record ReceiptOf (now : ℕ) (old : WorldView) (s : State) (task : ℕ) (wai
   pub left : IsLeft new mid
 
 -- It is answered so.
-pub record IsReceipt (old : WorldView) (task : ℕ) (waited : Waited) (room : ℕ) (large : Bool) (reply : Reply) (new : WorldView) : Type 0 where
-  pub receipt : (now : ℕ) (s : State) → Shows old s → ReceiptOf now old s task waited room large reply new
-
--- how many messages such an answer takes from a queue
-abbrev pub taken_by : (large : Bool) → Reply → ℕ
-taken_by large (Reply.Message bytes) = 1
-taken_by large (Reply.TooLarge n) = if large then 0 else 1
-taken_by large reply = 0
+pub record IsReceipt (old : WorldView) (task : ℕ) (waited : Waited) (room : ℕ) (large : Bool) (from : Option ℕ) (reply : Reply) (new : WorldView) : Type 0 where
+  pub receipt : (now : ℕ) (s : State) → Shows old s → ReceiptOf now old s task waited room large from reply new
 
 -- Room for names grows by one at most, from none. The slot of a message that is taken is spare again, and a spare slot goes with each send-once right
 -- that was unused and is no more: in it lies the notice for which the right pays.

@@ -11,6 +11,7 @@ use Rattle.copyin_base.specs.Worlds.{WorldView, IsIdle}
 use Rattle.kernel_change.specs.declared.change.Change.{Change}
 use Rattle.kernel_change.specs.Changing.{by_send, Changes}
 use Rattle.copyin.specs.declared.judge.Plan.{Plan}
+use Rattle.kernel_core.specs.InTurn.{TakesByTurn}
 use Rattle.kernel_core.specs.Send.{GoesTo, TellsSent}
 
 -- ---- what is told
@@ -36,7 +37,8 @@ pub record EndsIdle (w : WorldView) (told ends : Change) (new : WorldView) : Typ
 
 -- ---- what a step promises of it
 
--- From each state that the tables show before, a step of the machine with this event and reply leads to one that they show after, and changes what is
--- covered alone.
+-- From each state that the tables show before, a step of the machine with this event and reply leads to one that they show after. It changes what is
+-- covered alone, and takes its message by turn.
 abbrev pub Touches : (old : WorldView) → Event → Reply → (new : WorldView) → Touched → Type 0
-Touches old event reply new touched = (now : ℕ) (s : State) → Shows old s → (t : State) × Step now s event reply t × Shows new t × TouchesOnly s t touched
+Touches old event reply new touched = (now : ℕ) (s : State) → Shows old s →
+    (t : State) × Step now s event reply t × Shows new t × TouchesOnly s t touched × TakesByTurn old event reply s t

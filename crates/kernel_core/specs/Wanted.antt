@@ -1,5 +1,5 @@
 -- Where a step may want memory, and what it keeps for names and messages to come.
-use Rattle.std.specs.Prelude.{◌≡◌, ℕ, ◌+◌, ◌≤◌, ◌⊎◌, max, [], length, Some, Result, Ok, Err, IfErr}
+use Rattle.std.specs.Prelude.{◌≡◌, ℕ, ◌+◌, ◌≤◌, ◌⊎◌, max, [], length, Some, Result, Ok, Err, IfOk, IfErr}
 use Rattle.std.specs.Option.{option_and_then}
 use Rattle.mach_types.specs.declared.calls.Event.{Event}
 use Rattle.mach_types.specs.declared.calls.Reply.{Reply}
@@ -21,7 +21,7 @@ use Rattle.copyout.specs.Wanted.{WantsToReceive}
 use Rattle.transfer.specs.Wanted.{WantsToInsert, WantsToExtract}
 use Rattle.notifications.specs.Wanted.{WantsToRequest}
 use Rattle.kernel_core_base.specs.Wanted.{MayLackMemory}
-use Rattle.kernel_core.specs.InTurn.{KeepsTurns, told_by}
+use Rattle.kernel_core.specs.InTurn.{KeepsTurns, CompletesInTurn, told_by}
 use Rattle.kernel_core.specs.Receive.{HasMessage, waited_at}
 
 -- ---- want of memory
@@ -83,9 +83,11 @@ pub record LeavesSpares (old : WorldView) (event : Event) (result : Result Reply
   pub rooms : (task : ℕ) → room_of new task ≤ max (room_of old task) 1
   pub slots : LeavesSlots old event result new
 
--- The call's part of a step is done or refused as the machine says, wants and leaves no more than that, and keeps the turns of a set's members.
+-- The call's part of a step is done or refused as the machine says, wants and leaves no more than that, keeps the turns of a set's members, and takes
+-- its message by turn.
 pub record Performs (old : WorldView) (event : Event) (result : Result Reply Code) (new : WorldView) : Type 0 where
   pub serves : Serves old event result new
   pub wanted : IfErr result (λ code. code_number code ≡ memory_code event → WantsMemory old event)
   pub spares : LeavesSpares old event result new
   pub turns : KeepsTurns old event (told_by result) new
+  pub takes : IfOk result (λ reply. CompletesInTurn old event reply new)

@@ -11,7 +11,7 @@ ghost use Rattle.copyin_base.specs.Finds.{FindsReceive};
 ghost use Rattle.copyin_base.specs.Stands.{Stands};
 ghost use Rattle.copyin_base.specs.Worlds.{entry_at, port_at, HasTask};
 ghost use Rattle.kernel_change.specs.Changing.{by_receipt};
-ghost use Rattle.kernel_core.specs.InTurn.{IsFirst, TakesInTurn, KeepsTurns, told_by};
+ghost use Rattle.kernel_core.specs.InTurn.{IsFirst, TakesInTurn, KeepsTurns, CompletesInTurn, told_by};
 ghost use Rattle.kernel_core.specs.Receive.{named_guards, Sources, IsFrom, IsMember, IsAlone, HasMessage, NoneWaits, IsReceipt, StaysFor, waited_at, FreesSlot};
 ghost use Rattle.kernel_core.specs.Wanted.{WantsToTake, WantsMemory, LeavesSpares};
 ghost use Rattle.notifications.specs.Destroying.{CanDestroy, DestroysMessage};
@@ -64,6 +64,7 @@ pub(crate) fn receive(
     ensures spares { LeavesSpares world.old (AnyEvent.Receive task name buffer.room buffer.large) result world.new }
     ensures tells { IfOk result (λ reply. told.new ≡ by_receipt task buffer.large reply) }
     ensures turns { KeepsTurns world.old (AnyEvent.Receive task name buffer.room buffer.large) (told_by result) world.new }
+    ensures takes { IfOk result (λ reply. CompletesInTurn world.old (AnyEvent.Receive task name buffer.room buffer.large) reply world.new) }
 {
     let Source { waited, ready } = find_source(world, task, name)?;
     let name = known_name(&waited, name);
@@ -101,6 +102,7 @@ pub(crate) fn receive_again(
     ensures spares { LeavesSpares world.old (AnyEvent.ReceiveAgain task waited buffer.room buffer.large) result world.new }
     ensures tells { IfOk result (λ reply. told.new ≡ by_receipt task buffer.large reply) }
     ensures turns { KeepsTurns world.old (AnyEvent.ReceiveAgain task waited buffer.room buffer.large) (told_by result) world.new }
+    ensures takes { IfOk result (λ reply. CompletesInTurn world.old (AnyEvent.ReceiveAgain task waited buffer.room buffer.large) reply world.new) }
 {
     judge_again(world, task, &waited)?;
     let ready = ready(world, &waited);
@@ -280,7 +282,7 @@ fn take(
     requires known { IfSome origin.name (λ name. (port : ℕ) → IsFrom world.old origin.waited port → FindsReceive world.old task name port) }
     requires ready { MatchOption origin.ready (NoneWaits world.old origin.waited) (HasMessage world.old origin.waited) }
     requires first { IsFirst world.old origin.waited origin.ready }
-    ensures ok { IfOk result (λ reply. IsReceipt world.old task origin.waited buffer.room buffer.large reply world.new) }
+    ensures ok { IfOk result (λ reply. IsReceipt world.old task origin.waited buffer.room buffer.large origin.ready reply world.new) }
     ensures err { IfErr result (λ code. (world.new ≡ world.old) × StaysFor world.old task origin.waited buffer.room (msg_number code)) }
     ensures wanted { IfErr result (λ code. msg_number code ≡ msg_number msg.ReceiveBodyErrorMemory → WantsToTake world.old task origin.waited) }
     ensures spares { IfOk result (λ reply. FreesSlot world.old buffer.large reply world.new) }

@@ -5,6 +5,7 @@ use Rattle.copyin_base.proofs.Spares.{keeps_refl}
 use Rattle.kernel_core_base.proofs.Refused.{takes_none}
 use Rattle.kernel_core.proofs.Changed.{on_ok}
 use Rattle.kernel_core.proofs.Keeping.{always_wants, sent_spares, carried, lost, handed_on, asked}
+use Rattle.kernel_core.proofs.Taking.{other_takes}
 use Rattle.kernel_core.proofs.kernel.serve.Goals as goal
 
 pub returns-in-TaskCreate-clause-performs : goal.returns-in-TaskCreate-clause-performs
@@ -79,17 +80,17 @@ returns-in-RequestNotification-clause-performs c =
 pub returns-in-Send-clause-performs : goal.returns-in-Send-clause-performs
 returns-in-Send-clause-performs c =
     let x = c.send.ensures in
-    rw c.in-Send.is (record { serves = x.serves; wanted = x.wanted; spares = sent_spares _ _ _ _ _ x.sent x.refused; turns = tt })
+    rw c.in-Send.is (record { serves = x.serves; wanted = x.wanted; spares = sent_spares _ _ _ _ _ x.sent x.refused; turns = tt; takes = other_takes _ _ _ _ tt x.serves })
 
 pub returns-in-Receive-clause-performs : goal.returns-in-Receive-clause-performs
 returns-in-Receive-clause-performs c =
     let x = rw c.new-in-Receive.ensures at c.receive.ensures in
-    rw c.in-Receive.is (record { serves = x.serves; wanted = x.wanted; spares = x.spares; turns = x.turns })
+    rw c.in-Receive.is (record { serves = x.serves; wanted = x.wanted; spares = x.spares; turns = x.turns; takes = x.takes })
 
 pub returns-in-ReceiveAgain-clause-performs : goal.returns-in-ReceiveAgain-clause-performs
 returns-in-ReceiveAgain-clause-performs c =
     let x = rw c.new-in-ReceiveAgain.ensures at c.receive_again.ensures in
-    rw c.in-ReceiveAgain.is (record { serves = x.serves; wanted = x.wanted; spares = x.spares; turns = x.turns })
+    rw c.in-ReceiveAgain.is (record { serves = x.serves; wanted = x.wanted; spares = x.spares; turns = x.turns; takes = x.takes })
 
 pub returns-in-TaskCreate-clause-tells : goal.returns-in-TaskCreate-clause-tells
 returns-in-TaskCreate-clause-tells c = rw c.in-TaskCreate.is (on_ok _ (λ reply. c.requires.nothing))

@@ -6,14 +6,20 @@ use Rattle.kernel_core.proofs.InTurn.{named_turns}
 use Rattle.kernel_core.proofs.Named.{known_named}
 use Rattle.kernel_core.proofs.Receiving.{named_declined, named_stays, named_received}
 use Rattle.kernel_core.proofs.Sparing.{not_short_named, named_spares}
+use Rattle.kernel_core.proofs.Taking.{completes}
 use Rattle.kernel_core.proofs.receive.receive.Goals as goal
 
 pub take-requires-clause-known : goal.take-requires-clause-known
 take-requires-clause-known c =
     known_named c.args.world.now c.args.task c.args.name c.in_ok-waited.field-0.waited c.known_name-name.result c.in_ok-waited.ensures.found c.known_name-name.ensures
 
+pub returns-clause-takes : goal.returns-clause-takes
+returns-clause-takes c =
+    named_received c.args.world.now c.args.task c.args.buffer.room c.args.buffer.large c.requires.there c.args.name c.in_ok-waited.field-0.waited c.in_ok-waited.ensures.ok c.in_ok-waited.field-0.ready c.in_ok-reply.reply c.take.new.world
+    c.in_ok-waited.ensures.found c.in_ok-waited.ensures.first c.in_ok-waited.ensures.ready c.in_ok-reply.ensures.ok
+
 pub returns-clause-serves : goal.returns-clause-serves
-returns-clause-serves c = named_received c.args.world.now c.args.task c.args.buffer.room c.args.buffer.large c.requires.there c.args.name c.in_ok-waited.field-0.waited c.in_ok-waited.ensures.ok c.in_ok-reply.reply c.take.new.world c.in_ok-reply.ensures.ok
+returns-clause-serves c = completes _ _ _ _ (returns-clause-takes c)
 
 pub returns-clause-spares : goal.returns-clause-spares
 returns-clause-spares c = named_spares c.args.world.now c.args.task c.args.name c.args.buffer.room c.args.buffer.large c.in_ok-reply.reply c.take.new.world c.in_ok-reply.ensures.spares

@@ -5,6 +5,7 @@ use Rattle.kernel_core.proofs.Keeping.{refused_spares}
 use Rattle.kernel_core.proofs.InTurn.{again_turns}
 use Rattle.kernel_core.proofs.Receiving.{again_received}
 use Rattle.kernel_core.proofs.Sparing.{not_short_again, again_spares}
+use Rattle.kernel_core.proofs.Taking.{completes}
 use Rattle.kernel_core.proofs.receive.receive_again.Goals as goal
 
 pub returns-in_err-judge_again-clause-wanted : goal.returns-in_err-judge_again-clause-wanted
@@ -17,8 +18,13 @@ returns-in_err-judge_again-clause-spares c =
     let p = err_from_is_err_and c.from_residual.result c.from_residual.ensures.1 in
     rw (p.1, p.2) (refused_spares _ _ _ _ (keeps_same c.args.world.now c.args.world.now refl))
 
+pub returns-clause-takes : goal.returns-clause-takes
+returns-clause-takes c =
+    again_received c.args.world.now c.args.task c.args.buffer.room c.args.buffer.large c.requires.there c.args.waited c.in_ok-judge_again.ensures.ok c.ready-ready.result c.in_ok-reply.reply c.take.new.world
+    c.ready-ready.ensures.first c.ready-ready.ensures.ready c.in_ok-reply.ensures.ok
+
 pub returns-clause-serves : goal.returns-clause-serves
-returns-clause-serves c = again_received c.args.world.now c.args.task c.args.buffer.room c.args.buffer.large c.requires.there c.args.waited c.in_ok-judge_again.ensures.ok c.in_ok-reply.reply c.take.new.world c.in_ok-reply.ensures.ok
+returns-clause-serves c = completes _ _ _ _ (returns-clause-takes c)
 
 pub returns-clause-spares : goal.returns-clause-spares
 returns-clause-spares c = again_spares c.args.world.now c.args.task c.args.waited c.args.buffer.room c.args.buffer.large c.in_ok-reply.reply c.take.new.world c.in_ok-reply.ensures.spares

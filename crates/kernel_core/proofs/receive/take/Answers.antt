@@ -11,7 +11,7 @@ use Rattle.kernel_core.proofs.Sparing.{one_freed, large_freed}
 use Rattle.kernel_core.proofs.receive.take.Goals as goal
 
 pub returns-in_default-clause-ok : goal.returns-in_default-clause-ok
-returns-in_default-clause-ok c = receipt_empty c.args.world.now c.args.task c.requires.there c.args.origin.waited c.requires.may c.args.buffer.room c.args.buffer.large (ready_none c.args.world.now c.args.origin.waited c.args.origin.ready c.in_default.is c.requires.ready)
+returns-in_default-clause-ok c = receipt_empty c.args.world.now c.args.task c.requires.there c.args.origin.waited c.requires.may c.args.buffer.room c.args.buffer.large c.args.origin.ready (ready_none c.args.world.now c.args.origin.waited c.args.origin.ready c.in_default.is c.requires.ready)
 
 pub name_of-name-requires-clause-has : goal.name_of-name-requires-clause-has
 name_of-name-requires-clause-has c = message_finds c.args.world.now c.requires.stands c.args.task c.in-Some.port c.args.origin.waited c.requires.may (ready_one c.args.world.now c.args.origin.waited c.args.origin.ready c.in-Some.port c.in-Some.is c.requires.ready)
@@ -25,7 +25,7 @@ receive-requires-clause-waits c = message_waits c.args.world.now c.requires.stan
 pub returns-in-Ok-clause-ok : goal.returns-in-Ok-clause-ok
 returns-in-Ok-clause-ok c =
     let x = c.in-Ok.ensures.ok in
-    receipt_message c.args.world.now c.args.task c.requires.there c.args.origin.waited c.requires.may c.args.buffer.room c.in-Some.port (ready_one c.args.world.now c.args.origin.waited c.args.origin.ready c.in-Some.port c.in-Some.is c.requires.ready).from c.name_of-name.result c.name_of-name.ensures
+    receipt_message c.args.world.now c.args.task c.requires.there c.args.origin.waited c.requires.may c.args.buffer.room c.in-Some.port (ready_one c.args.world.now c.args.origin.waited c.args.origin.ready c.in-Some.port c.in-Some.is c.requires.ready).from c.args.origin.ready c.in-Some.is c.name_of-name.result c.name_of-name.ensures
     c.in-Ok.bytes x.0 x.1 x.2 c.receive.new.world x.3 x.4 x.5 x.6 c.args.buffer.large
 
 pub returns-in-Err-Names-clause-err : goal.returns-in-Err-Names-clause-err
@@ -56,7 +56,7 @@ pub returns-in-Err-TooLarge-clause-ok : goal.returns-in-Err-TooLarge-clause-ok
 returns-in-Err-TooLarge-clause-ok c =
     let x = rw c.in-Err-TooLarge.field-0-is at c.in-Err-TooLarge.ensures.err in
     let new = c.lose_or_keep.new.world in
-    large_ended c.args.world.now c.args.task c.requires.there c.args.origin.waited c.requires.may c.args.buffer.room c.in-Some.port (ready_one c.args.world.now c.args.origin.waited c.args.origin.ready c.in-Some.port c.in-Some.is c.requires.ready).from x.1 x.2 c.args.buffer.large c.in-Err-TooLarge.length x.3.0 x.3.1 new
+    large_ended c.args.world.now c.args.task c.requires.there c.args.origin.waited c.requires.may c.args.buffer.room c.in-Some.port (ready_one c.args.world.now c.args.origin.waited c.args.origin.ready c.in-Some.port c.in-Some.is c.requires.ready).from x.1 x.2 c.args.origin.ready c.in-Some.is c.args.buffer.large c.in-Err-TooLarge.length x.3.0 x.3.1 new
     (subst (λ (v : WorldView). MatchBool c.args.buffer.large (new ≡ v) (DestroysMessage v c.in-Some.port new)) x.0 c.lose_or_keep.ensures)
 
 pub returns-in-Err-TooLarge-clause-spares : goal.returns-in-Err-TooLarge-clause-spares

@@ -85,4 +85,4 @@ returns-in-Ok-clause-touches c =
     let same : c.self.inside.world ≡ c.args.self.now.tables = ap (λ (k : KernelView). k.tables) c.self.view_is in
     let e = c.end_step-turns.ensures in
     subst (λ (w : WorldView). Touches w c.args.event.now c.in-Ok.reply c.end_step-turns.new.world (touched_by c.end_step-turns.new.world c.end_step-turns.new.told)) same
-    (touched_after _ _ _ _ _ _ c.in-Ok.ensures.performs.serves e.settles c.act.new.told c.end_step-turns.new.told c.in-Ok.ensures.tells e.change)
+    (touched_after _ _ _ _ _ _ c.in-Ok.ensures.performs.takes e.settles c.act.new.told c.end_step-turns.new.told c.in-Ok.ensures.tells e.change)
