@@ -1,8 +1,7 @@
 //! Draws the lines from names and messages to ports.
 use crate::paint::Painter;
-use crate::places::{PORT_LEFT, PORT_WIDTH, TASK_LEFT, TASK_WIDTH, at};
-use crate::scene::Spot;
-use crate::thing::{Frame, Row, Thing, Tied};
+use crate::places::{PORT_LEFT, TASK_LEFT, TASK_WIDTH, at};
+use mach_scene_base::{Frame, PORT_WIDTH, Row, Spot, Thing, Tied};
 use mach_xml::{Drawing, Point, Size};
 
 impl<'a> Painter<'a> {
@@ -21,9 +20,9 @@ impl<'a> Painter<'a> {
 
     /// Returns the top of the port of this identity, if it has a place.
     fn top_of(&self, identity: u64) -> Option<u32> {
-        let first = self.scene.ports.first()?.identity;
+        let first = self.scene.ports().first()?.identity;
         let number = usize::try_from(identity.checked_sub(first)?).ok()?;
-        self.scene.ports.get(number)?;
+        self.scene.ports().get(number)?;
         Some(self.plan.port(number))
     }
 

@@ -1,14 +1,12 @@
 //! Draws tasks, names, ports and queues.
 use crate::places::{
-    HEAD, LETTER, PORT_HEIGHT, PORT_LEFT, PORT_WIDTH, Plan, SMALL, TASK_LEFT, TASK_WIDTH, at, fit,
-    wide,
+    HEAD, LETTER, PORT_HEIGHT, PORT_LEFT, Plan, TASK_LEFT, TASK_WIDTH, at, fit, wide,
 };
-use crate::queues::LETTERS;
-use crate::reading::{port_of, write_title};
-use crate::runs::Run;
-use crate::scene::{MOST, Place, Scene, Spot};
-use crate::thing::{Chip, Frame, Kind, Row, Thing};
-use mach_types::{SetId, TaskId};
+use mach_scene_base::{
+    Chip, Frame, Kind, LETTERS, MOST_ROWS, PORT_WIDTH, Place, Row, Run, SMALL, Scene, Spot, Thing,
+    write_title,
+};
+use mach_types::{PortId, SetId, TaskId};
 use mach_words::{Labels, Text};
 use mach_xml::{Drawing, Fit, Size, Time};
 use std::alloc::{AllocError, Global};
@@ -41,49 +39,48 @@ pub(crate) struct Painter<'a> {
     pub(crate) labels: &'a Labels,
 }
 
-impl Scene {
-    /// Draws one state of the scene, or all. `style` are the rules of a scheme, or nothing for a part of a page.
-    ///
-    /// Returns `AllocError` if out of memory. Linear in the places, in the changes of what stands there, and in the drawing.
-    pub fn draw(
-        &self,
-        labels: &Labels,
-        shown: Shown,
-        style: &'static str,
-    ) -> Result<Drawing, AllocError> {
-        let mut text = Text::new(self.alloc);
-        let digits = self.digits(&mut text)?;
-        let plan = Plan::of(self, digits)?;
-        let mut drawing = Drawing::new(self.alloc, plan.size, style);
-        drawing.rect("back", at(0, 0), plan.size);
-        drawing.end_group("ground", b"tasks, names, ports and queues");
-        let painter = Painter {
-            scene: self,
-            plan: &plan,
-            labels,
-        };
-        for layer in LAYERS {
-            for place in self.places.as_slice() {
-                painter.draw_place(*layer, place, shown, &mut drawing, &mut text)?;
-            }
+/// Draws one state of the scene, or all. `style` are the rules of a scheme, or nothing for a part of a page.
+///
+/// Returns `AllocError` if out of memory. Linear in the places, in the changes of what stands there, and in the drawing.
+pub fn draw_scene(
+    alloc: Global,
+    scene: &Scene,
+    labels: &Labels,
+    shown: Shown,
+    style: &'static str,
+) -> Result<Drawing, AllocError> {
+    let mut text = Text::new(alloc);
+    let digits = digits_of(scene, &mut text)?;
+    let plan = Plan::of(alloc, scene, digits)?;
+    let mut drawing = Drawing::new(alloc, plan.size, style);
+    drawing.rect("back", at(0, 0), plan.size);
+    drawing.end_group("ground", b"tasks, names, ports and queues");
+    let painter = Painter {
+        scene,
+        plan: &plan,
+        labels,
+    };
+    for layer in LAYERS {
+        for place in scene.places() {
+            painter.draw_place(*layer, place, shown, &mut drawing, &mut text)?;
         }
-        Ok(drawing)
     }
+    Ok(drawing)
+}
 
-    /// Returns how many digits the longest name has.
-    fn digits(&self, text: &mut Text) -> Result<usize, AllocError> {
-        let mut greatest = 0;
-        for place in self.places.as_slice() {
-            for run in place.runs.as_slice() {
-                if let Thing::Name(row) = run.thing {
-                    greatest = row.name.max(greatest);
-                }
+/// Returns how many digits the longest name has.
+fn digits_of(scene: &Scene, text: &mut Text) -> Result<usize, AllocError> {
+    let mut greatest = 0;
+    for place in scene.places() {
+        for run in place.runs.as_slice() {
+            if let Thing::Name(row) = run.thing {
+                greatest = row.name.max(greatest);
             }
         }
-        text.clear();
-        text.number(u64::from(greatest));
-        Ok(text.whole()?.len())
     }
+    text.clear();
+    text.number(u64::from(greatest));
+    Ok(text.whole()?.len())
 }
 
 impl<'a> Painter<'a> {
@@ -112,7 +109,7 @@ impl<'a> Painter<'a> {
                 Shown::One(_) => {}
                 Shown::All(first) => {
                     let time = Time::Entries(first.saturating_add(from), first.saturating_add(to));
-                    let class = if to < self.scene.states {
+                    let class = if to < self.scene.states() {
                         "thing off"
                     } else {
                         "thing"
@@ -259,7 +256,7 @@ impl<'a> Painter<'a> {
         let x = TASK_LEFT
             .saturating_add(self.plan.names)
             .saturating_add(100);
-        let place = at(x, self.plan.row(task, MOST));
+        let place = at(x, self.plan.row(task, MOST_ROWS));
         drawing.letters("dim", place, text.whole()?, letters(20));
         Ok(())
     }
@@ -333,7 +330,7 @@ impl<'a> Painter<'a> {
         match name.kind {
             Kind::Dead => {}
             Kind::Set => self.labels.write_set(SetId::new(name.about), text),
-            _ => self.labels.write_port(port_of(name.about), text),
+            _ => self.labels.write_port(PortId::new(name.about), text),
         }
         if name.references != 1 {
             let before = if name.kind == Kind::Dead { "x" } else { " x" };
@@ -394,7 +391,7 @@ impl<'a> Painter<'a> {
         ] {
             if let Some(told) = told {
                 text.words(word);
-                self.labels.write_port(port_of(told), text);
+                self.labels.write_port(PortId::new(told), text);
                 text.words(" ");
             }
         }
@@ -403,8 +400,8 @@ impl<'a> Painter<'a> {
     /// Writes the name of a port.
     fn write_port(&self, port: usize, text: &mut Text) {
         text.clear();
-        if let Some(places) = self.scene.ports.get(port) {
-            self.labels.write_port(port_of(places.identity), text);
+        if let Some(places) = self.scene.ports().get(port) {
+            self.labels.write_port(PortId::new(places.identity), text);
         }
     }
 

@@ -1,7 +1,7 @@
 //! Where things stand.
-use crate::scene::{MOST, Scene};
+use mach_scene_base::{MOST_ROWS, Scene};
 use mach_xml::{Point, Size};
-use std::alloc::AllocError;
+use std::alloc::{AllocError, Global};
 
 /// The left of tasks, and their width.
 pub(crate) const TASK_LEFT: u32 = 80;
@@ -11,20 +11,14 @@ pub(crate) const TASK_WIDTH: u32 = 2_200;
 pub(crate) const ROW: u32 = 170;
 /// From the top of a task to its first row.
 pub(crate) const HEAD: u32 = 240;
-/// The left of ports, and their size.
+/// The left of ports, and their height.
 pub(crate) const PORT_LEFT: u32 = 3_500;
 
-pub(crate) const PORT_WIDTH: u32 = 2_080;
-
 pub(crate) const PORT_HEIGHT: u32 = 680;
-/// From the left of a port to its queue.
-pub(crate) const LEFT_OF_QUEUE: u32 = 120;
 /// How wide the picture is.
 const WIDTH: u32 = 6_200;
-/// How wide a letter is, and a small one.
+/// How wide a letter is that isn't small.
 pub(crate) const LETTER: u32 = 72;
-
-pub(crate) const SMALL: u32 = 66;
 /// The top of the first thing.
 const TOP: u32 = 100;
 
@@ -64,10 +58,10 @@ pub(crate) struct Plan {
 impl Plan {
     /// Returns where the things of a scene stand, whose longest name has so many digits. Returns `AllocError` if out of
     /// memory.
-    pub(crate) fn of(scene: &Scene, digits: usize) -> Result<Plan, AllocError> {
+    pub(crate) fn of(alloc: Global, scene: &Scene, digits: usize) -> Result<Plan, AllocError> {
         let mut plan = Plan {
-            tasks: Vec::new(scene.alloc),
-            ports: Vec::new(scene.alloc),
+            tasks: Vec::new(alloc),
+            ports: Vec::new(alloc),
             names: wide(digits, LETTER).saturating_add(60).max(340),
             size: Size {
                 width: WIDTH,
@@ -83,9 +77,9 @@ impl Plan {
     /// Gives each task its place, and returns the place below the last.
     fn place_tasks(&mut self, scene: &Scene) -> Result<u32, AllocError> {
         let mut y = TOP;
-        for task in scene.tasks.as_slice() {
+        for task in scene.tasks() {
             let rows = if task.is_crowded {
-                MOST.saturating_add(1)
+                MOST_ROWS.saturating_add(1)
             } else {
                 task.rows.len().max(1)
             };
@@ -98,13 +92,13 @@ impl Plan {
 
     /// Gives each port its place beside the task that first received from it, and returns the place below the last.
     fn place_ports(&mut self, scene: &Scene) -> Result<u32, AllocError> {
-        for _ in scene.ports.as_slice() {
+        for _ in scene.ports() {
             self.ports.push(TOP)?;
         }
         let mut y = TOP;
         for task in 0..self.tasks.len() {
             let mut is_first = true;
-            for (number, port) in scene.ports.as_slice().iter().enumerate() {
+            for (number, port) in scene.ports().iter().enumerate() {
                 if port.beside == task {
                     if is_first {
                         y = y.max(self.task(task).0);

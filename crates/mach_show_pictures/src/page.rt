@@ -9,7 +9,8 @@ use mach_chart::{Layout, MOST_LIFELINES};
 use mach_fates::Ends;
 use mach_page::{DOCTYPE, Page, Texts};
 use mach_picture::{Part, Scheme};
-use mach_scene::{BOTH, DARK, LIGHT, Scene, Shown as Drawn, State};
+use mach_scene::{BOTH, DARK, LIGHT, Shown as Drawn, draw_scene};
+use mach_scene_base::{Scene, State};
 use mach_show_base::{Done, Fault, Output, Shown, Teller, bad_line};
 use mach_types::Profile;
 use std::alloc::AllocError;
@@ -252,10 +253,15 @@ impl<'a> Pager<'a> {
             Scheme::Both => BOTH,
         };
         let index = number.saturating_sub(self.window.first.saturating_sub(1));
-        let drawing = self
-            .scene
-            .draw(self.drawer.shown.labels, Drawn::One(index), rules)?;
-        let mut text = Vec::new(self.drawer.shown.alloc);
+        let shown = self.drawer.shown;
+        let drawing = draw_scene(
+            shown.alloc,
+            &self.scene,
+            shown.labels,
+            Drawn::One(index),
+            rules,
+        )?;
+        let mut text = Vec::new(shown.alloc);
         drawing.write(&mut text)?;
         out.write_all(text.as_slice())?;
         out.write_all(b"\n")?;
@@ -277,7 +283,13 @@ impl<'a> Pager<'a> {
         let first = self.window.first.saturating_sub(1);
         let names = self.drawer.draw_part(&layout, Part::Names)?;
         let chart = self.drawer.draw_part(&layout, Part::Rows)?;
-        let scene = self.scene.draw(shown.labels, Drawn::All(first), "")?;
+        let scene = draw_scene(
+            shown.alloc,
+            &self.scene,
+            shown.labels,
+            Drawn::All(first),
+            "",
+        )?;
         let page = Page {
             title,
             first,

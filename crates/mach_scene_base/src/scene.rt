@@ -9,7 +9,7 @@ use mach_words::Labels;
 use std::alloc::{AllocError, Global};
 
 /// How many names of a task are drawn.
-pub(crate) const MOST: usize = 24;
+pub const MOST_ROWS: usize = 24;
 /// Stands for no place.
 const NOWHERE: usize = usize::MAX;
 
@@ -26,7 +26,7 @@ pub struct State<'a> {
 
 /// A place of the picture. Tasks and ports have numbers in the order in which they were first noted.
 #[derive(Clone, Copy)]
-pub(crate) enum Spot {
+pub enum Spot {
     /// A task.
     Task(usize),
     /// A row of a task.
@@ -41,48 +41,51 @@ pub(crate) enum Spot {
 
 /// What stands at a place in each state.
 #[derive(Drop)]
-pub(crate) struct Place {
-    pub(crate) spot: Spot,
-    pub(crate) runs: Runs,
+pub struct Place {
+    /// The place.
+    pub spot: Spot,
+    /// What stands there.
+    pub runs: Runs,
 }
 
 /// The places of a task.
 #[derive(Drop)]
-pub(crate) struct TaskPlaces {
+pub struct TaskPlaces {
     // Its box.
     frame: usize,
-    // Its rows, and the names that they have now.
-    pub(crate) rows: Vec<usize>,
+    /// Its rows, by the indices of their places.
+    pub rows: Vec<usize>,
+    // The names that the rows have now.
     names: Vec<Option<u32>>,
-    // Whether it ever had more names than rows.
-    pub(crate) is_crowded: bool,
+    /// Whether it ever had more names than rows.
+    pub is_crowded: bool,
 }
 
 /// The places of a port.
 #[derive(Drop)]
-pub(crate) struct PortPlaces {
+pub struct PortPlaces {
     /// Its identity.
-    pub(crate) identity: u64,
+    pub identity: u64,
     /// The number of the task beside which it is.
-    pub(crate) beside: usize,
+    pub beside: usize,
     frame: usize,
     messages: Vec<usize>,
     rights: Vec<usize>,
 }
 
-/// The states of a history, as pictures.
+/// What stands where in the states of a history.
 ///
 /// It takes some 64 bytes for each change of what stands at a place, and for each place.
 #[derive(Drop)]
 pub struct Scene {
-    pub(crate) alloc: Global,
+    alloc: Global,
     // How many states were noted.
-    pub(crate) states: u64,
-    pub(crate) places: Vec<Place>,
+    states: u64,
+    places: Vec<Place>,
     // What stands at each place in the state that is being noted.
     now: Vec<Thing>,
-    pub(crate) tasks: Vec<TaskPlaces>,
-    pub(crate) ports: Vec<PortPlaces>,
+    tasks: Vec<TaskPlaces>,
+    ports: Vec<PortPlaces>,
     // The number among `ports` of each port by its identity, from the first that was noted.
     first_port: u64,
     queue: Queue,
@@ -106,6 +109,21 @@ impl Scene {
     /// Returns how many states were noted. Constant time.
     pub fn states(&self) -> u64 {
         self.states
+    }
+
+    /// Returns the places. Constant time.
+    pub fn places(&self) -> &[Place] {
+        self.places.as_slice()
+    }
+
+    /// Returns the places of the tasks, by their numbers. Constant time.
+    pub fn tasks(&self) -> &[TaskPlaces] {
+        self.tasks.as_slice()
+    }
+
+    /// Returns the places of the ports, in the order of their identities. Constant time.
+    pub fn ports(&self) -> &[PortPlaces] {
+        self.ports.as_slice()
     }
 
     /// Notes the next state.
@@ -248,7 +266,7 @@ impl Scene {
         if free.is_some() {
             return free;
         }
-        if task.names.len() < MOST {
+        if task.names.len() < MOST_ROWS {
             return Some(task.names.len());
         }
         None

@@ -1,5 +1,4 @@
 //! The messages of a queue that are drawn.
-use crate::places::{LEFT_OF_QUEUE, PORT_WIDTH, SMALL};
 use crate::reading::{port_of, write_title};
 use crate::scene::State;
 use crate::thing::{Chip, Kind, Thing, Tied};
@@ -9,7 +8,13 @@ use mach_words::Text;
 use std::alloc::{AllocError, Global};
 
 /// How many letters of a message's name are drawn.
-pub(crate) const LETTERS: usize = 10;
+pub const LETTERS: usize = 10;
+/// How wide a small letter is, in tenths of a pixel.
+pub const SMALL: u32 = 66;
+/// How wide a port is, in tenths of a pixel.
+pub const PORT_WIDTH: u32 = 2_080;
+/// From the left of a port to its queue.
+const LEFT_OF_QUEUE: u32 = 120;
 /// The margin of a message beside its name, on both sides together.
 const MARGIN: u32 = 100;
 /// How far messages are apart.

@@ -128,8 +128,8 @@ pub(crate) fn port_of(identity: u64) -> PortId {
     PortId::new(identity)
 }
 
-/// Writes what a message with this id is called, or a notice.
-pub(crate) fn write_title(id: u32, is_notice: bool, labels: &Labels, out: &mut Text) {
+/// Writes what a message with this id is called, or a notice. Linear in the name.
+pub fn write_title(id: u32, is_notice: bool, labels: &Labels, out: &mut Text) {
     match notice_word(id) {
         Some(word) if is_notice => out.words(word),
         _ => labels.write_id(id, out),

@@ -114,8 +114,8 @@ impl Kind {
         }
     }
 
-    /// Returns the word for it.
-    pub(crate) fn word(self) -> &'static str {
+    /// Returns the word for it. Constant time.
+    pub fn word(self) -> &'static str {
         match self {
             Kind::Receive => "receive",
             Kind::Send => "send",
@@ -126,8 +126,8 @@ impl Kind {
         }
     }
 
-    /// Returns the class of its line.
-    pub(crate) fn line(self) -> &'static str {
+    /// Returns the class of its line. Constant time.
+    pub fn line(self) -> &'static str {
         match self {
             Kind::Receive | Kind::Both => "wide",
             Kind::Once => "once",
@@ -135,13 +135,13 @@ impl Kind {
         }
     }
 
-    /// Whether it has a receive right.
-    pub(crate) fn receives(self) -> bool {
+    /// Whether it has a receive right. Constant time.
+    pub fn receives(self) -> bool {
         matches!(self, Kind::Receive | Kind::Both)
     }
 
-    /// Whether it has a port.
-    pub(crate) fn has_port(self) -> bool {
+    /// Whether it has a port. Constant time.
+    pub fn has_port(self) -> bool {
         !matches!(self, Kind::Dead | Kind::Set)
     }
 }

@@ -1,8 +1,8 @@
 -- What runs show after one is added.
 use Rattle.std.proofs.Common.{◌≡◌, ℕ, List, [], ◌∷◌, ◌++◌, ◌+◌, ap, ◌∙◌, sym, append_assoc, append-nil, replicate, refl, suc, zero, arith}
-use Rattle.mach_scene.specs.declared.thing.Thing.{Thing}
-use Rattle.mach_scene.specs.declared.runs.Run.{Run}
-use Rattle.mach_scene.specs.Runs.{shown}
+use Rattle.mach_scene_base.specs.declared.thing.Thing.{Thing}
+use Rattle.mach_scene_base.specs.declared.runs.Run.{Run}
+use Rattle.mach_scene_base.specs.Runs.{shown}
 
 shown-append : (xs : List Run) (run : Run) → shown (xs ++ run ∷ []) ≡ shown xs ++ replicate run.count run.thing
 unfolding shown

@@ -1,6 +1,6 @@
 use Rattle.std.proofs.Common.{refl, rules}
-use Rattle.mach_scene.proofs.Showing.{shown-longer}
-use Rattle.mach_scene.proofs.runs.Runs.note.Goals as goal
+use Rattle.mach_scene_base.proofs.Showing.{shown-longer}
+use Rattle.mach_scene_base.proofs.runs.Runs.note.Goals as goal
 
 pub returns-then-last-lt18446744073709551615 : goal.returns-then-last-lt18446744073709551615
 returns-then-last-lt18446744073709551615 c =

@@ -1,6 +1,6 @@
 //! What stands at a place, state by state.
 ghost use Rattle.std.specs.Prelude.{◌≡◌, ◌++◌, ◌∷◌, [], OnOk};
-ghost use Rattle.mach_scene.specs.Runs.{shown};
+ghost use Rattle.mach_scene_base.specs.Runs.{shown};
 
 use crate::same::are_same;
 use crate::thing::Thing;
