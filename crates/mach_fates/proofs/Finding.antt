@@ -1,14 +1,15 @@
 -- The port from which a step took a message.
-use Rattle.std.proofs.Common.{◌≡◌, ◌≢◌, ℕ, ◌+◌, ◌<◌, true, false, List, length, Option, Some, None, refl, sym, ap, subst, ◌∙◌}
+use Rattle.std.proofs.Common.{◌≡◌, ◌≢◌, ℕ, ◌+◌, ◌<◌, true, false, List, length, Option, Some, None, inl, inr, arith, refl, sym, ap, subst, ◌∙◌}
 use Rattle.std.specs.Option.{option_map, option_and_then, option_or}
 use Rattle.std.proofs.lemmas.Option.{slice_get_within}
+use Rattle.std.proofs.lemmas.Bool.Decides.{eqb_tells}
 use Rattle.mach_types.specs.declared.calls.Event.{Event}
 use Rattle.mach_types.specs.declared.calls.Reply.{Reply}
 use Rattle.mach_types.specs.declared.calls.Waited.{Waited}
 use Rattle.mach_types.specs.Messages.{Entry}
 use Rattle.mach_model.specs.State.{State, Target, lookup}
 use Rattle.mach_model.specs.Lawful.{IsLawful}
-use Rattle.mach_model.specs.Receive.{waits_for, TakesFrom, IsFront}
+use Rattle.mach_model.specs.Receive.{IsFront}
 use Rattle.mach_model.proofs.StepLawful.{TakesFrom-live}
 use Rattle.mach_laws.specs.Received.{AsksFrom, Delivers}
 use Rattle.mach_laws.specs.Delivered.{DestroysTooLong}
@@ -17,7 +18,10 @@ use Rattle.name_space.specs.declared.Entry.TheVariants as named
 use Rattle.name_space.specs.Entry.{port_named}
 use Rattle.copyin_base.specs.Shows.{Shows, target_of}
 use Rattle.copyin_base.specs.Worlds.{WorldView, entry_at}
-use Rattle.mach_fates.specs.Sources.{source_named, source_waited, source_too_long, source_before, IsNamedIn, IsNamedBy, IsSourceAfter, IsByPort, IsSure}
+use Rattle.kernel_core.specs.InTurn.{source_of, TakesByTurn}
+use Rattle.kernel_core.specs.Receive.{waited_at, TakesOne}
+use Rattle.mach_follow.specs.Replaying.{IsTooLong}
+use Rattle.mach_fates.specs.Sources.{source_named, source_waited, source_too_long, source_before, IsNamedIn, IsNamedBy, IsSourceAfter}
 use Rattle.mach_fates.specs.Stepping.{TakesNone, TakesBy}
 
 -- This is the port from which the step took its front message; there is none where it took none.
@@ -51,23 +55,18 @@ port_target (Some (named.SendOnce q)) p e = absurd (cc)
 port_target (Some (named.DeadName n)) p e = absurd (cc)
 port_target (Some (named.Set set)) p e = absurd (cc)
 
-port_source : (w : WorldView) (o : Option Named) (p : ℕ) → option_map target_of o ≡ Some (Target.port p) → source_named w o ≡ Some p
-port_source w None p e = absurd (cc)
-port_source w (Some (named.Receive q)) p e = cc
-port_source w (Some (named.Send q n)) p e = cc
-port_source w (Some (named.ReceiveAndSend q n)) p e = cc
-port_source w (Some (named.SendOnce q)) p e = absurd (cc)
-port_source w (Some (named.DeadName n)) p e = absurd (cc)
-port_source w (Some (named.Set set)) p e = absurd (cc)
+named_source : (w : WorldView) (o : Option Named) (p : ℕ) → option_and_then (source_of w) (option_and_then waited_at o) ≡ Some p → source_named w o ≡ Some p
+named_source w None p e = absurd (cc)
+named_source w (Some (named.Receive q)) p e = e
+named_source w (Some (named.ReceiveAndSend q n)) p e = e
+named_source w (Some (named.Set set)) p e = e
+named_source w (Some (named.Send q n)) p e = absurd (cc)
+named_source w (Some (named.SendOnce q)) p e = absurd (cc)
+named_source w (Some (named.DeadName n)) p e = absurd (cc)
 
-set_target : (o : Option Named) (set : ℕ) → option_map target_of o ≡ Some (Target.set set) → o ≡ Some (named.Set set)
-set_target None set e = absurd (cc)
-set_target (Some (named.Receive q)) set e = absurd (cc)
-set_target (Some (named.Send q n)) set e = absurd (cc)
-set_target (Some (named.ReceiveAndSend q n)) set e = absurd (cc)
-set_target (Some (named.SendOnce q)) set e = absurd (cc)
-set_target (Some (named.DeadName n)) set e = absurd (cc)
-set_target (Some (named.Set x)) set e = cc
+waited_source : (w : WorldView) (waited : Waited) → source_waited w waited ≡ source_of w waited
+waited_source w (Waited.Port p) = refl
+waited_source w (Waited.Set set) = refl
 
 -- ---- a message that is received
 
@@ -91,42 +90,33 @@ received_source w s t event bytes l shown d asks b is = absurd asks
 
 -- ---- a message that is destroyed as too long
 
-destroyed_here : (event : Event) (n : ℕ) (s t : State) (d : DestroysTooLong event n s t) → s.live_port d.port ≡ true → (a : Option ℕ) → a ≡ Some d.port → IsSource s t a
-destroyed_here event n s t d live a is = subst (IsSource s t) (sym is) (source_one s t d.port d.e d.front d.taken live d.others)
+-- where one message is taken, of this port, and this is a port of which one is taken, they are the same
+one_taken : (s t : State) (p q : ℕ) → TakesOne s t p → t.taken q ≡ s.taken q + 1 → p ≡ q
+one_taken s t p q one next = elim (eqb_tells p q) [
+  | inl h ↦ h.1
+  | inr h ↦ absurd (let same = one.others q (λ e. h.1 (sym e)) in omega (arith, same, next))
+]
 
-named_port : (w : WorldView) (s : State) (task caller name : ℕ) (waited : Waited) (p : ℕ) → Shows w s → caller ≡ task → waits_for task name s waited → TakesFrom s task waited p →
-    ((set : ℕ) → entry_at w caller name ≡ Some (named.Set set) → ⊥) → source_named w (entry_at w caller name) ≡ Some p
-named_port w s task caller name (Waited.Port q) p shown same waits takes sure =
-    port_source w (entry_at w caller name) q (sym (shown.agrees.naming caller name) ∙ subst (λ (x : ℕ). lookup s x name ≡ Some (Target.port q)) (sym same) waits.0) ∙ ap Some (sym takes.0)
-named_port w s task caller name (Waited.Set set) p shown same waits takes sure =
-    absurd (sure set (set_target (entry_at w caller name) set (sym (shown.agrees.naming caller name) ∙ subst (λ (x : ℕ). lookup s x name ≡ Some (Target.set set)) (sym same) waits)))
-
-waited_port : (w : WorldView) (s : State) (task : ℕ) (waited : Waited) (caller room n : ℕ) (p : ℕ) → TakesFrom s task waited p → IsByPort w (Event.ReceiveAgain caller waited room false) →
-    source_waited w waited ≡ Some p
-waited_port w s task (Waited.Port q) caller room n p takes sure = ap Some (sym takes.0)
-waited_port w s task (Waited.Set set) caller room n p takes sure = absurd sure
+destroyed_here : (event : Event) (n : ℕ) (s t : State) (d : DestroysTooLong event n s t) → s.live_port d.port ≡ true → (p : ℕ) → TakesOne s t p → (a : Option ℕ) → a ≡ Some p → IsSource s t a
+destroyed_here event n s t d live p one a is =
+    let here : p ≡ d.port = one_taken s t p d.port one d.taken in
+    subst (IsSource s t) (sym (is ∙ ap Some here)) (source_one s t d.port d.e d.front d.taken live d.others)
 
 not_true : false ≡ true → ⊥
 not_true e = cc
 
-too_long_source : (w : WorldView) (s t : State) (event : Event) (n : ℕ) → IsLawful s → Shows w s → IsByPort w event → TakesBy s event (Reply.TooLarge n) t → IsSource s t (source_too_long w event)
-too_long_source w s t (Event.Receive caller name room false) n l shown sure takes = at_asks (takes.0 not_true)
-  where
-    at_asks : (d : DestroysTooLong (Event.Receive caller name room false) n s t) → IsSource s t (source_named w (entry_at w caller name))
-    at_asks d = go d.asks
-      where
-        go : AsksFrom s (Event.Receive caller name room false) d.task d.port → IsSource s t (source_named w (entry_at w caller name))
-        go (same, waited, waits, from) =
-            destroyed_here (Event.Receive caller name room false) n s t d (TakesFrom-live s l d.task waited d.port from) (source_named w (entry_at w caller name))
-            (named_port w s d.task caller name waited d.port shown same waits from sure)
-too_long_source w s t (Event.ReceiveAgain caller waited room false) n l shown sure takes = at_asks (takes.0 not_true)
-  where
-    at_asks : (d : DestroysTooLong (Event.ReceiveAgain caller waited room false) n s t) → IsSource s t (source_waited w waited)
-    at_asks d = destroyed_here (Event.ReceiveAgain caller waited room false) n s t d (TakesFrom-live s l d.task waited d.port d.asks.1) (source_waited w waited)
-        (waited_port w s d.task waited caller room n d.port d.asks.1 sure)
-too_long_source w s t (Event.Receive caller name room true) n l shown sure takes = source_none s t (takes.1 refl)
-too_long_source w s t (Event.ReceiveAgain caller waited room true) n l shown sure takes = source_none s t (takes.1 refl)
-too_long_source w s t event n l shown sure takes = absurd (let d = takes.0 (λ look. look) in d.asks)
+too_long_source : (w : WorldView) (s t : State) (event : Event) (n : ℕ) → IsLawful s → TakesByTurn w event (Reply.TooLarge n) s t → TakesBy s event (Reply.TooLarge n) t → IsSource s t (source_too_long w event)
+too_long_source w s t (Event.Receive caller name room false) n l turn takes =
+    let d = takes.0 not_true in
+    let x = turn refl in
+    destroyed_here (Event.Receive caller name room false) n s t d (TakesFrom-live s l d.task d.asks.1 d.port d.asks.3) x.0 x.2 (source_named w (entry_at w caller name)) (named_source w (entry_at w caller name) x.0 x.1)
+too_long_source w s t (Event.ReceiveAgain caller waited room false) n l turn takes =
+    let d = takes.0 not_true in
+    let x = turn refl in
+    destroyed_here (Event.ReceiveAgain caller waited room false) n s t d (TakesFrom-live s l d.task waited d.port d.asks.1) x.0 x.2 (source_waited w waited) (waited_source w waited ∙ x.1)
+too_long_source w s t (Event.Receive caller name room true) n l turn takes = source_none s t (takes.1 refl)
+too_long_source w s t (Event.ReceiveAgain caller waited room true) n l turn takes = source_none s t (takes.1 refl)
+too_long_source w s t event n l turn takes = absurd (let d = takes.0 (λ look. look) in d.asks)
 
 -- ---- any step
 
@@ -137,11 +127,11 @@ first_alone : (a b : Option ℕ) → b ≡ None → option_or a b ≡ a
 first_alone (Some p) b e = refl
 first_alone None b e = e
 
-pub find_source : (old new : WorldView) (s t : State) (event : Event) (reply : Reply) → IsLawful s → Shows old s → Shows new t → IsSure old event reply → TakesBy s event reply t →
+pub find_source : (old new : WorldView) (s t : State) (event : Event) (reply : Reply) → IsLawful s → Shows old s → Shows new t → (IsTooLong reply → TakesByTurn old event reply s t) → TakesBy s event reply t →
     (a b : Option ℕ) → a ≡ source_before old event reply → IsSourceAfter new event reply b → IsSource s t (option_or a b)
-find_source old new s t event (Reply.Message bytes) l shown then_shown sure takes a b before after =
+find_source old new s t event (Reply.Message bytes) l shown then_shown turn takes a b before after =
     subst (λ (o : Option ℕ). IsSource s t (option_or o b)) (sym before) (received_source new s t event bytes l then_shown takes takes.asks b after)
-find_source old new s t event (Reply.TooLarge n) l shown then_shown sure takes a b before after =
-    subst (IsSource s t) (sym (first_alone a b after ∙ before)) (too_long_source old s t event n l shown sure takes)
-find_source old new s t event (Reply.Code code) l shown then_shown sure takes a b before after = both_none s t a b takes.1 before after
-find_source old new s t event reply l shown then_shown sure takes a b before after = both_none s t a b takes before after
+find_source old new s t event (Reply.TooLarge n) l shown then_shown turn takes a b before after =
+    subst (IsSource s t) (sym (first_alone a b after ∙ before)) (too_long_source old s t event n l (turn tt) takes)
+find_source old new s t event (Reply.Code code) l shown then_shown turn takes a b before after = both_none s t a b takes.1 before after
+find_source old new s t event reply l shown then_shown turn takes a b before after = both_none s t a b takes before after

@@ -12,7 +12,6 @@ use Rattle.copyin_base.specs.Worlds.{WorldView}
 use Rattle.mach_fates.specs.declared.effects.Lost.{Lost}
 use Rattle.mach_fates.specs.declared.fates.Fates.{Fates}
 use Rattle.mach_fates.specs.Keeping.{kept_at, Apart, HasIdentities}
-use Rattle.mach_fates.specs.Sources.{IsSure}
 use Rattle.mach_fates.specs.Stepping.{with_stage}
 
 -- ---- who put it there
@@ -73,5 +72,5 @@ pub record Joins (profile : Profile) (path : List Stage) (s : State) (event : Ev
 -- So it is after each run that leads to a state that the tables showed, of which what was kept is true.
 abbrev pub FollowsRuns : (event : Event) → (reply : Reply) → (number : ℕ) → (old : WorldView) → (before : Fates) → (new : WorldView) → (after : Fates) → Type 0
 FollowsRuns event reply number old before new after =
-    IsSure old event reply → HasIdentities new → (profile : Profile) (path : List Stage) (s : State) → JudgedPath profile path s → number ≡ length path + 1 → Shows old s → Keeps before path s →
+    HasIdentities new → (profile : Profile) (path : List Stage) (s : State) → JudgedPath profile path s → number ≡ length path + 1 → Shows old s → Keeps before path s →
     Joins profile path s event reply new before after

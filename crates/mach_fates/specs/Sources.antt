@@ -48,13 +48,3 @@ IsNamedBy w event bytes source = Unit {0}
 abbrev pub IsSourceAfter : WorldView → Event → Reply → Option ℕ → Type 0
 IsSourceAfter w event (Reply.Message bytes) source = IsNamedBy w event bytes source
 IsSourceAfter w event reply source = source ≡ None
-
--- The event doesn't destroy as too long a message of a set's member: the machine leaves open of which one.
-abbrev pub IsByPort : WorldView → Event → Type 0
-IsByPort w (Event.Receive task name room false) = (set : ℕ) → entry_at w task name ≡ Some (named.Set set) → ⊥
-IsByPort w (Event.ReceiveAgain task (Waited.Set set) room false) = ⊥
-IsByPort w event = Unit {0}
-
-abbrev pub IsSure : WorldView → Event → Reply → Type 0
-IsSure w event (Reply.TooLarge n) = IsByPort w event
-IsSure w event reply = Unit {0}

@@ -1,9 +1,9 @@
 //! Repeats the calls of entries.
-ghost use Rattle.std.specs.Prelude.{◌≡◌, true, Ok};
+ghost use Rattle.std.specs.Prelude.{◌≡◌, None, true, Ok};
 ghost use Rattle.mach_model.specs.State.{State};
 ghost use Rattle.copyin_base.specs.Shows.{Shows};
 ghost use Rattle.mach_follow.specs.declared.replay.Answered.TheVariants.{AsSaid};
-ghost use Rattle.mach_follow.specs.Replaying.{IsRefusal, Replays};
+ghost use Rattle.mach_follow.specs.Replaying.{IsRefusal, IsTooLong, Replays};
 
 use crate::follower::Follower;
 use kernel_lock::{Entry, are_same_replies};
@@ -48,7 +48,8 @@ impl Follower {
 
     /// Gives the turn in a set to the member from which the entry received a message.
     fn give_turn(&mut self, entry: &Entry)
-        ensures { (s : State) → Shows self.old.kernel.tables s → Shows self.new.kernel.tables s }
+        ensures shows { (s : State) → Shows self.old.kernel.tables s → Shows self.new.kernel.tables s }
+        ensures same { IsTooLong entry.now.reply → self.new.kernel ≡ self.old.kernel }
     {
         if let Some(member) = receiver(&entry.reply) {
             self.kernel.give_turn(&entry.event, member);
@@ -70,7 +71,9 @@ impl Follower {
 }
 
 /// Returns the name of the port from which a message was received.
-fn receiver(reply: &Reply) -> Option<Name> {
+fn receiver(reply: &Reply) -> Option<Name>
+    ensures { IsTooLong reply.now → result ≡ None }
+{
     let Reply::Message(bytes) = reply else {
         return None;
     };

@@ -13,7 +13,7 @@ use Rattle.mach_fates.proofs.fates.Fates.replay.Goals as goal
 
 pub returns-then-is_refusal : goal.returns-then-is_refusal
 returns-then-is_refusal c = record {
-  follows = λ said sure few profile path s is number shown keeps.
+  follows = λ said few profile path s is number shown keeps.
       let e = c.args.entry.now in
       let r = c.in_ok-answered.ensures.said said (length path) s shown in
       let g = c.next_step.ensures profile path s e.event e.reply r.0 is r.1 in
@@ -22,7 +22,7 @@ returns-then-is_refusal c = record {
 
 pub returns : goal.returns
 returns c = record {
-  follows = λ said sure few profile path s is number shown keeps.
+  follows = λ said few profile path s is number shown keeps.
       let e = c.args.entry.now in
       let old = c.args.follower.now.kernel.tables in
       let w = c.replay.new.self.kernel.tables in
@@ -33,7 +33,7 @@ returns c = record {
       let only : TouchesOnly s t touched = r.3 (c.is_refusal.ensures.no c.if-is_refusal.false) in
       let source : Option ℕ = option_or c.source_before-before.result c.source_after.result in
       let found : IsSource s t source =
-      find_source old w s t e.event e.reply g.lawful shown r.2 sure g.takes c.source_before-before.result c.source_after.result
+      find_source old w s t e.event e.reply g.lawful shown r.2 r.4 g.takes c.source_before-before.result c.source_after.result
       (subst (λ (x : WorldView). c.source_before-before.result ≡ source_before x e.event e.reply) c.tables.ensures c.source_before-before.ensures)
       (subst (λ (x : WorldView). IsSourceAfter x e.event e.reply c.source_after.result) c.tables-2.ensures c.source_after.ensures) in
       let takes = subst (λ (o : Option ℕ). TakesFrom c.args.number w o c.begin.new.self c.take_from.new.self) c.or-source.ensures

@@ -1,9 +1,9 @@
-use Rattle.std.proofs.Common.{◌≡◌, Ok, ap, subst, sym}
+use Rattle.std.proofs.Common.{◌≡◌, Ok, ap, subst, sym, ◌∙◌}
 use Rattle.mach_types.specs.declared.calls.Reply.{Reply}
 use Rattle.mach_model.specs.State.{State}
 use Rattle.copyin_base.specs.Shows.{Shows}
 use Rattle.kernel_core.specs.Kernels.{KernelView}
-use Rattle.mach_follow.specs.Replaying.{IsRefusal, Replays}
+use Rattle.mach_follow.specs.Replaying.{IsRefusal, IsTooLong, Replays}
 use Rattle.mach_follow.proofs.Replayed.{refusal_replays, step_replays}
 use Rattle.mach_follow.proofs.follower.Follower.replay.Goals as goal
 
@@ -23,7 +23,8 @@ returns-then-are_same_replies c = record {
       let e = c.args.entry.now in
       let old = c.args.self.now.kernel in
       let told : c.step-reply.result ≡ e.reply = c.are_same_replies.ensures.same c.if-are_same_replies.true in
-      let turned : (s : State) → Shows old.tables s → Shows c.give_turn.new.self.kernel.tables s = λ s shown. c.give_turn.ensures s (subst (λ (k : KernelView). Shows k.tables s) (sym c.remember.ensures) shown) in
+      let turned : (s : State) → Shows old.tables s → Shows c.give_turn.new.self.kernel.tables s = λ s shown. c.give_turn.ensures.shows s (subst (λ (k : KernelView). Shows k.tables s) (sym c.remember.ensures) shown) in
+      let same : IsTooLong c.step-reply.result → c.give_turn.new.self.kernel.tables ≡ old.tables = λ long. ap (λ (k : KernelView). k.tables) (c.give_turn.ensures.same (subst IsTooLong told long) ∙ c.remember.ensures) in
       subst (λ (r : Reply). Replays old.tables e.event r c.step-reply.new.self) told
-      (step_replays old.tables c.give_turn.new.self.kernel.tables e.event c.step-reply.result c.step-reply.new.self turned c.step-reply.ensures.touches);
+      (step_replays old.tables c.give_turn.new.self.kernel.tables e.event c.step-reply.result c.step-reply.new.self turned same c.step-reply.ensures.touches);
 }
