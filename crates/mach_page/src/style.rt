@@ -29,7 +29,7 @@ body,.say,.left svg:first-child{background:#fff;color:#16181b}\n\
 .key{color:#5f656c}\n\
 button{background:#f1f3f5}\n\
 .veil{fill:#fff}\n\
-.pick{fill:#fff3c4}\n\
+.pick{fill:#fff3c4;stroke:#b58900}\n\
 .new text,.new .dot,.new .dot-note{fill:#0a7d55}\n\
 .new .small-ink{fill:#16181b}\n\
 .new .wide,.new .thin,.new .once,.new .asked,.new .task,.new .port{stroke:#0a7d55}\n\
@@ -39,7 +39,7 @@ body,.say,.left svg:first-child{background:#15181b;color:#eceff1}\n\
 .key{color:#a2a9b0}\n\
 button{background:#1f2428}\n\
 .veil{fill:#15181b}\n\
-.pick{fill:#3c3416}\n\
+.pick{fill:#3c3416;stroke:#b98a2a}\n\
 .new text,.new .dot,.new .dot-note{fill:#5fd7a7}\n\
 .new .small-ink{fill:#16181b}\n\
 .new .wide,.new .thin,.new .once,.new .asked,.new .task,.new .port{stroke:#5fd7a7}\n\

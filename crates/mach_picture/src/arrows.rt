@@ -33,7 +33,8 @@ impl<'a> Painter<'a> {
             mark => {
                 self.draw_lost(drawn, drawing);
                 draw_sign(mark, drawn.mark, drawing);
-                self.draw_beside(drawn, drawn.mark.x.saturating_add(120), drawing, scratch)
+                let apart = if mark == Mark::Empty { 90 } else { 120 };
+                self.draw_beside(drawn, drawn.mark.x.saturating_add(apart), drawing, scratch)
             }
         }
     }

@@ -1,6 +1,6 @@
 //! Lifelines, callers that wait, and messages in queues.
 use crate::painter::Painter;
-use crate::places::at;
+use crate::places::{FOOT, at};
 use mach_chart::Lifeline;
 use mach_chart_base::{Hop, Mark, Way};
 use mach_xml::{Drawing, Size};
@@ -92,7 +92,8 @@ impl<'a> Painter<'a> {
         }
         for (lifeline, since) in waiting.as_slice().iter().enumerate() {
             if let Some(first) = *since {
-                self.draw_wait(lifeline, first, self.grid.rows.bottom(), drawing);
+                let end = self.grid.rows.bottom().saturating_add(FOOT);
+                self.draw_wait(lifeline, first, end, drawing);
             }
         }
         Ok(())

@@ -326,15 +326,16 @@ impl<'a> Painter<'a> {
     fn write_standing(&self, name: &Row, text: &mut Text) {
         text.clear();
         text.words(name.kind.word());
-        text.words(" ");
+        if name.kind != Kind::Dead {
+            text.words(" ");
+        }
         match name.kind {
             Kind::Dead => {}
             Kind::Set => self.labels.write_set(SetId::new(name.about), text),
             _ => self.labels.write_port(PortId::new(name.about), text),
         }
         if name.references != 1 {
-            let before = if name.kind == Kind::Dead { "x" } else { " x" };
-            text.around(before, name.references, "");
+            text.around(" x", name.references, "");
         }
     }
 
@@ -378,21 +379,21 @@ impl<'a> Painter<'a> {
     fn write_circumstances(&self, frame: &Frame, text: &mut Text) {
         text.clear();
         if frame.is_carried {
-            text.words("in a message ");
+            text.words("in a message");
         }
         if let Some(set) = frame.set {
+            part(text);
             text.words("in set ");
             self.labels.write_set(SetId::new(set), text);
-            text.words(" ");
         }
         for (word, told) in [
             ("no-senders:", frame.no_senders),
             ("port-destroyed:", frame.port_destroyed),
         ] {
             if let Some(told) = told {
+                part(text);
                 text.words(word);
                 self.labels.write_port(PortId::new(told), text);
-                text.words(" ");
             }
         }
     }
@@ -453,6 +454,13 @@ impl<'a> Painter<'a> {
         let place = at(x.saturating_add(50), top.saturating_add(515));
         drawing.letters(letters, place, name, small(LETTERS));
         Ok(())
+    }
+}
+
+/// Writes a space behind what a text has. None may stand first or last: browsers don't draw it, but its width is stated.
+fn part(text: &mut Text) {
+    if text.len() > 0 {
+        text.words(" ");
     }
 }
 
