@@ -35,3 +35,11 @@ shown-longer old rest after last run thing was same added is longer =
     now ∙ ap (λ (l : List Thing). shown rest ++ l) (replicate-more last.count thing)
     ∙ sym (append_assoc (shown rest) (replicate last.count thing) (thing ∷ []))
     ∙ ap (λ (l : List Thing). l ++ thing ∷ []) (sym before)
+
+pub shown-first : (before after : List Run) (run : Run) (n : ℕ) (thing : Thing) → before ≡ [] → after ≡ before ++ run ∷ []
+    → run.count ≡ n → run.thing ≡ thing → shown after ≡ replicate n thing
+unfolding shown
+shown-first before after run n thing none added count is =
+    ap shown added ∙ ap (λ (l : List Run). shown (l ++ run ∷ [])) none ∙ append-nil (replicate run.count run.thing)
+    ∙ ap (λ (k : ℕ). replicate k run.thing) count
+    ∙ ap (λ (t : Thing). replicate n t) is

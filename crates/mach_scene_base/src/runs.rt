@@ -1,6 +1,7 @@
 //! What stands at a place, state by state.
-ghost use Rattle.std.specs.Prelude.{◌≡◌, ◌++◌, ◌∷◌, [], OnOk};
+ghost use Rattle.std.specs.Prelude.{◌≡◌, ◌++◌, ◌∷◌, [], IfOk, OnOk, replicate};
 ghost use Rattle.mach_scene_base.specs.Runs.{shown};
+ghost use Rattle.mach_scene_base.specs.declared.thing.Thing.TheVariants.{Nothing};
 
 use crate::same::are_same;
 use crate::thing::Thing;
@@ -23,7 +24,9 @@ pub struct Runs {
 
 impl Runs {
     /// Returns the runs of a place at which nothing stood in so many states. Returns `AllocError` if out of memory.
-    pub fn after(alloc: Global, states: u64) -> Result<Runs, AllocError> {
+    pub fn after(alloc: Global, states: u64) -> Result<Runs, AllocError>
+        ensures { IfOk result (λ runs. shown runs.runs.items ≡ replicate states Nothing) }
+    {
         let mut runs = Vec::new(alloc);
         runs.push(Run {
             thing: Thing::Nothing,
