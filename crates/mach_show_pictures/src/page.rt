@@ -143,15 +143,7 @@ fn follow_profile<'a>(
         ends: Ends::new(source.alloc),
         window: *window,
     };
-    pager.read(whole)?;
-    match asked {
-        Asked::State(number, scheme) => pager.write_state(number, scheme, out),
-        Asked::Page(title) => {
-            let mut texts = Texts::new(source.alloc);
-            tell_all(&pager, whole, profile, &mut texts)?;
-            pager.write_page(title.unwrap_or(source.name), &texts, out)
-        }
-    }
+    pager.show(whole, profile, asked, out)
 }
 
 /// Tells the entries of a page in words, with what became of their messages.
@@ -206,6 +198,41 @@ struct Pager<'a> {
 }
 
 impl<'a> Pager<'a> {
+    /// Follows all entries, and writes what is asked for.
+    fn show(
+        &mut self,
+        whole: &Whole,
+        profile: Profile,
+        asked: Asked<'a>,
+        out: &mut Output,
+    ) -> Result<Done, Fault<'a>>
+        requires one_set { profile ≢ Three }
+    {
+        self.read(whole)?;
+        match asked {
+            Asked::State(number, scheme) => self.write_state(number, scheme, out),
+            Asked::Page(title) => {
+                let title = title.unwrap_or(self.drawer.shown.name);
+                self.tell_page(whole, profile, title, out)
+            }
+        }
+    }
+
+    /// Tells the entries in words, and writes a page. It owns the texts, and does nothing else.
+    fn tell_page(
+        &mut self,
+        whole: &Whole,
+        profile: Profile,
+        title: &str,
+        out: &mut Output,
+    ) -> Result<Done, Fault<'a>>
+        requires one_set { profile ≢ Three }
+    {
+        let mut texts = Texts::new(self.drawer.shown.alloc);
+        tell_all(self, whole, profile, &mut texts)?;
+        self.write_page(title, &texts, out)
+    }
+
     /// Follows all entries.
     fn read(&mut self, whole: &Whole) -> Result<(), Fault<'a>> {
         let (_, mut from) = whole.line_at(0);
@@ -280,9 +307,24 @@ impl<'a> Pager<'a> {
         if layout.lifelines() > MOST_LIFELINES {
             return Err(Fault::TooWide(layout.lifelines() as u64));
         }
+        let text = self.page_text(title, texts, &layout)?;
+        out.write_all(DOCTYPE.as_bytes())?;
+        out.write_all(text.as_slice())?;
+        out.write_all(b"\n")?;
+        Ok(Done::Well)
+    }
+
+    /// Returns the page with these texts.
+    fn page_text(
+        &self,
+        title: &str,
+        texts: &Texts,
+        layout: &Layout,
+    ) -> Result<Vec<u8>, AllocError> {
+        let shown = self.drawer.shown;
         let first = self.window.first.saturating_sub(1);
-        let names = self.drawer.draw_part(&layout, Part::Names)?;
-        let chart = self.drawer.draw_part(&layout, Part::Rows)?;
+        let names = self.drawer.draw_part(layout, Part::Names)?;
+        let chart = self.drawer.draw_part(layout, Part::Rows)?;
         let scene = draw_scene(
             shown.alloc,
             &self.scene,
@@ -302,10 +344,7 @@ impl<'a> Pager<'a> {
         };
         let mut text = Vec::new(shown.alloc);
         page.write(&mut text)?;
-        out.write_all(DOCTYPE.as_bytes())?;
-        out.write_all(text.as_slice())?;
-        out.write_all(b"\n")?;
-        Ok(Done::Well)
+        Ok(text)
     }
 }
 
