@@ -238,6 +238,8 @@ impl Chart {
                 task,
                 lane: 0,
                 is_drawn: false,
+                is_notice: come.origin.is_notice,
+                is_early: false,
             })?;
         }
         Ok(())

@@ -37,8 +37,12 @@ pub struct Place {
     pub task: u32,
     /// Its lane.
     pub lane: usize,
-    /// Whether a row shows a hop of it.
+    /// Whether it is drawn: a row shows a hop of it, or it waits through all rows of a window.
     pub is_drawn: bool,
+    /// Whether the kernel sent it.
+    pub is_notice: bool,
+    /// Whether it waits in its queue before the first row.
+    pub(crate) is_early: bool,
 }
 
 /// Returns the task that holds the receive right of a port, or of the port in whose queue that right is, and so on; `None`

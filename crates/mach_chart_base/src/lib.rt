@@ -5,6 +5,7 @@
 #![tactic(auto)]
 
 mod chart;
+mod early;
 mod hops;
 mod moves;
 mod reading;

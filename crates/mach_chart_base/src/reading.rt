@@ -95,7 +95,7 @@ impl Chart {
         Ok(callers)
     }
 
-    /// Whether a row shows a hop of the message of this number. Constant time.
+    /// Whether the message of this number is drawn. Constant time.
     pub fn is_drawn(&self, serial: u64) -> bool {
         match self.place(serial) {
             Some(place) => place.is_drawn,

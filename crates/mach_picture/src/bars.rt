@@ -140,23 +140,22 @@ impl<'a> Painter<'a> {
     fn messages(&self, alloc: Global) -> Result<Vec<Queued>, AllocError> {
         let mut queued = Vec::new(alloc);
         for hop in self.chart.hops() {
-            for _ in queued.len()..(hop.serial as usize).saturating_add(1) {
+            for serial in queued.len()..(hop.serial as usize).saturating_add(1) {
                 queued.push(Queued {
                     hop: None,
-                    is_notice: false,
+                    is_notice: self.is_notice(serial as u64),
                 })?;
             }
         }
-        for index in 0..self.chart.rows().len() {
-            if let Some(row) = self.chart.rows().get(index).copied() {
-                if row.is_notice {
-                    if let Some(message) = queued.get_mut(row.serial as usize) {
-                        message.is_notice = true;
-                    }
-                }
-            }
-        }
         Ok(queued)
+    }
+
+    /// Whether the message of this number is a notice.
+    fn is_notice(&self, serial: u64) -> bool {
+        match self.chart.place(serial) {
+            Some(place) => place.is_notice,
+            None => false,
+        }
     }
 
     /// Draws the bar of a message that goes into a lane by this hop, to a place below.

@@ -266,6 +266,15 @@ impl<'a> Drawer<'a> {
         }
     }
 
+    /// Draws what waits in queues before the first row, if all entries of a window are shown.
+    pub(crate) fn draw_early(&mut self) -> Result<(), AllocError> {
+        let filter = self.shown.filter;
+        if filter.task.is_some() || filter.port.is_some() || filter.refused {
+            return Ok(());
+        }
+        self.chart.draw_early(self.shown.alloc)
+    }
+
     /// Writes the chart of a history of so many entries.
     fn write(&mut self, entries: u64, out: &mut Output) -> Result<Done, Fault<'a>> {
         let filter = self.shown.filter;
@@ -276,6 +285,7 @@ impl<'a> Drawer<'a> {
         if self.chart.rows().len() > MOST_ROWS && !has_window {
             return Err(Fault::TooLong(entries));
         }
+        self.draw_early()?;
         let mut layout = Layout::new(self.shown.alloc, &mut self.chart, self.shown.labels)?;
         if layout.lifelines() > MOST_LIFELINES {
             return Err(Fault::TooWide(layout.lifelines() as u64));

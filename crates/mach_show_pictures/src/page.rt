@@ -303,6 +303,7 @@ impl<'a> Pager<'a> {
         out: &mut Output,
     ) -> Result<Done, Fault<'a>> {
         let shown = self.drawer.shown;
+        self.drawer.draw_early()?;
         let layout = Layout::new(shown.alloc, &mut self.drawer.chart, shown.labels)?;
         if layout.lifelines() > MOST_LIFELINES {
             return Err(Fault::TooWide(layout.lifelines() as u64));
