@@ -1,44 +1,29 @@
 //! Faults that end a job.
 ghost use Rattle.std.specs.Prelude.{◌≡◌};
 
-use std::alloc::{AllocError, AllocFailed};
+use std::alloc::AllocError;
 use std::io;
 use std::io::{ErrorKind, Write};
-use thiserror::Error;
 
-/// Why a job ends early. Its text is the line for standard error.
-#[derive(Clone, Copy, Debug, Error)]
+/// Why a job ends early. [`report`] writes the line for standard error.
+#[derive(Clone, Copy)]
 pub enum Fault<'a> {
     /// The file of this name can't be opened or read, for this reason.
-    #[error("cannot read {0}: {1}")]
     CannotRead(&'a str, &'static str),
     /// The line of this number, from 1, is no entry of a history.
-    #[error("bad line {0}")]
     BadLine(u64),
     /// A kernel replies otherwise to the call of the entry of this number, from 1.
-    #[error("not confirmed at {0}")]
     NotConfirmed(u64),
     /// No task could make the call of the entry of this number, from 1.
-    #[error("entry {0}: no task is there that could make this call")]
     Nobody(u64),
     /// The line of this number, from 1, is no label.
-    #[error("labels line {0}: {1}")]
     BadLabels(u64, &'static str),
     /// The output can't be written.
-    #[error("cannot write")]
     CannotWrite,
     /// Nobody reads the output any more.
-    #[error("")]
     Closed,
     /// Out of memory.
-    #[error("out of memory")]
     OutOfMemory,
-}
-
-impl<'a, T: Drop> From<AllocFailed<T>> for Fault<'a> {
-    fn from(_error: AllocFailed<T>) -> Fault<'a> {
-        Fault::OutOfMemory
-    }
 }
 
 impl<'a> From<AllocError> for Fault<'a> {
@@ -84,8 +69,34 @@ pub fn reason_of(error: &io::Error) -> &'static str {
 pub fn report<E: Write>(fault: Fault<'_>, err: &mut E) -> u8
     ensures { result ≡ 1 }
 {
-    if !matches!(fault, Fault::Closed) {
-        let _ = writeln!(err, "{fault}");
-    }
+    let _ = write_fault(&fault, err);
     1
+}
+
+/// Writes the fault in words.
+fn write_fault<E: Write>(fault: &Fault<'_>, err: &mut E) -> io::Result<()> {
+    match fault {
+        Fault::CannotRead(name, why) => writeln!(err, "cannot read {name}: {why}"),
+        Fault::BadLine(line) => write_number("bad line ", *line, "", "", err),
+        Fault::NotConfirmed(entry) => write_number("not confirmed at ", *entry, "", "", err),
+        Fault::Nobody(entry) => write_number("entry ", *entry, ": ", NOBODY, err),
+        Fault::BadLabels(line, why) => write_number("labels line ", *line, ": ", why, err),
+        Fault::CannotWrite => err.write_all(b"cannot write\n"),
+        Fault::OutOfMemory => err.write_all(b"out of memory\n"),
+        Fault::Closed => Ok(()),
+    }
+}
+
+/// Why a call has no caller.
+const NOBODY: &str = "no task is there that could make this call";
+
+/// Writes a line with a number.
+fn write_number<E: Write>(
+    before: &str,
+    number: u64,
+    between: &str,
+    after: &str,
+    err: &mut E,
+) -> io::Result<()> {
+    writeln!(err, "{before}{number}{between}{after}")
 }

@@ -49,15 +49,29 @@ pub fn perform<R: Read, W: Write, E: Write>(
     ensures done { result ≡ 0 → (text : List ℕ) × IsDone job text × Appends (W.contents out.old) (W.contents out.new) text }
 {
     let mut text = Vec::new(alloc);
-    if let Err(error) = file.read_to_end(&mut text) {
-        return report(fault_of(name, &error), err);
+    match file.read_to_end(&mut text) {
+        Ok(_) => {
+            let text = text.as_slice();
+            perform_text(alloc, job, &File { name, text }, out, err)
+        }
+        Err(error) => report(fault_of(name, &error), err),
     }
-    let storyboard = read_storyboard(alloc, text.as_slice());
-    let said = File {
-        name,
-        text: text.as_slice(),
-    };
-    run(alloc, job, &said, &storyboard, out, err)
+}
+
+/// Does the job on the text of a file. It owns the statements, and does nothing else: each way out of a function drops what
+/// it owns, and is proved.
+fn perform_text<W: Write, E: Write>(
+    alloc: Global,
+    job: Job,
+    file: &File<'_>,
+    out: &mut W,
+    err: &mut E,
+) -> u8
+    ensures status { result ≤ 1 }
+    ensures done { result ≡ 0 → (text : List ℕ) × IsDone job text × Appends (W.contents out.old) (W.contents out.new) text }
+{
+    let storyboard = read_storyboard(alloc, file.text);
+    run(alloc, job, file, &storyboard, out, err)
 }
 
 /// Runs the storyboard, writes what the job makes, and returns the status.
@@ -163,7 +177,7 @@ fn write_count<W: Write>(play: &Play, out: &mut W) -> io::Result<()>
     let mut text = Text::new(play.alloc);
     text.number(play.stage.entries().len() as u64);
     text.words(" calls, as said\n");
-    out.write_all(text.whole()?)
+    write_text(&text, out)
 }
 
 /// Writes the labels of the storyboard's words.
@@ -172,6 +186,13 @@ fn write_all_labels<W: Write>(play: &Play, out: &mut W) -> io::Result<()>
 {
     let mut text = Text::new(play.alloc);
     write_labels(&play.board, &mut text);
+    write_text(&text, out)
+}
+
+/// Writes the text. Out of memory if it isn't whole.
+fn write_text<W: Write>(text: &Text, out: &mut W) -> io::Result<()>
+    ensures { OnOk result ((text : List ℕ) × Appends (W.contents out.old) (W.contents out.new) text) }
+{
     out.write_all(text.whole()?)
 }
 

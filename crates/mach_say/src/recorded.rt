@@ -7,7 +7,7 @@ use mach_words::{LabelFault, Labels, Text};
 use std::alloc::Global;
 use std::fs::File;
 use std::io::{Read, Write};
-use tracer::{HistoryFault, read_history};
+use tracer::{History, HistoryFault, read_history};
 
 /// Enters the labels of a file, one a line.
 ///
@@ -20,10 +20,10 @@ pub fn read_labels<'a>(
     labels: &mut Labels,
 ) -> Result<(), Fault<'a>> {
     let mut text = Vec::new(alloc);
-    if let Err(error) = file.read_to_end(&mut text) {
-        return Err(fault_of(name, &error));
+    match file.read_to_end(&mut text) {
+        Ok(_) => enter_lines(text.as_slice(), labels),
+        Err(error) => Err(fault_of(name, &error)),
     }
-    enter_lines(text.as_slice(), labels)
 }
 
 /// Enters the labels of the lines.
@@ -70,10 +70,23 @@ pub fn perform_from<R: Read, W: Write, E: Write>(
     ensures status { result ≤ 1 }
 {
     let mut text = Vec::new(alloc);
-    if let Err(error) = file.read_to_end(&mut text) {
-        return report(fault_of(name, &error), err);
+    match file.read_to_end(&mut text) {
+        Ok(_) => perform_text(alloc, labels, text.as_slice(), out, err),
+        Err(error) => report(fault_of(name, &error), err),
     }
-    match tell_text(alloc, labels, text.as_slice(), out) {
+}
+
+/// Writes a storyboard of the history that the text is, or the fault, and returns the status.
+fn perform_text<W: Write, E: Write>(
+    alloc: Global,
+    labels: Labels,
+    text: &[u8],
+    out: &mut W,
+    err: &mut E,
+) -> u8
+    ensures status { result ≤ 1 }
+{
+    match tell_text(alloc, labels, text, out) {
         Ok(()) => 0,
         Err(fault) => report(fault, err),
     }
@@ -86,11 +99,20 @@ fn tell_text<'a, W: Write>(
     text: &[u8],
     out: &mut W,
 ) -> Result<(), Fault<'a>> {
-    let history = match read_history(alloc, text) {
-        Ok(history) => history,
-        Err(HistoryFault::BadLine(number)) => return Err(Fault::BadLine(number)),
-        Err(HistoryFault::Memory) => return Err(Fault::OutOfMemory),
-    };
+    match read_history(alloc, text) {
+        Ok(history) => tell_history(alloc, labels, &history, out),
+        Err(HistoryFault::BadLine(number)) => Err(Fault::BadLine(number)),
+        Err(HistoryFault::Memory) => Err(Fault::OutOfMemory),
+    }
+}
+
+/// Writes a storyboard of the history.
+fn tell_history<'a, W: Write>(
+    alloc: Global,
+    labels: Labels,
+    history: &History,
+    out: &mut W,
+) -> Result<(), Fault<'a>> {
     let mut storyboard = Text::new(alloc);
     match tell(
         alloc,
@@ -99,11 +121,15 @@ fn tell_text<'a, W: Write>(
         labels,
         &mut storyboard,
     ) {
-        Ok(()) => {}
-        Err(TellFault::NotConfirmed(number)) => return Err(Fault::NotConfirmed(number)),
-        Err(TellFault::Nobody(number)) => return Err(Fault::Nobody(number)),
-        Err(TellFault::OutOfMemory) => return Err(Fault::OutOfMemory),
+        Ok(()) => write_storyboard(&storyboard, out),
+        Err(TellFault::NotConfirmed(number)) => Err(Fault::NotConfirmed(number)),
+        Err(TellFault::Nobody(number)) => Err(Fault::Nobody(number)),
+        Err(TellFault::OutOfMemory) => Err(Fault::OutOfMemory),
     }
+}
+
+/// Writes the storyboard, and flushes the output.
+fn write_storyboard<'a, W: Write>(storyboard: &Text, out: &mut W) -> Result<(), Fault<'a>> {
     out.write_all(storyboard.whole()?)?;
     out.flush()?;
     Ok(())
