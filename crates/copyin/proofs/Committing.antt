@@ -33,9 +33,9 @@ use Rattle.name_space.specs.declared.Entry.{Entry}
 use Rattle.name_space.specs.declared.Entry.TheVariants as entry
 use Rattle.name_space.specs.Names.{SpaceView, Names}
 use Rattle.port.specs.Ports.{PortView, PortsView, IsLive, with_port}
-use Rattle.copyin_base.specs.declared.message.Carried.{Carried}
-use Rattle.copyin_base.specs.declared.message.Mark.{Mark}
-use Rattle.copyin_base.specs.declared.message.Mark.TheVariants as mark
+use Rattle.copyin_base.specs.declared.Carried.{Carried}
+use Rattle.copyin_base.specs.declared.Mark.{Mark}
+use Rattle.copyin_base.specs.declared.Mark.TheVariants as mark
 use Rattle.copyin_base.specs.Stands.{IsTied, AreTied}
 use Rattle.copyin_base.specs.Worlds.{WorldView, space_at, NoneLost, space_in, port_at, put}
 use Rattle.copyin_base.proofs.Putting.{each_put}

@@ -29,7 +29,7 @@ use Rattle.copyin_base.specs.Worlds.{WorldView, port_at, put, space_at}
 use Rattle.copyin_base.specs.Shows.{ShowsPort, Agrees, onces_queued, target_of, HasCount, ShowsCounts, RequestsStand, CountsAgree}
 use Rattle.copyin_base.proofs.Agreeing.{live_put}
 use Rattle.copyin_base.proofs.AttributesSet.{IsAt, attributes_put, is_at, is_same}
-use Rattle.copyin_base.specs.declared.message.Mark.TheVariants as mark
+use Rattle.copyin_base.specs.declared.Mark.TheVariants as mark
 use Rattle.copyin_base.specs.Requests.{requests_after}
 use Rattle.copyin_base.proofs.Counting.{right_made, counts_same}
 use Rattle.copyin_base.proofs.Putting.{put_same}

@@ -3,7 +3,6 @@ use Rattle.std.proofs.Common.{◌≡◌, ℕ, Bool, true, false, List, [], ◌�
 use Rattle.std.specs.Prelude.{◌==◌, MatchBool, map as list_map, replicate, flat_map}
 use Rattle.std.specs.FinMap as map
 use Rattle.std.proofs.lemmas.List.{map-append}
-use Rattle.std.specs.Option.{option_map}
 use Rattle.mach_types.specs.declared.profiles.Profile.{Profile}
 use Rattle.mach_types.specs.Numbers.{null_word, dead_word, disposition, kind_sent}
 use Rattle.mach_types.specs.declared.rights.Disposition.{Disposition}
@@ -28,22 +27,22 @@ use Rattle.name_space.specs.Entry.{port_of}
 use Rattle.name_space.specs.Names.{SpaceView, Names}
 use Rattle.port.specs.Ports.{IsLive, PortsView, PortView, with_port}
 use Rattle.port_set.specs.Sets.{SetsView}
-use Rattle.copyin_base.specs.declared.message.Carried.{Carried}
-use Rattle.copyin_base.specs.declared.message.Mark.{Mark}
-use Rattle.copyin_base.specs.Worlds.{WorldView, with_space, entry_in, entry_at, put, space_at, NoneLost, space_in}
+use Rattle.copyin_base.specs.declared.Carried.{Carried}
+use Rattle.copyin_base.specs.declared.Mark.{Mark}
+use Rattle.copyin_base.specs.Worlds.{WorldView, with_space, entry_in, entry_at, put, space_at, NoneLost}
 use Rattle.copyin_base.specs.Requests.{requests_after, RequestTablesView}
 use Rattle.copyin_base.specs.Shows.{RequestsStand, Agrees}
 use Rattle.copyin_base.proofs.Gets.{same_found}
 use Rattle.copyin_base.proofs.Requested.{requested_left, requested_ports}
-use Rattle.copyin_base.specs.declared.message.Mark.TheVariants as mark
+use Rattle.copyin_base.specs.declared.Mark.TheVariants as mark
 use Rattle.copyin_base.specs.Kept.{mark_of, items_of, body_of, items_given, body_given, Kept}
 use Rattle.copyin_base.proofs.Spaces.{space-set_same}
 use Rattle.copyin_base.proofs.KeptEntries.{numbers, rights_of, item_kept, body_kept}
 use Rattle.copyin_base.specs.Changes.{NotesSenders, IsForLive}
 use Rattle.copyin_base.proofs.Idle.{none_lost_by}
 use Rattle.copyin_base.proofs.SendersNoted.{KeepsSends, sends_made, sends_shifted, KeepsSenders, keeps_senders, keeps_senders_refl, keeps_senders_trans, senders_same, senders_kept}
-use Rattle.copyin_base.specs.Reading.{reading, live_in, AreGiven}
-use Rattle.copyin_base.proofs.Reading.{read_lives, space_read_in, entry_read_in, SamePorts, same_given, same_put}
+use Rattle.copyin_base.specs.Reading.{AreGiven}
+use Rattle.copyin_base.proofs.Reading.{SamePorts, same_given, same_put}
 use Rattle.copyin_base.proofs.Written.{tables, ports_written, port_put}
 use Rattle.dispositions.specs.Copies.{copied_from}
 use Rattle.copyin.specs.Copies.{CopiesRight, ledger_copied, ports_copied, ledger_queued, port_copied}
@@ -505,20 +504,6 @@ same_queued ports p v m there = record { live = same_put ports p v (record v { q
 
 module _ (old : WorldView) {profile : Profile} (spaces : List (Option SpaceView)) (ports : PortsView Kept) (ledger : LedgerView) (sets : SetsView) (requests : RequestTablesView)
     (view : tables profile spaces ports ledger sets requests ≡ old) where
-  abbrev Lives : Entry → Type 0
-  Lives e = (p : ℕ) → port_of e ≡ Some p → IsLive ports p
-
-  -- What stands under a name is for a port that is there, if it is for any.
-  pub is_for_live : (task name : ℕ) → IfSome (entry_at old task name) (λ e. IsForLive old e)
-  is_for_live task name = subst (λ (w : WorldView). IfSome (entry_at w task name) (λ e. IsForLive w e)) view (subst (λ (o : Option Entry). IfSome o Lives) (sym read) (lives (entry_in (space_in spaces task) name)))
-    where
-      read : entry_at (tables profile spaces ports ledger sets requests) task name ≡ option_map (reading (live_in ports)) (entry_in (space_in spaces task) name)
-      read = ap (λ (o : Option SpaceView). entry_in o name) (space_read_in (live_in ports) spaces task) ∙ entry_read_in (live_in ports) (space_in spaces task) name
-
-      lives : (o : Option Entry) → IfSome (option_map (reading (live_in ports)) o) Lives
-      lives (Some e) = λ p for. (read_lives (live_in ports) e p for).1
-      lives None = tt
-
   -- The ports changed so, of which the same are there, and the counts so.
   module _ (new : PortsView Kept) (counts : LedgerView) (same : SamePorts ports new) where
     pub changed_written : tables profile spaces new counts sets requests ≡ record old { ports = new; ledger = counts }

@@ -15,8 +15,8 @@ use Rattle.port.specs.Ports.{PortsView}
 use Rattle.port_set.specs.Sets.{SetsView}
 use Rattle.rights.specs.Ledger.{LedgerView}
 use Rattle.dispositions.specs.declared.Copied.{Copied}
-use Rattle.copyin_base.specs.declared.message.Carried.{Carried}
-use Rattle.copyin_base.specs.declared.message.Mark.{Mark}
+use Rattle.copyin_base.specs.declared.Carried.{Carried}
+use Rattle.copyin_base.specs.declared.Mark.{Mark}
 use Rattle.dispositions.specs.Copies.{copied_from}
 use Rattle.copyin.specs.Copies.{ports_copied, ledger_copied, CopiesRight}
 use Rattle.copyin.specs.Judging.{made_by, made_by_mark}

@@ -20,9 +20,9 @@ use Rattle.name_space.specs.Names.{SpaceView, Names}
 use Rattle.port.specs.declared.Attributes.{Attributes}
 use Rattle.port.specs.Ports.{PortView, PortsView, IsLive}
 use Rattle.port.specs.declared.Holder.TheVariants as by
-use Rattle.copyin_base.specs.declared.message.Carried.{Carried}
-use Rattle.copyin_base.specs.declared.message.Mark.{Mark}
-use Rattle.copyin_base.specs.declared.message.Mark.TheVariants as mark
+use Rattle.copyin_base.specs.declared.Carried.{Carried}
+use Rattle.copyin_base.specs.declared.Mark.{Mark}
+use Rattle.copyin_base.specs.declared.Mark.TheVariants as mark
 use Rattle.copyin_base.specs.Kept.{Kept}
 use Rattle.copyin_base.specs.Worlds.{WorldView, put, entry_in, entry_at, port_at, space_in}
 use Rattle.copyin_base.specs.Shows.{HoldersAgree, CarriersAgree}

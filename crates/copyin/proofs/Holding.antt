@@ -11,7 +11,7 @@ use Rattle.mach_model.specs.State.{State}
 use Rattle.name_space.specs.Names.{SpaceView}
 use Rattle.port.specs.declared.Holder.TheVariants as by
 use Rattle.port.specs.Ports.{PortView, IsLive, with_port}
-use Rattle.copyin_base.specs.declared.message.Carried.{Carried}
+use Rattle.copyin_base.specs.declared.Carried.{Carried}
 use Rattle.copyin_base.specs.Changes.{SetsHolder}
 use Rattle.copyin_base.specs.Kept.{Kept, receive_of}
 use Rattle.copyin_base.specs.Shows.{Agrees, HoldersAgree, CarriersAgree, RequestsStand}

@@ -27,9 +27,9 @@ use Rattle.name_space.specs.declared.Entry.{Entry}
 use Rattle.name_space.specs.Names.{Names}
 use Rattle.copyin_base.specs.Kept.{kind_of}
 use Rattle.copyin_base.specs.Worlds.{put}
-use Rattle.copyin_base.specs.declared.message.Carried.{Carried}
-use Rattle.copyin_base.specs.declared.message.Mark.{Mark}
-use Rattle.copyin_base.specs.declared.message.Mark.TheVariants as mark
+use Rattle.copyin_base.specs.declared.Carried.{Carried}
+use Rattle.copyin_base.specs.declared.Mark.{Mark}
+use Rattle.copyin_base.specs.declared.Mark.TheVariants as mark
 use Rattle.copyin.specs.declared.touched.Touch.{Touch}
 use Rattle.copyin.specs.declared.touched.Touched.{Touched}
 use Rattle.copyin.specs.Overlays.{inline_touched, puts, over, Overlays}

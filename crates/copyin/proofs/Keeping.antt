@@ -12,8 +12,8 @@ use Rattle.name_space.specs.Entry.{port_named, port_of}
 use Rattle.port.specs.Ports.{PortView, PortsView, IsLive}
 use Rattle.rights.specs.Ledger.{LedgerView, IsEntered}
 use Rattle.dispositions.specs.declared.Copied.{Copied}
-use Rattle.copyin_base.specs.declared.message.Mark.{Mark}
-use Rattle.copyin_base.specs.declared.message.Mark.TheVariants as mark
+use Rattle.copyin_base.specs.declared.Mark.{Mark}
+use Rattle.copyin_base.specs.declared.Mark.TheVariants as mark
 use Rattle.dispositions.specs.Copies.{copied_from, one_less}
 use Rattle.copyin.specs.Copies.{ports_copied, port_copied, ledger_copied}
 use Rattle.copyin.specs.Judging.{made_by_mark}

@@ -24,7 +24,7 @@ use Rattle.port.specs.Ports.{PortView, PortsView}
 use Rattle.port.specs.declared.Holder.TheVariants as holder
 use Rattle.port.specs.Holding.{IsHeldBy}
 use Rattle.circularity.specs.Chains.{Leads, here, there, LeadsToAny}
-use Rattle.copyin_base.specs.declared.message.Carried.{Carried}
+use Rattle.copyin_base.specs.declared.Carried.{Carried}
 use Rattle.copyin_base.specs.Kept.{Kept, receive_of}
 use Rattle.copyin_base.proofs.Listed.{none_listed, listed_one, listed_later}
 use Rattle.copyin_base.proofs.KeptEntries.{receive_right, kept_at, some_at}

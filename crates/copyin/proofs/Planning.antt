@@ -33,7 +33,7 @@ use Rattle.message_codec.proofs.Shapes.{All-head, All-tail}
 use Rattle.name_space.specs.declared.Entry.{Entry}
 use Rattle.name_space.specs.Names.{Names, SpaceView}
 use Rattle.port.specs.Ports.{IsLive}
-use Rattle.copyin_base.specs.declared.message.Carried.{Carried}
+use Rattle.copyin_base.specs.declared.Carried.{Carried}
 use Rattle.copyin_base.specs.Kept.{reply_of, message_of}
 use Rattle.copyin_base.specs.Worlds.{WorldView, entry_in, space_at}
 use Rattle.copyin_base.specs.Shows.{target_of, Shows}

@@ -27,12 +27,12 @@ use Rattle.name_space.specs.declared.Entry.{Entry}
 use Rattle.name_space.specs.declared.Entry.TheVariants.{Receive, Send, ReceiveAndSend, SendOnce, DeadName}
 use Rattle.name_space.specs.Entry.{port_named, has_receive, send_references}
 use Rattle.name_space.specs.Names.{Names, SpaceView}
-use Rattle.copyin_base.specs.declared.message.Carried.{Carried}
-use Rattle.copyin_base.specs.declared.message.Mark.TheVariants as mark
+use Rattle.copyin_base.specs.declared.Carried.{Carried}
+use Rattle.copyin_base.specs.declared.Mark.TheVariants as mark
 use Rattle.copyin_base.specs.Kept.{mark_of, reply_of}
 use Rattle.copyin_base.specs.Worlds.{WorldView, entry_in, put, space_at}
 use Rattle.copyin_base.specs.Shows.{target_of, Shows}
-use Rattle.copyin_base.specs.declared.message.Mark.{Mark}
+use Rattle.copyin_base.specs.declared.Mark.{Mark}
 use Rattle.dispositions.specs.declared.Copied.{Copied}
 use Rattle.dispositions.specs.Copies.{copied_from}
 use Rattle.copyin.specs.Judging.{CopiesName, CopiesReply, IsBad, BodyIsBad}

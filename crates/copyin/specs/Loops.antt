@@ -4,8 +4,8 @@ use Rattle.circularity.specs.Chains.{Leads}
 use Rattle.mach_types.specs.declared.rights.Disposition.TheVariants.{MoveReceive}
 use Rattle.port.specs.declared.Holder.TheVariants.{QueueOf}
 use Rattle.port.specs.Ports.{PortsView}
-use Rattle.copyin_base.specs.declared.message.Carried.{Carried}
-use Rattle.copyin_base.specs.declared.message.Mark.TheVariants as mark
+use Rattle.copyin_base.specs.declared.Carried.{Carried}
+use Rattle.copyin_base.specs.declared.Mark.TheVariants as mark
 use Rattle.copyin_base.specs.Changes.{SetsHolder}
 use Rattle.copyin_base.specs.Kept.{Kept, receive_of}
 use Rattle.copyin_base.specs.Worlds.{WorldView}

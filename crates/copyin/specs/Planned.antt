@@ -14,8 +14,8 @@ use Rattle.name_space.specs.Names.{Names, SpaceView}
 use Rattle.port.specs.Ports.{IsLive}
 use Rattle.copyin.specs.declared.judge.Plan.{Plan}
 use Rattle.copyin.specs.declared.judge.Words.{Words}
-use Rattle.copyin_base.specs.declared.message.Carried.{Carried}
-use Rattle.copyin_base.specs.declared.message.Mark.TheVariants as mark
+use Rattle.copyin_base.specs.declared.Carried.{Carried}
+use Rattle.copyin_base.specs.declared.Mark.TheVariants as mark
 use Rattle.dispositions.specs.declared.Copied.{Copied}
 use Rattle.dispositions.specs.Copies.{copied_from}
 use Rattle.copyin.specs.Judging.{CopiesWord, made_by, made_by_all}

@@ -1,5 +1,5 @@
 //! Carrying out a plan.
-ghost use Rattle.std.specs.Prelude.{◌≡◌, ℕ, ◌<◌, ◌≤◌, ◌+◌, ◌-◌, ◌++◌, List, [], ◌∷◌, true, Some, IfSome};
+ghost use Rattle.std.specs.Prelude.{◌≡◌, ℕ, ◌<◌, ◌≤◌, ◌+◌, ◌-◌, ◌++◌, List, [], ◌∷◌, true, Some};
 ghost use Rattle.std.specs.Option.{option_to_list};
 ghost use Rattle.mach_types.specs.Grammar.{WireBody};
 ghost use Rattle.mach_types.specs.Numbers.{most_rights};
@@ -7,15 +7,15 @@ ghost use Rattle.mach_types.specs.declared.rights.Disposition.TheVariants as dis
 ghost use Rattle.message_codec.specs.declared.text.Parsed.{Parsed as AnyParsed};
 ghost use Rattle.port.specs.Ports.{PortView, IsLive, with_port};
 ghost use Rattle.rights.specs.Ledger.{IsEntered, counts_of};
-ghost use Rattle.copyin_base.specs.declared.message.Mark.TheVariants as mark_of;
+ghost use Rattle.copyin_base.specs.declared.Mark.TheVariants as mark_of;
 ghost use Rattle.copyin.specs.Judging.{made_by, made_by_mark};
 ghost use Rattle.copyin.specs.Loops.{HoldsRight, HoldsRights};
 ghost use Rattle.copyin.specs.Planned.{IsPlan, CanGo, CanCopy, CanHoldAll};
 ghost use Rattle.copyin.specs.Plans.{ChangesWord, ChangesWords, Commits};
-ghost use Rattle.copyin_base.specs.Changes.{IsForLive, PutsLeft};
+ghost use Rattle.copyin_base.specs.Changes.{PutsLeft};
 ghost use Rattle.copyin_base.specs.Kept.{Kept, receive_of};
 ghost use Rattle.copyin_base.specs.Stands.{IsTied};
-ghost use Rattle.copyin_base.specs.Worlds.{NoneLost, entry_at, port_at};
+ghost use Rattle.copyin_base.specs.Worlds.{NoneLost, port_at};
 ghost use Rattle.copyin.specs.Copies.{ports_copied, ledger_copied, ledger_queued, CopiesRight};
 
 use crate::judge::Plan;
@@ -23,9 +23,8 @@ use copyin_base::{Carried, Mark, Message, Queued, World};
 use dispositions::copy_right;
 use mach_types::{Disposition, Name, PortId, TaskId};
 use message_codec::PortWord;
-use name_space::Entry;
 use port::{Attributes, Holder, Ports};
-use rights::{Ledger, RightKind};
+use rights::RightKind;
 
 // The receive right goes from its port, whose counts start again and which is in no set. Its holder is
 // set where it is given, or where a message that carries it is queued.
@@ -63,35 +62,23 @@ fn renew_port(ports: &mut Ports<Queued>, given: Disposition, mark: Mark)
 
 // Counts the right that is made, if one is.
 #[inline(always)]
-fn count_right(ledger: &mut Ledger, given: Disposition, mark: Mark)
-    requires entered { (port : ℕ) → mark ≡ mark_of.Port port → IsEntered ledger.old port }
-    requires room { ledger.old.total + made_by_mark given mark ≤ most_rights }
-    ensures { ledger.new ≡ ledger_copied given mark ledger.old }
+fn count_right(world: &mut World, given: Disposition, mark: Mark)
+    requires entered { (port : ℕ) → mark ≡ mark_of.Port port → IsEntered world.old.ledger port }
+    requires room { world.old.ledger.total + made_by_mark given mark ≤ most_rights }
+    ensures { world.new ≡ record world.old { ledger = ledger_copied given mark world.old.ledger } }
 {
     let Mark::Port(port) = &mark else {
         return;
     };
     match given {
         Disposition::CopySend | Disposition::MakeSend => {
-            ledger.make(*port, RightKind::Send, 1).unwrap();
+            world.make_rights(*port, RightKind::Send, 1).unwrap();
         }
         Disposition::MakeSendOnce => {
-            ledger.make(*port, RightKind::SendOnce, 1).unwrap();
+            world.make_rights(*port, RightKind::SendOnce, 1).unwrap();
         }
         _ => {}
     }
-}
-
-// What stands under the name. Names are read with the ports that are there, so it is for one of them,
-// if for any.
-#[inline(always)]
-fn entry_under(world: &World, task: TaskId, name: Name) -> Option<Entry>
-    ensures value { result ≡ entry_at world.now task name }
-    ensures lives { IfSome result (λ e. IsForLive world.now e) }
-{
-    // Only where a field is used does the proof see how the names are read.
-    let _ = &world.ports;
-    world.lookup(task, name)
 }
 
 // Leaves what is left of the right under the name that it goes from, and tells what stands for the
@@ -106,7 +93,7 @@ fn leave_name(world: &mut World, task: TaskId, name: Name, carried: Carried) -> 
     if carried.given.makes_right() {
         return carried.mark;
     }
-    let entry = entry_under(world, task, name).unwrap();
+    let entry = world.lookup(task, name).unwrap();
     let copied = copy_right(carried.given, &entry).unwrap();
     world.put_left(task, name, copied.left);
     copied.mark
@@ -122,8 +109,8 @@ fn count_copied(world: &mut World, carried: Carried)
       ledger = ledger_copied carried.given carried.mark world.old.ledger;
     } }
 {
+    count_right(world, carried.given, carried.mark);
     renew_port(&mut world.ports, carried.given, carried.mark);
-    count_right(&mut world.ledger, carried.given, carried.mark);
 }
 
 /// Sends the right under the name by its disposition. What is left stays under the name, the port changes as
@@ -175,12 +162,12 @@ fn copy_kept(world: &mut World, task: TaskId, name: Name, carried: &Carried)
 }
 
 // Counts the send-once right that a message goes by, once it is queued, as unused no more.
-fn use_right(ledger: &mut Ledger, port: PortId, by_once: bool)
-    requires { by_once ≡ true → 0 < (counts_of ledger.old port).send_once }
-    ensures { ledger.new ≡ ledger_queued by_once port ledger.old }
+fn use_right(world: &mut World, port: PortId, by_once: bool)
+    requires { by_once ≡ true → 0 < (counts_of world.old.ledger port).send_once }
+    ensures { world.new ≡ record world.old { ledger = ledger_queued by_once port world.old.ledger } }
 {
     if by_once {
-        ledger.shift(port);
+        world.use_once(port);
     }
 }
 
@@ -197,8 +184,8 @@ fn queue_message(world: &mut World, port: PortId, message: Message)
     } }
 {
     let by_once = message.by_once();
+    use_right(world, port, by_once);
     world.ports.enqueue(port, Queued::sent(message));
-    use_right(&mut world.ledger, port, by_once);
 }
 
 // A word's right goes, if the word is a name.

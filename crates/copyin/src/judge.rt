@@ -15,8 +15,8 @@ ghost use Rattle.message_codec.specs.declared.text.Parsed.{Parsed as AnyParsed};
 ghost use Rattle.message_codec.specs.Parses.{Parses};
 ghost use Rattle.message_codec.specs.Words.{body_words, inline_words};
 ghost use Rattle.name_space.specs.Names.{Names};
-ghost use Rattle.copyin_base.specs.declared.message.Carried.{Carried as AnyCarried};
-ghost use Rattle.copyin_base.specs.declared.message.Mark.TheVariants as mark_of;
+ghost use Rattle.copyin_base.specs.declared.Carried.{Carried as AnyCarried};
+ghost use Rattle.copyin_base.specs.declared.Mark.TheVariants as mark_of;
 ghost use Rattle.copyin_base.specs.Carrying.{spans_in, rights_in};
 ghost use Rattle.copyin.specs.Judging.{CopiesName, CopiesWord, CopiesReply, CopiesBody, IsBad, BodyIsBad, made_by, made_by_all};
 ghost use Rattle.copyin.specs.Overlays.{IsFull, Overlays};
@@ -439,7 +439,7 @@ fn has_room(world: &World, rights: &Rights, body: &[Carried]) -> bool
         None => 0,
     };
     let made = count_made(rights.destination) + reply + count_all_made(body);
-    world.ledger.total() as u64 + made <= MOST_RIGHTS as u64
+    world.total_rights() as u64 + made <= MOST_RIGHTS as u64
 }
 
 // Judges whether the message closes a loop.

@@ -17,7 +17,7 @@ use Rattle.name_space.specs.Names.{SpaceView}
 use Rattle.name_space.specs.Names.{Names as TableNames}
 use Rattle.port.specs.Ports.{PortView}
 use Rattle.port_set.specs.Sets.{SetsView}
-use Rattle.copyin_base.specs.Kept.{Kept}
+use Rattle.tables_base.specs.Kept.{Kept}
 use Rattle.copyin_base.specs.Worlds.{WorldView, space_in, space_at, entry_in, port_at, put}
 use Rattle.copyin_base.specs.Requests.{RequestTablesView, notify_of, RequestsAgree}
 use Rattle.copyin_base.specs.Shows.{target_of, HasCount, GivenAgrees, ShowsPort, ShowsCounts, SpacesAgree, ReferencesAgree, SetsAgree, Agrees}

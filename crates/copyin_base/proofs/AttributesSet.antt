@@ -8,7 +8,7 @@ use Rattle.mach_model.proofs.Names.{at_own, at_other}
 use Rattle.port.specs.declared.Attributes.{Attributes}
 use Rattle.port.specs.declared.Holder.{Holder}
 use Rattle.port.specs.Ports.{PortView, with_port}
-use Rattle.copyin_base.specs.Kept.{Kept}
+use Rattle.tables_base.specs.Kept.{Kept}
 use Rattle.copyin_base.specs.Changes.{HasAttributes, SetsAttributes, SetsHolder}
 use Rattle.copyin_base.specs.Worlds.{WorldView, port_at}
 use Rattle.copyin_base.specs.Shows.{AllKept, ShowsPort, Agrees}

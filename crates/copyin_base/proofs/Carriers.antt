@@ -10,7 +10,7 @@ use Rattle.port.specs.declared.Holder.{Holder}
 use Rattle.port.specs.declared.Holder.TheVariants as by
 use Rattle.port.specs.Ports.{PortView, PortsView}
 use Rattle.port_set.specs.Sets.{IsDisbanded}
-use Rattle.copyin_base.specs.Kept.{Kept}
+use Rattle.tables_base.specs.Kept.{Kept}
 use Rattle.copyin_base.specs.Changes.{HasAttributes, SetsAttributes, SetsHolder}
 use Rattle.copyin_base.specs.Worlds.{WorldView, no_world, port_at}
 use Rattle.copyin_base.specs.Shows.{CarriesReceive, CarriersAgree}

@@ -20,7 +20,7 @@ use Rattle.port.specs.declared.Holder.{Holder}
 use Rattle.port.specs.declared.Holder.TheVariants as by
 use Rattle.port.specs.Ports.{PortView, PortsView, with_port}
 use Rattle.port_set.specs.Sets.{in_set, IsDisbanded}
-use Rattle.copyin_base.specs.Kept.{Kept}
+use Rattle.tables_base.specs.Kept.{Kept}
 use Rattle.copyin_base.specs.Changes.{PutsLeft, InsertsEntry, HasAttributes, SetsAttributes, SetsHolder}
 use Rattle.copyin_base.specs.Worlds.{WorldView, no_world, space_in, space_at, entry_in, entry_at, port_at, put}
 use Rattle.copyin_base.specs.Shows.{Agrees, HoldersAgree}

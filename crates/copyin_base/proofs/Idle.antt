@@ -6,7 +6,7 @@ use Rattle.port.specs.declared.Attributes.{Attributes}
 use Rattle.port.specs.declared.Holder.{Holder}
 use Rattle.port.specs.Ports.{PortsView}
 use Rattle.port_set.specs.Sets.{IsDisbanded}
-use Rattle.copyin_base.specs.Kept.{Kept}
+use Rattle.tables_base.specs.Kept.{Kept}
 use Rattle.copyin_base.specs.Changes.{PutsLeft, InsertsEntry, SetsAttributes, SetsHolder, SameButNaming}
 use Rattle.copyin_base.specs.Stands.{Stands}
 use Rattle.copyin_base.specs.Worlds.{WorldView, no_world, NoneLost, IsIdle}

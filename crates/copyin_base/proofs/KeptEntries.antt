@@ -16,10 +16,10 @@ use Rattle.mach_types.specs.Bodies.{body_rights, reply_rights, message_rights}
 use Rattle.mach_model.specs.State.{State, queue}
 use Rattle.mach_model.specs.Carried.{lying, mark_count, rights_count, message_count}
 use Rattle.mach_model.specs.Lawful.{IsLawful}
-use Rattle.copyin_base.specs.declared.message.Carried.{Carried}
-use Rattle.copyin_base.specs.declared.message.Mark.{Mark}
-use Rattle.copyin_base.specs.declared.message.Mark.TheVariants as mark
-use Rattle.copyin_base.specs.Kept.{Kept, Keeps, receive_moved, mark_of, marks_of, kind_of, body_of, reply_of, items_given, body_given}
+use Rattle.tables_base.specs.declared.message.Carried.{Carried}
+use Rattle.tables_base.specs.declared.message.Mark.{Mark}
+use Rattle.tables_base.specs.declared.message.Mark.TheVariants as mark
+use Rattle.tables_base.specs.Kept.{Kept, Keeps, receive_moved, mark_of, marks_of, kind_of, body_of, reply_of, items_given, body_given}
 use Rattle.copyin_base.specs.Shows.{AllKept}
 use Rattle.copyin_base.proofs.Gets.{same_found}
 

@@ -11,8 +11,10 @@ pub mod Taking
 pub mod Putting
 pub mod Reading
 pub mod Written
+pub mod Entering
 pub mod Lost
 pub mod Removed
+pub mod Coming
 pub mod Changing
 pub mod NamesChanged
 pub mod Holders
@@ -22,7 +24,6 @@ pub mod Told
 pub mod Acting
 pub mod Finding
 pub mod Exiting
-pub mod Notices
 pub mod Listed
 pub mod SendersNoted
 pub mod Carriers

@@ -11,7 +11,7 @@ use Rattle.port.proofs.Keys.{same_some}
 use Rattle.port_set.specs.Sets.{SetsView, removed, IsDisbanded}
 use Rattle.rights.specs.declared.RightKind.TheVariants.{Receive}
 use Rattle.rights.specs.Ledger.{LedgerView, IsEntered, counts_of, shifted, taken}
-use Rattle.copyin_base.specs.Kept.{Kept}
+use Rattle.tables_base.specs.Kept.{Kept}
 use Rattle.copyin_base.specs.Losing.{CanLose, LosesPort, DropsSet}
 use Rattle.copyin_base.specs.Reading.{AreGiven}
 use Rattle.copyin_base.specs.Requests.{RequestTablesView}

@@ -7,7 +7,7 @@ use Rattle.name_space.specs.Names.{SpaceView}
 use Rattle.port.specs.Ports.{PortsView, IsLive}
 use Rattle.port_set.specs.Sets.{SetsView}
 use Rattle.rights.specs.Ledger.{LedgerView}
-use Rattle.copyin_base.specs.Kept.{Kept}
+use Rattle.tables_base.specs.Kept.{Kept}
 use Rattle.copyin_base.specs.Changes.{IsSenderless, NotesSenderless}
 use Rattle.copyin_base.specs.Reading.{AreGiven}
 use Rattle.copyin_base.specs.Requests.{RequestTablesView}

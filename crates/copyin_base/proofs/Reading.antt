@@ -16,7 +16,7 @@ use Rattle.tagged_names.specs.Names.{Given, IsTaken, IsFreshIndex}
 use Rattle.name_space.specs.Names.{Names, SpaceView, IsFreshIn, HasRoomIn, HasPlace, HasNoOther, CanCountIn, MayWantIn, MayWantPlace}
 use Rattle.name_space.specs.Names.{port_at as named_at}
 use Rattle.port.specs.Ports.{PortView, PortsView}
-use Rattle.copyin_base.specs.Kept.{Kept}
+use Rattle.tables_base.specs.Kept.{Kept}
 use Rattle.copyin_base.specs.Reading.{reading, read_names, read_space, read_spaces, live_in, AreGiven}
 use Rattle.copyin_base.specs.Worlds.{put, space_in, entry_in}
 use Rattle.copyin_base.proofs.Gets.{same_found}

@@ -16,7 +16,7 @@ use Rattle.port.specs.Ports.{PortView, PortsView, IsLive}
 use Rattle.number_map.specs.Maps.{MapView}
 use Rattle.request_table.specs.declared.Request.{Request}
 use Rattle.request_table.specs.Requests.{name_key, key_of}
-use Rattle.copyin_base.specs.Kept.{Kept}
+use Rattle.tables_base.specs.Kept.{Kept}
 use Rattle.copyin_base.specs.Changes.{PutsLeft, InsertsEntry, SetsAttributes, SetsHolder, SameButNaming}
 use Rattle.copyin_base.specs.Requests.{RequestTablesView, left_by}
 use Rattle.copyin_base.specs.Worlds.{WorldView, no_world, space_in, space_at, entry_in, entry_at, put}

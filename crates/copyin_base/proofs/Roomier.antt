@@ -8,7 +8,7 @@ use Rattle.tagged_names.specs.Names.{Given}
 use Rattle.name_space.specs.Names.{Names, SpaceView, given_after}
 use Rattle.port.specs.Ports.{PortsView}
 use Rattle.rights.specs.Ledger.{LedgerView}
-use Rattle.copyin_base.specs.Kept.{Kept}
+use Rattle.tables_base.specs.Kept.{Kept}
 use Rattle.copyin_base.specs.Requests.{RequestTablesView}
 use Rattle.copyin_base.specs.Worlds.{WorldView, HasTask, IsIdle, space_at, with_space, entry_in, entry_at}
 use Rattle.copyin_base.specs.Shows.{GivenAgrees, Agrees, HoldersAgree, CarriersAgree, SlotsSuffice, RequestsStand, Shows, target_of}

@@ -18,7 +18,7 @@ use Rattle.name_space.specs.Entry.{port_named, has_receive, receive_named}
 use Rattle.name_space.specs.Names.{SpaceView}
 use Rattle.port.specs.declared.Holder.TheVariants as holder
 use Rattle.port.specs.Ports.{PortView}
-use Rattle.copyin_base.specs.Kept.{Kept}
+use Rattle.tables_base.specs.Kept.{Kept}
 use Rattle.copyin_base.specs.Worlds.{WorldView, HasTask, space_at, entry_at, port_at}
 use Rattle.copyin_base.specs.Shows.{target_of, Agrees, HoldersAgree}
 use Rattle.copyin_base.proofs.Gets.{seen, same_found}

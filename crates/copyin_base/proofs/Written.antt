@@ -1,6 +1,7 @@
 -- The names that one task keeps were read and replaced in the tables.
 use Rattle.std.proofs.Common.{◌≡◌, ℕ, ◌+◌, ◌<◌, List, [], ◌∷◌, ◌++◌, Option, Some, None, refl, sym, ap, subst, ◌∙◌, true, get_or, ◌⊎◌, inl, inr}
 use Rattle.std.specs.Prelude.{slice_set, is_some, IfSome}
+use Rattle.std.specs.Option.{option_map}
 use Rattle.std.specs.FinMap as map
 use Rattle.std.specs.Ordering.{nat_cmp}
 use Rattle.mach_types.specs.declared.profiles.Profile.{Profile}
@@ -11,15 +12,15 @@ use Rattle.name_space.specs.Names.{SpaceView}
 use Rattle.port.specs.Ports.{PortView, PortsView, IsLive, with_port}
 use Rattle.port_set.specs.Sets.{SetsView, IsDisbanded}
 use Rattle.rights.specs.Ledger.{LedgerView}
-use Rattle.copyin_base.specs.Kept.{Kept}
+use Rattle.tables_base.specs.Kept.{Kept}
 use Rattle.copyin_base.specs.Changes.{IsForLive}
 use Rattle.copyin_base.specs.Requests.{RequestTablesView}
-use Rattle.copyin_base.specs.Reading.{read_names, read_space, read_spaces, live_in, AreGiven}
+use Rattle.copyin_base.specs.Reading.{reading, read_names, read_space, read_spaces, live_in, AreGiven}
 use Rattle.copyin_base.specs.Worlds.{WorldView, space_in, space_at, with_space, put}
 use Rattle.copyin_base.proofs.Changing.{same_port}
 use Rattle.copyin_base.proofs.Gets.{same_found}
 use Rattle.copyin_base.proofs.Putting.{each_put}
-use Rattle.copyin_base.proofs.Reading.{kept_there, read_set, given_put, SamePorts, same_read, same_given, same_put, read_more, given_more, read_pushed, given_pushed, none_read}
+use Rattle.copyin_base.proofs.Reading.{kept_there, read_set, given_put, SamePorts, same_read, same_given, same_put, read_more, given_more, read_pushed, given_pushed, none_read, get_read, read_lives}
 use Rattle.copyin_base.proofs.Spaces.{read_there, same_world}
 
 -- the tables whose names are kept so
@@ -78,6 +79,21 @@ module _ (old : WorldView) (task : ℕ) (space : SpaceView) {profile : Profile} 
   left_lives left lives e is p for =
       let own : IsForLive old e = subst (λ (o : Option Entry). IfSome o (λ x. IsForLive old x)) is lives in
       subst (λ (x : PortsView Kept). IsLive x p) (sym ports_there) (own p for)
+
+module _ (old : WorldView) {profile : Profile} (spaces : List (Option SpaceView)) (ports : PortsView Kept) (ledger : LedgerView) (sets : SetsView) (requests : RequestTablesView)
+    (view : tables profile spaces ports ledger sets requests ≡ old) where
+  abbrev Lives : Entry → Type 0
+  Lives e = (p : ℕ) → port_of e ≡ Some p → IsLive ports p
+
+  -- What is read of what a name keeps is for a port that is there, if it is for any.
+  pub read_is_live : (lent read : SpaceView) (name : ℕ) (o : Option Entry) → read ≡ read_space (live_in ports) lent → o ≡ map.get read.names name → IfSome o (λ e. IsForLive old e)
+  read_is_live lent read name o same is =
+      let from : o ≡ option_map (reading (live_in ports)) (map.get lent.names name) = is ∙ ap (λ (x : SpaceView). map.get x.names name) same ∙ get_read (live_in ports) lent.names name in
+      subst (λ (w : WorldView). IfSome o (λ e. IsForLive w e)) view (subst (λ (x : Option Entry). IfSome x Lives) (sym from) (lives (map.get lent.names name)))
+    where
+      lives : (x : Option Entry) → IfSome (option_map (reading (live_in ports)) x) Lives
+      lives (Some e) = λ p for. (read_lives (live_in ports) e p for).1
+      lives None = tt
 
 -- ---- ports
 

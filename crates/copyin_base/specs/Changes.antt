@@ -4,16 +4,16 @@ use Rattle.std.specs.Option.{option_map}
 use Rattle.std.specs.FinMap as map
 use Rattle.mach_types.specs.Numbers.{most_names}
 use Rattle.name_space.specs.declared.Entry.{Entry}
-use Rattle.name_space.specs.Entry.{port_named, port_of}
+use Rattle.name_space.specs.Entry.{port_named, port_of, with_send}
 use Rattle.name_space.specs.Names.{SpaceView, IsUsable, HasPlace, HasRoomIn, HasNoOther, CanCountIn, given_after}
 use Rattle.name_space.specs.Names.{port_at as named_at}
 use Rattle.port.specs.declared.Attributes.{Attributes}
 use Rattle.port.specs.declared.Holder.{Holder}
 use Rattle.port.specs.Ports.{PortView, with_port, IsLive}
 use Rattle.rights.specs.Ledger.{counts_of}
-use Rattle.copyin_base.specs.Kept.{Kept}
+use Rattle.tables_base.specs.Kept.{Kept}
 use Rattle.copyin_base.specs.Requests.{requests_after}
-use Rattle.copyin_base.specs.Worlds.{WorldView, space_at, with_space, port_at, put}
+use Rattle.copyin_base.specs.Worlds.{WorldView, entry_at, space_at, with_space, port_at, put}
 
 -- ---- what stands under a name
 
@@ -75,6 +75,26 @@ pub record InsertsFresh (old : WorldView) (task name : ℕ) (entry : Entry) (new
   pub space : SpaceView
   pub there : space_at old task ≡ Some space
   pub rest : new ≡ with_space old task (record space { names = map.insert space.names name entry; room = space.room - 1; given = given_after space.given name })
+
+-- The task's name for the port, under which this stood, has a send reference more.
+pub record AddsSend (old : WorldView) (task port name : ℕ) (entry : Entry) (new : WorldView) : Type 0 where
+  pub space : SpaceView
+  pub there : space_at old task ≡ Some space
+  pub found : map.get space.names name ≡ Some entry
+  pub named : port_named entry ≡ Some port
+  pub rest : new ≡ with_space old task (record space { names = map.insert space.names name (with_send entry) })
+
+-- This stands under the first name of the task and may stand under the second, which isn't in use.
+pub record MayRename (w : WorldView) (task from to : ℕ) (e : Entry) : Type 0 where
+  pub found : entry_at w task from ≡ Some e
+  pub unused : entry_at w task to ≡ None
+  pub usable : IsUsable to
+
+-- What is under the first name of the task goes under the second, for which a place is kept, in its names alone.
+pub record MovesEntry (old : WorldView) (task from to : ℕ) (e : Entry) (new : WorldView) : Type 0 where
+  pub space : SpaceView
+  pub there : space_at old task ≡ Some space
+  pub rest : new ≡ with_space old task (record space { names = map.insert (map.remove space.names from) to e; room = space.room - 1 })
 
 -- All is as before, but for places for names to come and for counts of fresh ones.
 pub record SameButNaming (old new : WorldView) : Type 0 where

@@ -6,7 +6,7 @@ use Rattle.port.specs.Ports.{PortsView}
 use Rattle.request_table.specs.declared.Request.{Request}
 use Rattle.request_table.specs.Requests.{without_first_went, without_request}
 use Rattle.rights.specs.Ledger.{left}
-use Rattle.copyin_base.specs.Kept.{Kept}
+use Rattle.tables_base.specs.Kept.{Kept}
 use Rattle.copyin_base.specs.Reading.{live_in, read_spaces}
 use Rattle.copyin_base.specs.Worlds.{WorldView}
 

@@ -1,9 +1,9 @@
-pub mod Carrying
-pub mod Envelope
-pub mod Kept
+pub use Rattle.tables_base.specs.Carrying
+pub use Rattle.tables_base.specs.Envelope
+pub use Rattle.tables_base.specs.Kept
+pub use Rattle.tables_base.specs.Queued
 pub mod Leaving
 pub mod Losing
-pub mod Queued
 pub mod Reading
 pub mod Requests
 pub mod Worlds
@@ -12,5 +12,7 @@ pub mod Stands
 pub mod Posted
 pub mod Serving
 pub mod Finds
+pub mod Asking
 pub mod Changes
+pub mod Coming
 pub mod Wanted

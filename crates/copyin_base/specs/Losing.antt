@@ -6,10 +6,10 @@ use Rattle.port.specs.Ports.{PortView, IsLive, with_port}
 use Rattle.port_set.specs.Sets.{removed, IsDisbanded}
 use Rattle.rights.specs.declared.RightKind.TheVariants.{Receive, Send}
 use Rattle.rights.specs.Ledger.{IsEntered, counts_of, shifted, taken}
-use Rattle.copyin_base.specs.declared.notice.Notice.{Notice}
+use Rattle.tables_base.specs.declared.notice.Notice.{Notice}
 use Rattle.copyin_base.specs.Changes.{NotesSenderless}
-use Rattle.copyin_base.specs.Kept.{Kept}
-use Rattle.copyin_base.specs.Queued.{notice_kept}
+use Rattle.tables_base.specs.Kept.{Kept}
+use Rattle.tables_base.specs.Queued.{notice_kept}
 use Rattle.copyin_base.specs.Shows.{SlotsSuffice}
 use Rattle.copyin_base.specs.Worlds.{WorldView, port_at}
 

@@ -10,7 +10,7 @@ use Rattle.name_space.specs.declared.Entry.TheVariants.{Receive, Send, ReceiveAn
 use Rattle.name_space.specs.Entry.{port_of}
 use Rattle.name_space.specs.Names.{Names, SpaceView}
 use Rattle.port.specs.Ports.{PortsView, IsLive}
-use Rattle.copyin_base.specs.Kept.{Kept}
+use Rattle.tables_base.specs.Kept.{Kept}
 
 -- the entry, or the dead name that is left of it once its port is gone
 abbrev pub reading : (live : ℕ → Bool) → Entry → Entry

@@ -23,8 +23,8 @@ use Rattle.port_set.specs.Sets.{SetsView}
 use Rattle.request_table.specs.declared.Request.{Request as NameRequest}
 use Rattle.request_table.specs.Requests.{key_of}
 use Rattle.rights.specs.Ledger.{LedgerView, counts_of}
-use Rattle.copyin_base.specs.declared.message.Mark.TheVariants as mark
-use Rattle.copyin_base.specs.Kept.{Kept, Keeps}
+use Rattle.tables_base.specs.declared.message.Mark.TheVariants as mark
+use Rattle.tables_base.specs.Kept.{Kept, Keeps}
 use Rattle.copyin_base.specs.Requests.{notify_of, RequestsAgree}
 use Rattle.copyin_base.specs.Worlds.{WorldView, has_generations, space_in, entry_in, entry_at, port_at, IsIdle}
 

@@ -9,7 +9,7 @@ use Rattle.name_space.specs.Entry.{port_of}
 use Rattle.name_space.specs.Names.{Names, SpaceView}
 use Rattle.port.specs.Ports.{PortsView, IsLive}
 use Rattle.rights.specs.Ledger.{LedgerView, IsEntered, counts_of}
-use Rattle.copyin_base.specs.Kept.{Kept}
+use Rattle.tables_base.specs.Kept.{Kept}
 use Rattle.copyin_base.specs.Worlds.{WorldView, space_at}
 use Rattle.copyin_base.specs.Shows.{Shows}
 

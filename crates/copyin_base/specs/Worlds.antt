@@ -10,7 +10,7 @@ use Rattle.name_space.specs.Names.{SpaceView}
 use Rattle.port.specs.Ports.{PortView, PortsView}
 use Rattle.port_set.specs.Sets.{SetsView, no_sets}
 use Rattle.rights.specs.Ledger.{LedgerView}
-use Rattle.copyin_base.specs.Kept.{Kept}
+use Rattle.tables_base.specs.Kept.{Kept}
 use Rattle.copyin_base.specs.Requests.{RequestTablesView, none_requested}
 
 pub record WorldView : Type 0 where

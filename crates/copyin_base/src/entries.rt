@@ -1,14 +1,16 @@
 //! What is under a name, changed.
-ghost use Rattle.std.specs.Prelude.{◌≡◌, Some, None, OnOk, OnErr, IfErr};
+ghost use Rattle.std.specs.Prelude.{◌≡◌, ◌≢◌, ℕ, Some, None, OnOk, OnErr, IfErr, IfNone, IfSome};
 ghost use Rattle.mach_types.specs.declared.codes.KernReturn.TheVariants as kern;
-ghost use Rattle.name_space.specs.Names.{IsUsable};
-ghost use Rattle.copyin_base.specs.Changes.{CanPutLeft, PutsLeft, CanInsert, InsertsEntry, CanInsertFresh, InsertsFresh, MakesRoom, KeepsPlace};
-ghost use Rattle.copyin_base.specs.Wanted.{LacksRoomFor, LacksPlace};
-ghost use Rattle.copyin_base.specs.Worlds.{HasTask};
+ghost use Rattle.name_space.specs.declared.Entry.{Entry as AnyEntry};
+ghost use Rattle.name_space.specs.Names.{IsUsable, SpaceView, port_at as named_at};
+ghost use Rattle.port.specs.Ports.{IsLive};
+ghost use Rattle.copyin_base.specs.Changes.{AddsSend, CanPutLeft, PutsLeft, CanInsert, InsertsEntry, CanInsertFresh, InsertsFresh, MakesRoom, KeepsPlace, MayRename, MovesEntry};
+ghost use Rattle.copyin_base.specs.Wanted.{LacksRoomFor, LacksPlace, kept_of};
+ghost use Rattle.copyin_base.specs.Worlds.{HasTask, space_at};
 
 use crate::world::World;
-use mach_types::{KernReturn, Name, TaskId};
-use name_space::Entry;
+use mach_types::{KernReturn, Name, PortId, TaskId};
+use name_space::{Entry, PortName};
 
 impl World {
     // Puts another entry under a name that is in use.
@@ -79,6 +81,41 @@ impl World {
             unreachable!()
         };
         space.insert_fresh(name, entry);
+    }
+
+    /// Adds a send reference under the task's name for a port that is there, if it has one, and returns that
+    /// name with what was under it before. A reference above 65,535 is not kept. `None` where no name is for
+    /// the port; nothing is then changed.
+    ///
+    /// Takes no memory. Constant time, and logarithmic for a name above 65,535.
+    #[inline(always)]
+    pub fn add_send(&mut self, task: TaskId, port: PortId) -> Option<PortName>
+        requires there { HasTask self.old task }
+        requires live { IsLive self.old.ports port }
+        ensures found { IfSome result (λ named. AddsSend self.old task port named.name named.entry self.new) }
+        ensures none { IfNone result ((space : SpaceView) → space_at self.old task ≡ Some space → (name : ℕ) → named_at space.names name ≢ Some port) }
+        ensures same { IfNone result (self.new ≡ self.old) }
+    {
+        let Some(space) = &mut self.spaces[task.number() as usize] else {
+            unreachable!()
+        };
+        space.add_send(port)
+    }
+
+    /// Moves what is under the first name to the second, which isn't in use and for which a place is kept (Port
+    /// Manipulation Interface, `mach_port_rename`). The request on the name, and what is kept of a set, stay.
+    ///
+    /// Takes no memory. Constant time, and logarithmic for a name above 65,535.
+    #[inline(always)]
+    pub fn move_entry(&mut self, task: TaskId, from: Name, to: Name)
+        requires may { (e : AnyEntry) × MayRename self.old task from to e }
+        requires place { kept_of self.old task ≡ Some to }
+        ensures { (e : AnyEntry) → MayRename self.old task from to e → MovesEntry self.old task from to e self.new }
+    {
+        let Some(space) = &mut self.spaces[task.number() as usize] else {
+            unreachable!()
+        };
+        space.rename(from, to);
     }
 
     /// Makes room for so many fresh names of the task. Room that is there stays and counts: where it is

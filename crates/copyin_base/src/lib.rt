@@ -8,23 +8,20 @@
 
 mod attributes;
 mod code;
+mod counts;
 mod entries;
-mod envelope;
 mod find;
 mod losing;
-mod message;
-mod notice;
-mod queued;
 mod requests;
 mod senders;
+mod sets;
 mod task_names;
+mod tasks;
 mod world;
 
 pub use code::Code;
-pub use envelope::Envelope;
-pub use message::{BodyRights, Carried, CarriedRights, Mark, Message};
-pub use notice::Notice;
-pub use queued::{Queued, Slot};
-pub use requests::RequestTables;
+pub use tables_base::{
+    BodyRights, Carried, CarriedRights, Envelope, Mark, Message, Notice, Queued, Slot,
+};
 pub use task_names::TaskNames;
 pub use world::World;

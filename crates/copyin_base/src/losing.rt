@@ -2,20 +2,19 @@
 ghost use Rattle.std.specs.Prelude.{◌≡◌, ◌≤◌, MatchBool, None, Some, is_some, length, slice_set, true};
 ghost use Rattle.port.specs.Ports.{PortView};
 ghost use Rattle.rights.specs.Ledger.{IsEntered, counts_of};
-ghost use Rattle.copyin_base.specs.Kept.{Kept};
+ghost use Rattle.tables_base.specs.Kept.{Kept};
 ghost use Rattle.copyin_base.specs.Leaving.{port_removed};
 ghost use Rattle.copyin_base.specs.Losing.{CanLose, CanPost, DropsSet, LosesPort, LosesSends, Posts};
 ghost use Rattle.copyin_base.specs.Reading.{live_in, read_space};
 ghost use Rattle.copyin_base.specs.Shows.{SlotsSuffice};
 ghost use Rattle.copyin_base.specs.Worlds.{HasTask, port_at, space_at};
 
-use crate::notice::Notice;
-use crate::queued::Queued;
 use crate::world::World;
 use mach_types::{PortId, SetId, TaskId};
 use name_space::Space;
 use port_set::disband;
 use rights::RightKind;
+use tables_base::{Notice, Queued};
 
 impl World {
     /// Puts the notice at the end of the port's queue, in a spare slot. A send-once right for the port, to

@@ -6,12 +6,12 @@ ghost use Rattle.name_space.specs.Entry.{port_of};
 ghost use Rattle.name_space.specs.Names.{IsFreshFor, IsNextName, IsUsable, port_at};
 ghost use Rattle.copyin_base.specs.Reading.{live_in, read_space, reading};
 
-use crate::queued::Queued;
 use mach_types::{Name, PortId};
 use name_space::{Entry, Space};
 use port::Ports;
 use std::alloc::{AllocError, Global};
 use std::marker::Model;
+use tables_base::Queued;
 use user_refs::UserRefs;
 
 /// The names of a task that lives. What a name keeps is read with the ports that are there: a right for a

@@ -1,12 +1,11 @@
 //! The kernel's tables.
-ghost use Rattle.std.specs.Prelude.{◌≡◌, ◌↔◌, ◌+◌, IsTrue, max, OnOk, OnErr, Some};
+ghost use Rattle.std.specs.Prelude.{◌≡◌, ◌↔◌, ◌+◌, IfSome, IsTrue, max, OnOk, OnErr, Some};
 ghost use Rattle.rights.specs.Unused.{IsUnusedOfAll};
-ghost use Rattle.copyin_base.specs.Changes.{with_slots};
+ghost use Rattle.copyin_base.specs.Changes.{IsForLive, with_slots};
 ghost use Rattle.copyin_base.specs.Shows.{SlotsSuffice};
 ghost use Rattle.copyin_base.specs.Wanted.{LacksSlots};
 ghost use Rattle.copyin_base.specs.Worlds.{HasTask, entry_at, has_generations, no_world, space_at};
 
-use crate::queued::Queued;
 use crate::requests::RequestTables;
 use crate::task_names::TaskNames;
 use mach_types::{Name, Profile, TaskId};
@@ -16,6 +15,7 @@ use port_set::Sets;
 use rights::Ledger;
 use std::alloc::{AllocError, Global};
 use std::marker::Model;
+use tables_base::Queued;
 
 /// The tasks' names, the ports with their queues, the counts of all rights, the port sets, and
 /// the requests for notices.
@@ -23,18 +23,17 @@ use std::marker::Model;
 /// A task's number is its place, also after its end. Contracts see its names as [`TaskNames`] are: what is
 /// kept, read with the ports that are there. What else ties the tables to one another is no part of this
 /// type: who holds a world keeps that it shows a state of the machine.
-#[derive(Drop)]
 pub struct World {
     /// The names of each task; none where the task has ended.
-    pub spaces: Vec<Option<Space>>,
+    pub(crate) spaces: Vec<Option<Space>>,
     /// The ports.
     pub ports: Ports<Queued>,
     /// How many rights there are.
-    pub ledger: Ledger,
+    pub(crate) ledger: Ledger,
     /// The port sets. Which ports are in one is an attribute of the ports.
-    pub sets: Sets,
+    pub(crate) sets: Sets,
     /// The requests for notices.
-    pub requests: RequestTables,
+    pub(crate) requests: RequestTables,
     /// By which profile fresh names are made.
     profile: Profile,
 }
@@ -51,8 +50,8 @@ impl Model for World {
     ghost use Rattle.mach_types.specs.contracts.identities.PortId as port_id;
     ghost use Rattle.request_table.specs.contracts.Request as request;
     ghost use Rattle.copyin_base.specs.Requests.{request_tables_code};
-    ghost use Rattle.copyin_base.specs.Kept.{kept_code};
-    ghost use Rattle.copyin_base.specs.contracts.message.Carried as carried;
+    ghost use Rattle.tables_base.specs.Kept.{kept_code};
+    ghost use Rattle.tables_base.specs.contracts.message.Carried as carried;
     ghost use Rattle.mach_types.specs.contracts.profiles.Profile as profile_of;
     ghost use Rattle.copyin_base.specs.Reading.{AreGiven, live_in, read_spaces};
     ghost use Rattle.copyin_base.specs.Worlds.{WorldView, world_code};
@@ -64,6 +63,20 @@ impl Model for World {
     ghost view = { λ w. record { spaces = read_spaces (live_in w.ports) w.spaces.items; ports = w.ports; ledger = w.ledger; sets = w.sets; requests = w.requests; profile = w.profile } };
 
     ghost invariant = { λ w. AreGiven w.spaces.items w.ports };
+}
+
+/// Drops each table. It is written out, so that it is proved here alone, and not in each crate that drops a world.
+impl Drop for World {
+    fn drop(self) {
+        let World {
+            spaces: _,
+            ports: _,
+            ledger: _,
+            sets: _,
+            requests: _,
+            profile: _,
+        } = self;
+    }
 }
 
 impl World {
@@ -117,12 +130,15 @@ impl World {
         Some(TaskNames::of(kept, &self.ports))
     }
 
-    /// What is under the task's name, if anything is. Constant time, and logarithmic for a name above 65,535.
+    /// What is under the task's name, if anything is: a right for a port that is there, a dead name or a set.
+    /// Constant time, and logarithmic for a name above 65,535.
     #[inline(always)]
     pub fn lookup(&self, task: TaskId, name: Name) -> Option<Entry>
-        ensures { result ≡ entry_at self.now task name }
+        ensures value { result ≡ entry_at self.now task name }
+        ensures lives { IfSome result (λ entry. IsForLive self.now entry) }
     {
-        self.find_space(task)?.lookup(name)
+        let kept = self.spaces.get(task.number() as usize)?.as_ref()?;
+        TaskNames::of(kept, &self.ports).lookup(name)
     }
 
     /// Makes message slots, so that one is spare for each unused send-once right, and so many more. Where

@@ -19,9 +19,9 @@ use Rattle.tagged_names.proofs.Found.{has_fresh_name}
 use Rattle.name_space.specs.Names.{Names, SpaceView, IsFreshName, IsFreshIn, tagged_of, given_after, port_at}
 use Rattle.name_space.proofs.Keys.{put_here, put_other, equal_or_not}
 use Rattle.port.specs.Ports.{PortsView}
-use Rattle.copyin_base.specs.declared.message.Carried.{Carried}
-use Rattle.copyin_base.specs.declared.message.Mark.{Mark}
-use Rattle.copyin_base.specs.declared.message.Mark.TheVariants as mark
+use Rattle.copyin_base.specs.declared.Carried.{Carried}
+use Rattle.copyin_base.specs.declared.Mark.{Mark}
+use Rattle.copyin_base.specs.declared.Mark.TheVariants as mark
 use Rattle.copyin_base.specs.Worlds.{WorldView, space_at, with_space}
 use Rattle.copyin_base.specs.Kept.{Kept}
 use Rattle.copyin_base.proofs.FreshNames.{fresh_unused}

@@ -16,13 +16,13 @@ use Rattle.name_space.specs.Names.{Names, SpaceView, port_at}
 use Rattle.name_space.proofs.Keys.{some_or_none}
 use Rattle.name_space.specs.declared.Entry.{Entry}
 use Rattle.port.specs.Ports.{PortsView}
-use Rattle.copyin_base.specs.declared.message.Carried.{Carried}
+use Rattle.copyin_base.specs.declared.Carried.{Carried}
 use Rattle.copyin_base.specs.Kept.{Kept, IsMessageOf}
 use Rattle.copyin_base.specs.Worlds.{WorldView, HasTask, space_at, port_at as table_at}
 use Rattle.copyin_base.specs.Changes.{MakesRoom}
 use Rattle.copyin_base.proofs.Told.{space_there}
-use Rattle.copyin_base.specs.declared.message.Mark.{Mark}
-use Rattle.copyin_base.specs.declared.message.Mark.TheVariants as mark
+use Rattle.copyin_base.specs.declared.Mark.{Mark}
+use Rattle.copyin_base.specs.declared.Mark.TheVariants as mark
 use Rattle.copyin_base.proofs.Gets.{same_found}
 use Rattle.copyin_base.proofs.Spaces.{space-set_same}
 use Rattle.copyin_base.specs.Shows.{SlotsSuffice}

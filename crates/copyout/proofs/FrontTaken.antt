@@ -47,7 +47,7 @@ use Rattle.copyin_base.proofs.Requested.{requested_put}
 use Rattle.copyin_base.proofs.Requesting.{requests_stay}
 use Rattle.copyin_base.proofs.Holders.{put_holders, holders_ports}
 use Rattle.copyin_base.proofs.Taking.{Without, take_lying}
-use Rattle.copyin_base.specs.declared.message.Carried.{Carried}
+use Rattle.copyin_base.specs.declared.Carried.{Carried}
 use Rattle.copyin_base.specs.Changes.{NotesSenderless, NotesSenders}
 use Rattle.copyin_base.specs.Posted.{IsLeft}
 use Rattle.copyin_base.proofs.Listed.{none_listed}

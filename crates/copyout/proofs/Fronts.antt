@@ -36,9 +36,9 @@ use Rattle.copyin_base.specs.Kept.{Kept, Keeps, items_of, body_of, items_given, 
 use Rattle.copyin_base.specs.Worlds.{WorldView, port_at}
 use Rattle.copyin_base.specs.Shows.{AllKept, Agrees, Shows}
 use Rattle.copyin_base.proofs.KeptEntries.{message_counted, numbers, item_kept, message_kept, rights_of}
-use Rattle.copyin_base.specs.declared.message.Carried.{Carried}
-use Rattle.copyin_base.specs.declared.message.Mark.{Mark}
-use Rattle.copyin_base.specs.declared.message.Mark.TheVariants as mark
+use Rattle.copyin_base.specs.declared.Carried.{Carried}
+use Rattle.copyin_base.specs.declared.Mark.{Mark}
+use Rattle.copyin_base.specs.declared.Mark.TheVariants as mark
 use Rattle.copyin_base.specs.Changes.{IsSenderless, NotesSenderless, NotesSenders, SameButRoom}
 use Rattle.copyin_base.proofs.Listed.{none_listed}
 use Rattle.copyin_base.proofs.SendersNoted.{KeepsSenders, keeps_senders, keeps_senders_trans, sends_taken, sends_elsewhere, senders_same, senders_kept, noted_senderless}

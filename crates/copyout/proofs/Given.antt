@@ -39,8 +39,8 @@ use Rattle.copyout.proofs.Counted.{new_of, put_world, gives_puts, joins_only, ta
 use Rattle.copyin_base.proofs.Changing.{target_named}
 use Rattle.copyin_base.proofs.Holders.{IsReceive, ReceivesIn, ReceivesAt, receives_at, put_receives, left_receives, added_receives, KeepHolders, ChangesHolder, same_holders, unheld, unheld_lying, holders_left, holders_given}
 use Rattle.copyin_base.proofs.SendersNoted.{KeepsSends, KeepsSenders, keeps_senders, counts_own, sends_elsewhere}
-use Rattle.copyin_base.specs.declared.message.Mark.{Mark}
-use Rattle.copyin_base.specs.declared.message.Mark.TheVariants as mark
+use Rattle.copyin_base.specs.declared.Mark.{Mark}
+use Rattle.copyin_base.specs.declared.Mark.TheVariants as mark
 use Rattle.copyin_base.specs.Wanted.{KeepsSpares}
 use Rattle.copyin_base.proofs.Spares.{keeps_same, keeps_space}
 use Rattle.copyout.specs.Giving.{joined, alone, JoinsName, ledger_joined, ports_given, GivesPort, GivesMark}

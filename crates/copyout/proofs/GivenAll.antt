@@ -28,8 +28,8 @@ use Rattle.message_codec.proofs.Fronts.{length-descriptor_text}
 use Rattle.message_codec.proofs.Shapes.{All-cons, length-words_text}
 use Rattle.port.specs.Ports.{PortView}
 use Rattle.port.specs.declared.Holder.TheVariants as Holder
-use Rattle.copyin_base.specs.declared.message.Carried.{Carried}
-use Rattle.copyin_base.specs.declared.message.Mark.TheVariants as mark
+use Rattle.copyin_base.specs.declared.Carried.{Carried}
+use Rattle.copyin_base.specs.declared.Mark.TheVariants as mark
 use Rattle.copyin_base.specs.Changes.{SetsHolder, SameButNaming}
 use Rattle.copyin_base.specs.Kept.{Kept, mark_of, items_given, body_given}
 use Rattle.copyin_base.specs.Shows.{CarriersAgree, Agrees, HoldersAgree, RequestsStand}
@@ -42,7 +42,7 @@ use Rattle.copyin_base.proofs.Told.{port_there}
 use Rattle.copyin_base.proofs.SendersNoted.{KeepsSenders, keeps_senders_refl, keeps_senders_trans, naming_senders}
 use Rattle.copyin_base.proofs.Roomier.{naming_holders, naming_carriers, naming_requested}
 use Rattle.copyin_base.proofs.Idle.{none_lost_room}
-use Rattle.copyin_base.specs.declared.message.Mark.{Mark}
+use Rattle.copyin_base.specs.declared.Mark.{Mark}
 use Rattle.copyout.specs.Giving.{port_held, ports_given, GivesPort, GivesMark, GivesAll}
 use Rattle.copyout.specs.Putting.{PutsPort}
 use Rattle.copyout.specs.Ready.{carried_by}

@@ -24,9 +24,9 @@ use Rattle.copyin_base.specs.Shows.{ShowsPort, Agrees}
 use Rattle.copyin_base.proofs.Agreeing.{live_put, ports_put}
 use Rattle.copyin_base.proofs.Holders.{ChangesHolder, put_holder}
 use Rattle.copyin_base.proofs.Idle.{none_lost_by}
-use Rattle.copyin_base.specs.declared.message.Carried.{Carried}
-use Rattle.copyin_base.specs.declared.message.Mark.{Mark}
-use Rattle.copyin_base.specs.declared.message.Mark.TheVariants as mark
+use Rattle.copyin_base.specs.declared.Carried.{Carried}
+use Rattle.copyin_base.specs.declared.Mark.{Mark}
+use Rattle.copyin_base.specs.declared.Mark.TheVariants as mark
 use Rattle.copyin_base.proofs.Putting.{each_put}
 use Rattle.copyin_base.proofs.Spaces.{space-set_same}
 use Rattle.copyout.specs.Giving.{port_held, ports_given, ledger_joined, GivesPort, GivesMark, NeedsOwn, free_names, free_room, MarkLacks, Lack}

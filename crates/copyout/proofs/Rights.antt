@@ -14,7 +14,7 @@ use Rattle.mach_model.specs.ReceivedMeans.{IsReceived}
 use Rattle.mach_model.proofs.Walks.{one_reply}
 use Rattle.message_codec.specs.Received.{received_kind, received_body}
 use Rattle.message_codec.proofs.Shapes.{All-head, All-tail}
-use Rattle.copyin_base.specs.declared.message.Carried.{Carried}
+use Rattle.copyin_base.specs.declared.Carried.{Carried}
 use Rattle.copyin_base.specs.Kept.{kind_of, body_of, reply_of, items_given, body_given}
 use Rattle.copyin_base.proofs.KeptEntries.{numbers, none_kept, item_kept}
 use Rattle.copyout.specs.Takes.{reply_number, reply_word, body_names}

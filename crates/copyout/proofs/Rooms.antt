@@ -21,9 +21,9 @@ use Rattle.name_space.specs.declared.Entry.{Entry}
 use Rattle.name_space.specs.Entry.{port_named}
 use Rattle.name_space.specs.Names.{SpaceView, IsFreshFor, given_after, port_at as port_under, Names}
 use Rattle.name_space.proofs.Keys.{put_here, put_other, equal_or_not}
-use Rattle.copyin_base.specs.declared.message.Carried.{Carried}
-use Rattle.copyin_base.specs.declared.message.Mark.{Mark}
-use Rattle.copyin_base.specs.declared.message.Mark.TheVariants as mark
+use Rattle.copyin_base.specs.declared.Carried.{Carried}
+use Rattle.copyin_base.specs.declared.Mark.{Mark}
+use Rattle.copyin_base.specs.declared.Mark.TheVariants as mark
 use Rattle.copyin_base.specs.Kept.{mark_of, Kept}
 use Rattle.copyin_base.specs.Worlds.{WorldView, entry_in, space_at, with_space, HasTask, NoneLost, port_at, space_in}
 use Rattle.copyin_base.specs.Requests.{notify_of}

@@ -2,8 +2,8 @@
 use Rattle.std.specs.Prelude.{◌≡◌, ℕ, false, true, MatchOption, length, Option, Some, None, is_some, if◌then◌else◌}
 use Rattle.mach_types.specs.Numbers.{kind_sent}
 use Rattle.copyin_base.specs.Carrying.{reply_held, spans_held, rights_held}
-use Rattle.copyin_base.specs.declared.message.Carried.{Carried}
-use Rattle.copyin_base.specs.declared.message.Mark.TheVariants as mark
+use Rattle.copyin_base.specs.declared.Carried.{Carried}
+use Rattle.copyin_base.specs.declared.Mark.TheVariants as mark
 use Rattle.copyin_base.specs.Kept.{Kept}
 use Rattle.copyin_base.specs.Worlds.{WorldView, port_at}
 use Rattle.copyout.specs.declared.bare.Bare.{Bare}

@@ -7,15 +7,15 @@ use Rattle.mach_types.specs.Bodies.{Through, OneFails}
 use Rattle.tagged_names.specs.Names.{Given}
 use Rattle.name_space.specs.declared.Entry.{Entry}
 use Rattle.name_space.specs.declared.Entry.TheVariants as entry
-use Rattle.name_space.specs.Entry.{port_named, send_references, with_send}
+use Rattle.name_space.specs.Entry.{port_named, send_references}
 use Rattle.name_space.specs.Names.{Names, SpaceView, IsFreshFor, given_after, port_at}
 use Rattle.port.specs.declared.Holder.TheVariants as Holder
 use Rattle.port.specs.Ports.{PortView, PortsView, with_port}
 use Rattle.rights.specs.Ledger.{LedgerView, taken}
 use Rattle.rights.specs.declared.RightKind.TheVariants as right
-use Rattle.copyin_base.specs.declared.message.Carried.{Carried}
-use Rattle.copyin_base.specs.declared.message.Mark.{Mark}
-use Rattle.copyin_base.specs.declared.message.Mark.TheVariants as mark
+use Rattle.copyin_base.specs.declared.Carried.{Carried}
+use Rattle.copyin_base.specs.declared.Mark.{Mark}
+use Rattle.copyin_base.specs.declared.Mark.TheVariants as mark
 use Rattle.copyin_base.specs.Kept.{Kept}
 use Rattle.copyin_base.specs.Worlds.{WorldView, space_at, with_space}
 
@@ -63,14 +63,6 @@ port_held task p ports None = ports
 abbrev pub ports_given : Kind → (task port : ℕ) → PortsView Kept → PortsView Kept
 ports_given receive task p ports = port_held task p ports (map.get ports.ports p)
 ports_given kind task p ports = ports
-
--- The task's name for the port, under which this stood, has a send reference more.
-pub record AddsSend (old : WorldView) (task port name : ℕ) (entry : Entry) (new : WorldView) : Type 0 where
-  pub space : SpaceView
-  pub there : space_at old task ≡ Some space
-  pub found : map.get space.names name ≡ Some entry
-  pub named : port_named entry ≡ Some port
-  pub rest : new ≡ with_space old task (record space { names = map.insert space.names name (with_send entry) })
 
 -- The right for a port that is there comes to the task under this name; a fresh one is counted.
 pub record GivesPort (old : WorldView) (task : ℕ) (kind : Kind) (port word : ℕ) (new : WorldView) : Type 0 where

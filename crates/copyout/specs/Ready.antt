@@ -11,9 +11,9 @@ use Rattle.name_space.specs.Names.{port_at as port_named_at}
 use Rattle.port.specs.Ports.{PortView}
 use Rattle.rights.specs.Ledger.{IsEntered, counts_of}
 use Rattle.rights.specs.Counts.{number_of}
-use Rattle.copyin_base.specs.declared.message.Carried.{Carried}
-use Rattle.copyin_base.specs.declared.message.Mark.{Mark}
-use Rattle.copyin_base.specs.declared.message.Mark.TheVariants as mark
+use Rattle.copyin_base.specs.declared.Carried.{Carried}
+use Rattle.copyin_base.specs.declared.Mark.{Mark}
+use Rattle.copyin_base.specs.declared.Mark.TheVariants as mark
 use Rattle.copyin_base.specs.Kept.{Kept}
 use Rattle.copyin_base.specs.Worlds.{WorldView, NoneLost, port_at, space_at}
 use Rattle.std.specs.Option.{option_to_list}

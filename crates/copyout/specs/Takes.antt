@@ -8,7 +8,7 @@ use Rattle.port.specs.Ports.{PortView, with_port}
 use Rattle.rights.specs.Ledger.{taken}
 use Rattle.rights.specs.declared.RightKind.{RightKind}
 use Rattle.rights.specs.declared.RightKind.TheVariants as right
-use Rattle.copyin_base.specs.declared.message.Carried.{Carried}
+use Rattle.copyin_base.specs.declared.Carried.{Carried}
 use Rattle.copyin_base.specs.Changes.{NotesSenderless}
 use Rattle.copyin_base.specs.Kept.{Kept}
 use Rattle.copyin_base.specs.Worlds.{WorldView, port_at}

@@ -10,7 +10,7 @@ ghost use Rattle.message_codec.specs.Received.{IsLaidOut};
 ghost use Rattle.copyin_base.specs.Changes.{MakesRoom};
 ghost use Rattle.copyin_base.specs.Kept.{Kept};
 ghost use Rattle.copyin_base.specs.Worlds.{HasTask, WorldView};
-ghost use Rattle.copyin_base.specs.declared.message.Carried.{Carried as AnyCarried};
+ghost use Rattle.copyin_base.specs.declared.Carried.{Carried as AnyCarried};
 ghost use Rattle.copyout.specs.Bare.{IsBare, TellsOwn, lone_right, own_names};
 ghost use Rattle.copyout.specs.Giving.{GivesAll};
 ghost use Rattle.copyout.specs.Room.{Needs, OwnsAlone};

@@ -6,15 +6,14 @@ ghost use Rattle.mach_types.specs.Tokens.{receive, send, send_once};
 ghost use Rattle.name_space.specs.declared.Entry.{Entry as AnyEntry};
 ghost use Rattle.name_space.specs.Entry.{port_named, send_references};
 ghost use Rattle.name_space.specs.Names.{SpaceView, port_at, IsUsable, HasNoOther};
-ghost use Rattle.port.specs.Ports.{IsLive};
 ghost use Rattle.rights.specs.declared.RightKind.TheVariants as right;
 ghost use Rattle.rights.specs.Ledger.{IsEntered, counts_of, taken};
-ghost use Rattle.copyin_base.specs.declared.message.Carried.{Carried as AnyCarried};
-ghost use Rattle.copyin_base.specs.declared.message.Mark.TheVariants as mark;
+ghost use Rattle.copyin_base.specs.declared.Carried.{Carried as AnyCarried};
+ghost use Rattle.copyin_base.specs.declared.Mark.TheVariants as mark;
 ghost use Rattle.copyin_base.specs.Changes.{CanInsert, InsertsEntry};
 ghost use Rattle.copyin_base.specs.Worlds.{HasTask, NoneLost, entry_at, space_at};
 ghost use Rattle.std.specs.Option.{option_to_list};
-ghost use Rattle.copyout.specs.Giving.{joined, alone, ledger_joined, ports_given, AddsSend, GivesPort, GivesMark, GivesAll};
+ghost use Rattle.copyout.specs.Giving.{joined, alone, ledger_joined, ports_given, GivesPort, GivesMark, GivesAll};
 ghost use Rattle.copyout.specs.Room.{HasNone};
 ghost use Rattle.copyout.specs.Ready.{CanGivePort, CanJoin, CanTakeName, CanGive};
 
@@ -88,7 +87,7 @@ fn drop_send(world: &mut World, port: PortId)
     requires counted { 1 ≤ (counts_of world.old.ledger port).send }
     ensures { world.new ≡ record world.old { ledger = taken world.old.ledger port right.Send 1 } }
 {
-    world.ledger.take(port, RightKind::Send, 1);
+    world.take_rights(port, RightKind::Send, 1);
 }
 
 // Whether it is a send right.
@@ -162,28 +161,13 @@ pub(crate) fn take_name(world: &mut World, task: TaskId, given: Disposition, por
     name
 }
 
-// Adds a send reference under the task's name for the port, if it has one, and answers that name with
-// what stood under it before.
-fn add_send(world: &mut World, task: TaskId, port: PortId) -> Option<PortName>
-    requires there { HasTask world.old task }
-    requires live { IsLive world.old.ports port }
-    ensures found { IfSome result (λ named. AddsSend world.old task port named.name named.entry world.new) }
-    ensures none { IfNone result ((space : SpaceView) → space_at world.old task ≡ Some space → HasNone space.names port) }
-    ensures same { IfNone result (world.new ≡ world.old) }
-{
-    let Some(space) = &mut world.spaces[task.number() as usize] else {
-        unreachable!()
-    };
-    space.add_send(port)
-}
-
 // Gives a send right for a port that is there: the task's name for the port is searched for once.
 fn give_send(world: &mut World, task: TaskId, given: Disposition, port: PortId) -> Name
     requires sent { kind_sent given ≡ send }
     requires can { CanGivePort world.old task (kind_sent given) port }
     ensures { GivesPort world.old task (kind_sent given) port result world.new }
 {
-    match add_send(world, task, port) {
+    match world.add_send(task, port) {
         Some(named) => {
             drop_pegged(world, given, port, &named.entry);
             named.name

@@ -92,7 +92,7 @@ fn consume(world: &mut World, port: PortId, queued: &Queued)
     } else {
         RightKind::Send
     };
-    world.ledger.take(port, kind, 1);
+    world.take_rights(port, kind, 1);
 }
 
 /// Takes the port's front message; its number is used, its slot is spare, and its destination right is

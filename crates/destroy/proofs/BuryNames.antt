@@ -34,7 +34,7 @@ use Rattle.copyin_base.specs.Kept.{Kept}
 use Rattle.copyin_base.specs.Worlds.{WorldView, space_at, entry_in, entry_at, port_at, put}
 use Rattle.copyin_base.proofs.Putting.{get_removed, put_own, put_other}
 use Rattle.copyin_base.proofs.Written.{tables}
-use Rattle.copyin_base.specs.declared.notice.Notice.TheVariants as notice
+use Rattle.copyin_base.specs.declared.Notice.TheVariants as notice
 use Rattle.copyin_base.specs.Queued.{notice_kept}
 use Rattle.copyin_base.specs.Requests.{RequestTablesView, notify_of}
 use Rattle.copyin_base.specs.Shows.{target_of, CarriesReceive, IsOnName}

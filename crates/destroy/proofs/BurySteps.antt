@@ -21,7 +21,7 @@ use Rattle.port.specs.Holding.{IsHeldBy}
 use Rattle.port.specs.Ports.{PortView}
 use Rattle.request_table.specs.Requests.{name_key}
 use Rattle.request_table.specs.declared.Request.{Request as NameRequest}
-use Rattle.copyin_base.specs.declared.notice.Notice.{Notice}
+use Rattle.copyin_base.specs.declared.Notice.{Notice}
 use Rattle.copyin_base.specs.Changes.{IsSenderless}
 use Rattle.copyin_base.specs.Kept.{Kept}
 use Rattle.copyin_base.specs.Queued.{notice_kept, notice_of}
@@ -30,10 +30,10 @@ use Rattle.copyin_base.specs.Shows.{CarriesReceive}
 use Rattle.copyin_base.specs.Worlds.{WorldView, port_at}
 use Rattle.copyin_base.proofs.Gets.{same_found}
 use Rattle.copyin_base.proofs.Putting.{put_other, get_removed, len_put}
-use Rattle.copyin_base.specs.declared.notice.Notice.TheVariants.{SendOnce, NoSenders}
-use Rattle.copyin_base.specs.declared.message.Carried.{Carried}
-use Rattle.copyin_base.specs.declared.message.Mark.{Mark}
-use Rattle.copyin_base.specs.declared.message.Mark.TheVariants as mark
+use Rattle.copyin_base.specs.declared.Notice.TheVariants.{SendOnce, NoSenders}
+use Rattle.copyin_base.specs.declared.Carried.{Carried}
+use Rattle.copyin_base.specs.declared.Mark.{Mark}
+use Rattle.copyin_base.specs.declared.Mark.TheVariants as mark
 use Rattle.copyin_base.specs.Leaving.{without_no_senders}
 use Rattle.copyin_base.specs.Losing.{CanPost}
 use Rattle.notifications.specs.SoFar.{AgreesOf}

@@ -19,13 +19,13 @@ use Rattle.port.specs.declared.Holder.{Holder}
 use Rattle.port.specs.declared.Holder.TheVariants as holder
 use Rattle.port.specs.Holding.{held}
 use Rattle.port.specs.Ports.{PortView, with_port}
-use Rattle.copyin_base.specs.declared.message.Carried.{Carried}
+use Rattle.copyin_base.specs.declared.Carried.{Carried}
 use Rattle.copyin_base.specs.Kept.{Kept, Keeps, mark_of, receive_of}
 use Rattle.copyin_base.proofs.KeptEntries.{rights_of, message_counted, one_counted, own_counted, moved_is}
 use Rattle.copyin_base.specs.Worlds.{WorldView, port_at}
 use Rattle.copyin_base.proofs.Gets.{of_some, same_found}
 use Rattle.copyin_base.proofs.Putting.{each_put}
-use Rattle.copyin_base.specs.declared.notice.Notice.TheVariants.{PortDestroyed}
+use Rattle.copyin_base.specs.declared.Notice.TheVariants.{PortDestroyed}
 use Rattle.copyin_base.specs.Leaving.{without_port_destroyed}
 use Rattle.copyin_base.specs.Losing.{CanPost, Posts}
 use Rattle.destroy.specs.Judging.{receive_right, CarriesAmong, IsQueued, LosesPort, LosesAt, LosesAmong, last_destroyed, CanSend, ResetsPort, HoldsPort, brought}

@@ -34,7 +34,7 @@ use Rattle.port.specs.Ports.{PortView, IsLive}
 use Rattle.port.specs.Turns.{ReadyLists}
 use Rattle.port.specs.declared.Holder.{Holder}
 use Rattle.request_table.specs.declared.Request.{Request as NameRequest}
-use Rattle.copyin_base.specs.declared.notice.Notice.TheVariants.{PortDestroyed}
+use Rattle.copyin_base.specs.declared.Notice.TheVariants.{PortDestroyed}
 use Rattle.copyin_base.specs.Kept.{Kept, receive_of}
 use Rattle.copyin_base.specs.Queued.{notice_kept}
 use Rattle.copyin_base.specs.Worlds.{WorldView, port_at}

@@ -33,7 +33,7 @@ use Rattle.copyin_base.proofs.Gets.{same_found}
 use Rattle.copyin_base.proofs.Holders.{KeepHolders, same_holders, put_holders, holders_ports}
 use Rattle.copyin_base.proofs.Putting.{get_removed, put_own, put_other}
 use Rattle.copyin_base.proofs.Requested.{requested_stay, requested_put, keeps_same}
-use Rattle.copyin_base.specs.declared.notice.Notice.{Notice}
+use Rattle.copyin_base.specs.declared.Notice.{Notice}
 use Rattle.copyin_base.specs.Queued.{notice_kept, notice_of}
 use Rattle.copyin_base.specs.Requests.{RequestTablesView}
 use Rattle.copyin_base.proofs.Counting.{counts_same}

@@ -19,7 +19,7 @@ use Rattle.mach_model.proofs.SettledReceives.{two_le, dead_cases, place_is, tall
 use Rattle.mach_model.proofs.TurnsCounted.{reached_counted, reached_sound}
 use Rattle.port.specs.declared.Holder.{Holder}
 use Rattle.port.specs.declared.Holder.TheVariants as holder
-use Rattle.copyin_base.specs.declared.message.Carried.{Carried}
+use Rattle.copyin_base.specs.declared.Carried.{Carried}
 use Rattle.copyin_base.specs.Kept.{Kept, Keeps}
 use Rattle.copyin_base.specs.Worlds.{WorldView}
 use Rattle.copyin_base.proofs.KeptEntries.{message_kept}

@@ -28,14 +28,14 @@ use Rattle.port.specs.declared.Holder.{Holder}
 use Rattle.port.specs.declared.Holder.TheVariants as holder
 use Rattle.port.specs.Ports.{PortView}
 use Rattle.copyin_base.specs.Changes.{IsSenderless}
-use Rattle.copyin_base.specs.declared.notice.Notice.{Notice}
+use Rattle.copyin_base.specs.declared.Notice.{Notice}
 use Rattle.copyin_base.specs.Kept.{Kept, mark_of}
 use Rattle.copyin_base.specs.Worlds.{WorldView, port_at}
 use Rattle.copyin_base.proofs.Putting.{put_own, put_other}
-use Rattle.copyin_base.specs.declared.message.Carried.{Carried}
-use Rattle.copyin_base.specs.declared.message.Mark.{Mark}
-use Rattle.copyin_base.specs.declared.message.Mark.TheVariants as mark
-use Rattle.copyin_base.specs.declared.notice.Notice.TheVariants.{SendOnce, PortDeleted, PortDestroyed, NoSenders, DeadName}
+use Rattle.copyin_base.specs.declared.Carried.{Carried}
+use Rattle.copyin_base.specs.declared.Mark.{Mark}
+use Rattle.copyin_base.specs.declared.Mark.TheVariants as mark
+use Rattle.copyin_base.specs.declared.Notice.TheVariants.{SendOnce, PortDeleted, PortDestroyed, NoSenders, DeadName}
 use Rattle.copyin_base.specs.Requests.{notify_of}
 use Rattle.copyin_base.specs.Shows.{CountsAgree}
 use Rattle.copyin_base.proofs.Counting.{right_taken, queues_same}

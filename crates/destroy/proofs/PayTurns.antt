@@ -35,7 +35,7 @@ use Rattle.request_table.specs.declared.Request.{Request as NameRequest}
 use Rattle.request_table.specs.Requests.{without_first_went}
 use Rattle.copyin_base.specs.Posted.{with_notice, with_posted}
 use Rattle.copyin_base.specs.Requests.{RequestTablesView, notify_of, rights_kept, was_on, RequestsAgree, AreEnded}
-use Rattle.copyin_base.specs.declared.notice.Notice.TheVariants.{PortDeleted}
+use Rattle.copyin_base.specs.declared.Notice.TheVariants.{PortDeleted}
 use Rattle.copyin_base.specs.Serving.{ShowsMid}
 use Rattle.copyin_base.specs.Kept.{Kept}
 use Rattle.copyin_base.specs.Queued.{notice_kept}
@@ -45,8 +45,8 @@ use Rattle.copyin_base.proofs.Carriers.{carriers_queued}
 use Rattle.copyin_base.proofs.Holders.{holders_ports, put_holders}
 use Rattle.copyin_base.proofs.Requested.{requested_stay, keeps_same, requested_put}
 use Rattle.copyin_base.proofs.SendersNoted.{counts_own, counts_other, keeps_senders, senders_kept, sends_shifted}
-use Rattle.copyin_base.specs.declared.message.Carried.{Carried}
-use Rattle.copyin_base.specs.declared.message.Mark.TheVariants as mark
+use Rattle.copyin_base.specs.declared.Carried.{Carried}
+use Rattle.copyin_base.specs.declared.Mark.TheVariants as mark
 use Rattle.copyin_base.proofs.Told.{port_got, task_holds}
 use Rattle.copyin_base.proofs.KeptEntries.{kept_of, kept_at, some_at}
 use Rattle.copyin_base.proofs.Requesting.{requests_stay}

@@ -22,7 +22,7 @@ use Rattle.name_space.specs.Names.{SpaceView}
 use Rattle.port.specs.declared.Holder.{Holder}
 use Rattle.port.specs.declared.Holder.TheVariants as holder
 use Rattle.port.specs.Ports.{PortView}
-use Rattle.copyin_base.specs.declared.notice.Notice.{Notice}
+use Rattle.copyin_base.specs.declared.Notice.{Notice}
 use Rattle.copyin_base.specs.Changes.{IsSenderless}
 use Rattle.copyin_base.specs.Kept.{Kept}
 use Rattle.copyin_base.specs.Queued.{notice_kept, notice_of}

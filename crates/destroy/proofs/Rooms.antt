@@ -2,7 +2,7 @@
 use Rattle.std.proofs.Common.{◌≡◌, ℕ, List, Option, Some, None, refl, sym, ap, ◌∙◌, Bool, ◌⊎◌, inl, inr}
 use Rattle.std.specs.Prelude.{slice_set, option_map}
 use Rattle.name_space.specs.Names.{Names, SpaceView}
-use Rattle.copyin_base.specs.declared.notice.Notice.{Notice}
+use Rattle.copyin_base.specs.declared.Notice.{Notice}
 use Rattle.copyin_base.specs.Reading.{read_space, live_in}
 use Rattle.copyin_base.specs.Wanted.{room_in, room_of}
 use Rattle.copyin_base.specs.Worlds.{WorldView, space_in, space_at}

@@ -16,7 +16,7 @@ use Rattle.port.specs.declared.Attributes.{Attributes}
 use Rattle.copyin_base.specs.Requests.{RequestTablesView, notify_of}
 use Rattle.copyin_base.specs.Worlds.{WorldView}
 use Rattle.copyin_base.proofs.Putting.{get_removed}
-use Rattle.copyin_base.specs.declared.notice.Notice.TheVariants.{NoSenders}
+use Rattle.copyin_base.specs.declared.Notice.TheVariants.{NoSenders}
 use Rattle.copyin_base.specs.Changes.{HasAttributes, IsSenderless}
 use Rattle.copyin_base.proofs.Listed.{none_listed, listed_later}
 use Rattle.notifications.specs.SoFar.{buried_alone, AgreesOf, AwaitLoss}

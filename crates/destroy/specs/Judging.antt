@@ -14,8 +14,8 @@ use Rattle.port.specs.Holding.{held, IsHeldBy}
 use Rattle.port.specs.Ports.{PortView, with_port, DestroysFirst}
 use Rattle.rights.specs.declared.RightKind.TheVariants.{Receive}
 use Rattle.rights.specs.Ledger.{LedgerView, counts_of, made}
-use Rattle.copyin_base.specs.declared.message.Carried.{Carried}
-use Rattle.copyin_base.specs.declared.message.Mark.TheVariants as mark
+use Rattle.copyin_base.specs.declared.Carried.{Carried}
+use Rattle.copyin_base.specs.declared.Mark.TheVariants as mark
 use Rattle.copyin_base.specs.Kept.{Kept}
 use Rattle.copyin_base.specs.Worlds.{WorldView, port_at}
 use Rattle.destroy.specs.Between.{Between}

@@ -13,10 +13,10 @@ use Rattle.port.specs.declared.Holder.TheVariants as holder
 use Rattle.port.specs.Holding.{IsHeldBy}
 use Rattle.port.specs.Ports.{PortView}
 use Rattle.rights.specs.Ledger.{counts_of, IsEntered}
-use Rattle.copyin_base.specs.declared.message.Carried.{Carried}
-use Rattle.copyin_base.specs.declared.message.Mark.{Mark}
-use Rattle.copyin_base.specs.declared.message.Mark.TheVariants as mark
-use Rattle.copyin_base.specs.declared.notice.Notice.TheVariants.{SendOnce}
+use Rattle.copyin_base.specs.declared.Carried.{Carried}
+use Rattle.copyin_base.specs.declared.Mark.{Mark}
+use Rattle.copyin_base.specs.declared.Mark.TheVariants as mark
+use Rattle.copyin_base.specs.declared.Notice.TheVariants.{SendOnce}
 use Rattle.copyin_base.specs.Changes.{IsSenderless}
 use Rattle.copyin_base.specs.Kept.{Kept, mark_of}
 use Rattle.copyin_base.specs.Shows.{HoldersAgree, CarriersAgree, RequestsStand, SlotsSuffice}

@@ -3,7 +3,7 @@ use Rattle.std.specs.Prelude.{◌≡◌, ◌⊎◌, ℕ, Some, filter, not, eqb}
 use Rattle.std.specs.FinMap as map
 use Rattle.port.specs.Ports.{PortView}
 use Rattle.rights.specs.Ledger.{counts_of}
-use Rattle.copyin_base.specs.declared.notice.Notice.TheVariants.{NoSenders}
+use Rattle.copyin_base.specs.declared.Notice.TheVariants.{NoSenders}
 use Rattle.copyin_base.specs.Changes.{IsSenderless}
 use Rattle.copyin_base.specs.Kept.{Kept}
 use Rattle.copyin_base.specs.Leaving.{without_no_senders}

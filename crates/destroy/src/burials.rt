@@ -33,13 +33,7 @@ pub(crate) fn bury_ports(world: &mut World) -> u64
 fn asks_none(world: &World) -> bool
     ensures { result ≡ true → AsksNone world.now }
 {
-    if !world.requests.names.is_empty() {
-        return false;
-    }
-    if world.requests.no_senders.len() > 0 {
-        return false;
-    }
-    world.requests.port_destroyed.len() == 0
+    world.has_no_requests()
 }
 
 // Where requests stand, ports are buried in the order in which they were doomed, and so are tasks told.
@@ -132,7 +126,7 @@ fn end_names(world: &mut World, port: PortId) -> u64
     ensures { EndsRequests port IsOnName world.old result world.new }
 {
     let mut turns: u64 = 0;
-    while let Some(request) = world.requests.names.first_of(port) {
+    while let Some(request) = world.first_on_names(port) {
         turns = turns.saturating_add(end_name(world, port, request));
     }
     turns

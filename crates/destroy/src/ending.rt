@@ -1,5 +1,5 @@
 //! The end of a step.
-ghost use Rattle.std.specs.Prelude.{◌≡◌, ◌↔◌, IsTrue, slice_get};
+ghost use Rattle.std.specs.Prelude.{◌↔◌, IsTrue};
 ghost use Rattle.port.specs.Idle.{IsIdle as AreIdle};
 ghost use Rattle.copyin_base.specs.Worlds.{IsIdle};
 ghost use Rattle.destroy.specs.Stages.{IsMidway, KeepsRooms, SettlesIn, TellsDoomed, TellsLost};
@@ -10,7 +10,6 @@ use crate::losing::lose_messages;
 use crate::paying::pay_for_names;
 use crate::telling::tell_senderless;
 use copyin_base::World;
-use request_table::Request;
 
 /// Ends a step. Ports that lost their receive rights are sent away, or die with all that is queued. Notices
 /// tell of rights that were lost and of ports without senders. Returns in how many turns; 2^64 - 1 where
@@ -38,7 +37,7 @@ pub fn is_idle(world: &World) -> bool
     ensures lost { TellsLost world.now }
     ensures doomed { TellsDoomed world.now }
 {
-    are_ports_idle(world) & first_went(world).is_none()
+    are_ports_idle(world) & world.first_went().is_none()
 }
 
 // Whether no port and no destroyed message waits for the end of the step.
@@ -48,13 +47,6 @@ fn are_ports_idle(world: &World) -> bool
     ensures doomed { TellsDoomed world.now }
 {
     world.ports.is_idle()
-}
-
-// The first of the requests whose names went.
-fn first_went(world: &World) -> Option<Request>
-    ensures { result ≡ slice_get world.now.requests.names.went 0 }
-{
-    world.requests.names.first_went()
 }
 
 // Ends a step, part by part.

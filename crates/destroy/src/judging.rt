@@ -64,7 +64,7 @@ fn saved_to(world: &World, port: PortId) -> Option<PortId>
     ensures some { IfSome result (λ notify. GoesTo world.now port notify) }
     ensures none { IfNone result ((notify : ℕ) → GoesTo world.now port notify → ⊥) }
 {
-    let notify = world.requests.port_destroyed.get(port.number())?;
+    let notify = world.find_port_destroyed(port)?;
     if is_with_task(world, notify) {
         Some(notify)
     } else {
@@ -246,11 +246,11 @@ fn bring_receive(world: &mut World, port: PortId)
     requires room { (counts_of world.old.ledger port).receive ≡ 0 → world.old.ledger.total < most_rights }
     ensures { world.new ≡ record world.old { ledger = brought world.old.ledger port } }
 {
-    let Some(counts) = world.ledger.counts(port) else {
+    let Some(counts) = world.counts(port) else {
         return;
     };
     if counts.receive == 0 {
         // There is room: the rights midway have room for the notices of orphans.
-        let _ = world.ledger.make(port, RightKind::Receive, 1);
+        world.make_rights(port, RightKind::Receive, 1).unwrap();
     }
 }

@@ -1,6 +1,6 @@
 //! Pays for notices with the rights that requests kept; first those of requests whose names went.
 ghost use Rattle.std.specs.Prelude.{◌≡◌, ◌↔◌, IsTrue};
-ghost use Rattle.copyin_base.specs.declared.notice.Notice.{Notice as AnyNotice};
+ghost use Rattle.copyin_base.specs.declared.Notice.{Notice as AnyNotice};
 ghost use Rattle.copyin_base.specs.Losing.{CanPost};
 ghost use Rattle.destroy.specs.Paying.{LivesIn, Pays, PaysMany};
 ghost use Rattle.destroy.specs.Stages.{IsMidway, Starts, TellsDoomed, TellsLost};

@@ -50,7 +50,7 @@ fn tell_no_senders(world: &mut World, port: PortId) -> u64
 fn has_senders(world: &World, port: PortId) -> bool
     ensures { IsTrue result ↔ (0 < (counts_of world.now.ledger port).send) }
 {
-    match world.ledger.counts(port) {
+    match world.counts(port) {
         Some(counts) => counts.send > 0,
         None => false,
     }

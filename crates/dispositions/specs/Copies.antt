@@ -4,7 +4,7 @@ use Rattle.mach_types.specs.declared.rights.Disposition.{Disposition}
 use Rattle.mach_types.specs.declared.rights.Disposition.TheVariants.{MoveReceive, MoveSend, MoveSendOnce, CopySend, MakeSend, MakeSendOnce}
 use Rattle.name_space.specs.declared.Entry.{Entry}
 use Rattle.name_space.specs.declared.Entry.TheVariants as entry
-use Rattle.copyin_base.specs.declared.message.Mark.TheVariants as mark
+use Rattle.copyin_base.specs.declared.Mark.TheVariants as mark
 use Rattle.dispositions.specs.declared.Copied.{Copied}
 
 abbrev pub leaving : Option Entry → (port : ℕ) → Option Copied

@@ -157,18 +157,23 @@ impl Kernel {
     /// None before the first step, after a refusal, after calls that only ask, a receive that found nothing or a
     /// message that is too long and stays, [`Kernel::create_task`], [`Kernel::rename`], [`Kernel::set_mscount`] and
     /// [`Kernel::set_seqno`]. None too where only send rights, dead names and their references went
-    /// ([`Kernel::deallocate`], [`Kernel::destroy`], [`Kernel::mod_refs`]), and where a right that is no receive right
-    /// went to another task ([`Kernel::insert_right`], [`Kernel::extract_right`]).
+    /// ([`Kernel::deallocate`], [`Kernel::destroy`], [`Kernel::mod_refs`], [`Kernel::terminate_task`]), and where a right
+    /// that is no receive right went to another task ([`Kernel::insert_right`], [`Kernel::extract_right`]).
     ///
-    /// After [`Kernel::set_qlimit`], [`Kernel::allocate`] and [`Kernel::allocate_name`] the port under the name, if
-    /// one is. After [`Kernel::move_member`], and where a receive right went to another task, the port with the set
-    /// that it was in and the one that it is in. A message names its port and the port's set: one that was sent
-    /// without a receive right, and one that was received with a body of raw bytes. So does the notice for a send-once
-    /// right that was lost by [`Kernel::deallocate`], [`Kernel::destroy`] or [`Kernel::mod_refs`]. A receive right that these
-    /// destroyed names its port and the port's set, where nothing was queued at it and no request was on it or on a
-    /// name of it. [`Kernel::request_notification`] names the port of the right that pays, whether it tells at once or
-    /// not, and its set. After each other call, and where other ports died or notices were sent at the end of the step,
-    /// it is `All`. Takes no memory. Constant time, and logarithmic for a name above 65,535.
+    /// After [`Kernel::set_qlimit`], [`Kernel::allocate`] and [`Kernel::allocate_name`] the port under the name, if one
+    /// is. After [`Kernel::move_member`], and where a receive right went to another task, the port with the set that it
+    /// was in and the one that it is in. A message names its port and the port's set. One that was sent with one receive
+    /// right names that right's port too, and the set that it was in; so does one with two or three, where with
+    /// the sets concerned four places suffice. One that was received names the ports too whose
+    /// receive rights came with it: one or two, or three if its own port is in no set. A message that was
+    /// destroyed as too long and whose body carried no right names its port and the port's set. The notice for a
+    /// send-once right names its port and the port's set too, where that right was lost by [`Kernel::deallocate`],
+    /// [`Kernel::destroy`] or [`Kernel::mod_refs`], or was such a message's reply right. A receive right that
+    /// these calls destroyed names its port and the port's set, where nothing was queued at it and no request was on it
+    /// or on a name of it. A set that was destroyed is named with its members, if they were three at most and there was
+    /// memory for their list. [`Kernel::request_notification`] names the port of the right that pays, whether it tells at
+    /// once or not, and its set. After each other call, and where other ports died or notices were sent at the end of
+    /// the step, it is `All`. Takes no memory. Constant time, and logarithmic for a name above 65,535.
     pub fn touched(&self) -> Touched
         ensures { result ≡ self.now.touched }
     {

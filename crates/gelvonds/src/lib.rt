@@ -17,7 +17,7 @@
 //! let receipt = kernel.receive(server, service, 4096, false)?;
 //! ```
 //!
-//! The crate `embedding` of this repository is that program, whole, and `docs/EMBEDDING.md` goes over it.
+//! `docs/EMBEDDING.md` has that program, whole, and goes over it.
 //!
 //! # Profiles
 //! [`Kernel::new`] and [`run`] make a kernel of [`Profile::One`]: a fresh name is the least number, from 1, that the

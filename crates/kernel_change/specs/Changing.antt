@@ -1,24 +1,33 @@
 -- What a step changed of ports and port sets, as the kernel keeps it, and what that is once it is asked for.
-use Rattle.std.specs.Prelude.{◌≡◌, ℕ, ◌⊎◌, ◌-◌, ◌^◌, ◌%◌, ◌||◌, Bool, List, [], ◌∷◌, length, Option, Some, None, MatchBool, Contains, if◌then◌else◌, ◌==◌, ◌&&◌, not, nat_lt}
+use Rattle.std.specs.Prelude.{◌≡◌, ℕ, ◌⊎◌, ◌-◌, ◌^◌, ◌%◌, ◌||◌, Bool, true, false, List, [], ◌∷◌, length, drop, slice_get, Option, Some, None, is_some, MatchBool, Contains, if◌then◌else◌, ◌==◌, ◌&&◌, not, nat_lt}
 use Rattle.std.specs.FinMap as map
+use Rattle.std.specs.List.{filter_map}
 use Rattle.std.specs.Option.{option_and_then, option_map}
 use Rattle.mach_types.specs.declared.calls.Event.{Event}
 use Rattle.mach_types.specs.declared.calls.Reply.{Reply}
 use Rattle.mach_types.specs.declared.calls.Waited.{Waited}
 use Rattle.mach_types.specs.declared.touched.Touched.{Touched}
 use Rattle.mach_types.specs.declared.touched.Touched.TheVariants.{Few, All}
-use Rattle.mach_types.specs.Numbers.{most_identities}
+use Rattle.mach_types.specs.Numbers.{most_identities, kind_sent}
+use Rattle.mach_types.specs.Tokens.{Kind, send_once}
 use Rattle.mach_types.specs.TextGuards.{word_at}
 use Rattle.name_space.specs.declared.Entry.{Entry}
 use Rattle.name_space.specs.declared.Entry.TheVariants as entry
 use Rattle.name_space.specs.Entry.{port_named}
-use Rattle.name_space.specs.Names.{SpaceView}
 use Rattle.port.specs.Ports.{PortView, NoneQueued}
 use Rattle.request_table.specs.Requests.{NoneOn}
-use Rattle.copyin_base.specs.Kept.{Kept}
-use Rattle.copyin_base.specs.Worlds.{WorldView, entry_at, port_at, space_at}
+use Rattle.copyin_base.specs.declared.Carried.{Carried}
+use Rattle.copyin_base.specs.declared.Mark.{Mark}
+use Rattle.copyin_base.specs.declared.Mark.TheVariants as mark
+use Rattle.copyin_base.specs.Kept.{Kept, receive_of}
+use Rattle.copyin_base.specs.Worlds.{WorldView, entry_at, port_at}
+use Rattle.kernel_change.specs.declared.moved.Moved.{Moved}
+use Rattle.kernel_change.specs.declared.moved.Moved.TheVariants as moved
+use Rattle.kernel_change.specs.declared.received.Received.{Received}
+use Rattle.kernel_change.specs.declared.received.Received.TheVariants as received
+use Rattle.kernel_change.specs.Received.{body_names, received_by}
 use Rattle.kernel_change.specs.declared.change.Change.{Change}
-use Rattle.kernel_change.specs.declared.change.Change.TheVariants.{Nothing, Made, PortNamed, Queue, QueueNamed, Left, Disbanded, DisbandedTwo, DisbandedThree, Lost, Any}
+use Rattle.kernel_change.specs.declared.change.Change.TheVariants.{Nothing, Made, PortNamed, Queue, Queues, Along, AlongFrom, AlongTwo, AlongTwoFrom, AlongThree, QueueNamed, Given, GivenTwo, GivenThree, Left, Disbanded, DisbandedTwo, DisbandedThree, Lost, Any}
 
 -- ---- what it is
 
@@ -42,6 +51,33 @@ with_set w None = few None None
 abbrev pub named_left : WorldView → (port left : ℕ) → Touched
 named_left w p left = Few (Some (Waited.Port p) ∷ option_map Waited.Set (set_of w p) ∷ Some (Waited.Set left) ∷ None ∷ [])
 
+-- two ports with their sets
+abbrev pub named_two : WorldView → (a b : ℕ) → Touched
+named_two w a b = Few (Some (Waited.Port a) ∷ option_map Waited.Set (set_of w a) ∷ Some (Waited.Port b) ∷ option_map Waited.Set (set_of w b) ∷ [])
+
+-- a port with its set, and another, which was in this set, if it was in one
+abbrev pub named_along : WorldView → (to port : ℕ) → (left : Option ℕ) → Touched
+named_along w to port left = Few (Some (Waited.Port to) ∷ option_map Waited.Set (set_of w to) ∷ Some (Waited.Port port) ∷ option_map Waited.Set left ∷ [])
+
+-- a port with its set, and two others, where they are there, which are in no set
+abbrev pub named_given : WorldView → Option ℕ → (a b : Option ℕ) → Touched
+named_given w (Some p) a b = Few (Some (Waited.Port p) ∷ option_map Waited.Set (set_of w p) ∷ option_map Waited.Port a ∷ option_map Waited.Port b ∷ [])
+named_given w None a b = few None None
+
+-- a port, and three others: of one in a set there is no place for all
+abbrev pub named_three : WorldView → Option ℕ → (a b c : Option ℕ) → Touched
+named_three w (Some p) a b c = if is_some (set_of w p) then All else Few (Some (Waited.Port p) ∷ option_map Waited.Port a ∷ option_map Waited.Port b ∷ option_map Waited.Port c ∷ [])
+named_three w None a b c = few None None
+
+-- whether the port is in no set but this
+abbrev pub is_in_no_other : Option ℕ → (set : ℕ) → Bool
+is_in_no_other None set = true
+is_in_no_other (Some own) set = own == set
+
+-- a port, two others, and the set that these left: of a port in another set there is no place for all
+abbrev pub named_two_left : WorldView → (to a b left : ℕ) → Touched
+named_two_left w to a b left = if is_in_no_other (set_of w to) left then Few (Some (Waited.Port to) ∷ Some (Waited.Port a) ∷ Some (Waited.Port b) ∷ Some (Waited.Set left) ∷ []) else All
+
 -- the port that was made last
 abbrev pub made_last : WorldView → Touched
 made_last w = if nat_lt w.ports.made most_identities then few (Some (Waited.Port (w.ports.made - 1))) None else All
@@ -51,7 +87,16 @@ touched_by w Nothing = few None None
 touched_by w Made = made_last w
 touched_by w (PortNamed task name) = few (option_map Waited.Port (port_under w task name)) None
 touched_by w (Queue port) = with_set w (Some port)
+touched_by w (Queues a b) = named_two w a b
+touched_by w (Along to port) = named_along w to port None
+touched_by w (AlongFrom to port left) = named_along w to port (Some left)
+touched_by w (AlongTwo to a b) = named_given w (Some to) (Some a) (Some b)
+touched_by w (AlongTwoFrom to a b left) = named_two_left w to a b left
+touched_by w (AlongThree to a b c) = named_three w (Some to) (Some a) (Some b) (Some c)
 touched_by w (QueueNamed task name) = with_set w (port_under w task name)
+touched_by w (Given task name a) = named_given w (port_under w task name) (port_under w task a) None
+touched_by w (GivenTwo task name a b) = named_given w (port_under w task name) (port_under w task a) (port_under w task b)
+touched_by w (GivenThree task name a b c) = named_three w (port_under w task name) (port_under w task a) (port_under w task b) (port_under w task c)
 touched_by w (Left port set) = named_left w port set
 touched_by w (Disbanded set) = few (Some (Waited.Set set)) None
 touched_by w (DisbandedTwo set a b) = Few (Some (Waited.Set set) ∷ Some (Waited.Port a) ∷ Some (Waited.Port b) ∷ None ∷ [])
@@ -61,18 +106,75 @@ touched_by w Any = All
 
 -- ---- which it is, where the end of the step had nothing to do
 
+-- the ports whose receive rights are among these
+abbrev pub receives_of : List Carried → List ℕ
+receives_of cs = filter_map receive_of cs
+
+abbrev pub moved_by : List ℕ → Moved
+moved_by [] = moved.Nothing
+moved_by (a ∷ []) = moved.One a
+moved_by (a ∷ b ∷ []) = moved.Two a b
+moved_by (a ∷ b ∷ c ∷ []) = moved.Three a b c
+moved_by (a ∷ b ∷ c ∷ d ∷ ports) = moved.Several
+
 -- the text of a message that gives no receive right: its body is no list of items
 abbrev pub gives_none : List ℕ → Bool
 gives_none bytes = nat_lt 23 (length bytes) && (nat_lt (word_at bytes 0) (2 ^ 31) && not (word_at bytes 0 % 2 ^ 8 == 16))
 
-abbrev pub by_message : (task : ℕ) → List ℕ → Change
-by_message task bytes = if gives_none bytes then QueueNamed task (word_at bytes 12) else Any
+-- the text of one whose body gives one right at most, and whose reply right is no receive right: its body is eight bytes long
+abbrev pub gives_one : List ℕ → Bool
+gives_one bytes = length bytes == 32 && not (word_at bytes 0 % 2 ^ 8 == 16)
 
-abbrev pub by_receipt : (task : ℕ) → (large : Bool) → Reply → Change
-by_receipt task large (Reply.Message bytes) = by_message task bytes
-by_receipt task large (Reply.Empty waited) = Nothing
-by_receipt task large (Reply.TooLarge n) = if large then Nothing else Any
-by_receipt task large reply = Any
+-- the receive rights come under these names
+abbrev pub by_received : (task name : ℕ) → Received → Change
+by_received task name received.Nothing = QueueNamed task name
+by_received task name (received.One a) = Given task name a
+by_received task name (received.Two a b) = GivenTwo task name a b
+by_received task name (received.Three a b c) = GivenThree task name a b c
+by_received task name received.Several = Any
+
+-- by all items of the body, where the reply right is no receive right
+abbrev pub by_body : (task : ℕ) → List ℕ → Change
+by_body task bytes =
+    if nat_lt (length bytes) 24 || word_at bytes 0 % 2 ^ 8 == 16 then Any else by_received task (word_at bytes 12) (received_by (body_names (drop 24 bytes)))
+
+-- The right of a body of one goes by the first word of the body, and its name is the second.
+abbrev pub by_items : (task : ℕ) → List ℕ → Change
+by_items task bytes =
+    if gives_one bytes then (if word_at bytes 24 % 2 ^ 8 == 16 then Given task (word_at bytes 12) (word_at bytes 28) else QueueNamed task (word_at bytes 12)) else by_body task bytes
+
+abbrev pub by_message : (task : ℕ) → List ℕ → Change
+by_message task bytes = if gives_none bytes then QueueNamed task (word_at bytes 12) else by_items task bytes
+
+-- The message of this port is destroyed, which has this right to answer with, and these of its body: an unused send-once right tells its port. Any where the
+-- body carries rights.
+abbrev pub by_answer : (port : ℕ) → Kind → Mark → Change
+by_answer port send_once (mark.Port q) = Queues port q
+by_answer port kind one = Queue port
+
+abbrev pub by_destroying : (port : ℕ) → (reply : Option Carried) → (rights : List Carried) → Change
+by_destroying port None [] = Queue port
+by_destroying port (Some c) [] = by_answer port (kind_sent c.given) c.mark
+by_destroying port reply (c ∷ cs) = Any
+
+-- the message in front of the port
+abbrev pub front_at : WorldView → (port : ℕ) → Option Kept
+front_at w port = option_and_then (λ (v : PortView Kept). slice_get v.queue 0) (port_at w port)
+
+abbrev pub by_front : (port : ℕ) → Option Kept → Change
+by_front port None = Any
+by_front port (Some m) = by_destroying port m.reply m.rights
+
+-- by the tables before, where the message is taken from this port
+abbrev pub by_too_long : WorldView → (from : Option ℕ) → Change
+by_too_long w None = Any
+by_too_long w (Some port) = by_front port (front_at w port)
+
+abbrev pub by_receipt : WorldView → (task : ℕ) → (large : Bool) → (from : Option ℕ) → Reply → Change
+by_receipt w task large from (Reply.Message bytes) = by_message task bytes
+by_receipt w task large from (Reply.Empty waited) = Nothing
+by_receipt w task large from (Reply.TooLarge n) = if large then Nothing else by_too_long w from
+by_receipt w task large from reply = Any
 
 -- a port is made, by a right of this number, or something else that nobody waits for
 abbrev pub by_making : (right : ℕ) → Change
@@ -81,6 +183,31 @@ by_making right = if right == 1 then Made else Nothing
 abbrev pub by_send : Option ℕ → Change
 by_send (Some port) = Queue port
 by_send None = Any
+
+-- a message to the port takes along the receive right of another, which was in this set, if it was in one
+abbrev pub by_taking_along : (to port : ℕ) → (left : Option ℕ) → Change
+by_taking_along to port (Some left) = AlongFrom to port left
+by_taking_along to port None = Along to port
+
+-- the same of two others, one of which was in a set, or both in the same: of two sets more there is no place for all
+abbrev pub by_taking_two : (to a b : ℕ) → (left other : Option ℕ) → Change
+by_taking_two to a b None None = AlongTwo to a b
+by_taking_two to a b None (Some set) = AlongTwoFrom to a b set
+by_taking_two to a b (Some set) None = AlongTwoFrom to a b set
+by_taking_two to a b (Some set) (Some other) = if set == other then AlongTwoFrom to a b set else Any
+
+-- the same of three others, none of which was in a set
+abbrev pub by_taking_three : (to a b c : ℕ) → (left second third : Option ℕ) → Change
+by_taking_three to a b c None None None = AlongThree to a b c
+by_taking_three to a b c left second third = Any
+
+-- by the tables before, where it takes along the receive rights of these
+abbrev pub by_taking : WorldView → (to : ℕ) → (ports : List ℕ) → Change
+by_taking w to [] = Queue to
+by_taking w to (p ∷ []) = by_taking_along to p (set_of w p)
+by_taking w to (a ∷ b ∷ []) = by_taking_two to a b (set_of w a) (set_of w b)
+by_taking w to (a ∷ b ∷ c ∷ []) = by_taking_three to a b c (set_of w a) (set_of w b) (set_of w c)
+by_taking w to (a ∷ b ∷ c ∷ d ∷ ports) = Any
 
 -- one reference under a name goes, or the send-once right, whose port gets a notice
 abbrev pub by_losing_one : Option Entry → Change
@@ -125,15 +252,19 @@ ByLosingAll w e told = told ≡ by_losing_all e
 abbrev pub ByReferences : WorldView → (task name right : ℕ) → (told : Change) → Type 0
 ByReferences w task name right told = MatchBool (right == 0 || right == 4) (told ≡ Nothing) (ByLosingAll w (entry_at w task name) told)
 
--- The task has no names.
-pub record HasNoNames (w : WorldView) (task : ℕ) : Type 0 where
-  pub space : SpaceView
-  pub there : space_at w task ≡ Some space
-  pub none : map.len space.names ≡ 0
+-- a send right, or a dead name
+abbrev pub is_send : Entry → Bool
+is_send (entry.Send port references) = true
+is_send (entry.DeadName references) = true
+is_send e = false
 
--- A task ends: one that has no names changes nothing.
+-- The task's names stand for send rights and dead names alone.
+pub record HasSends (w : WorldView) (task : ℕ) : Type 0 where
+  pub only : (name : ℕ) (e : Entry) → entry_at w task name ≡ Some e → is_send e ≡ true
+
+-- A task ends: one that has no other rights and no sets changes nothing.
 abbrev pub ByEnding : WorldView → (task : ℕ) → (told : Change) → Type 0
-ByEnding w task told = HasNoNames w task × (told ≡ Nothing) ⊎ ¬ (HasNoNames w task) × (told ≡ Any)
+ByEnding w task told = HasSends w task × (told ≡ Nothing) ⊎ ¬ (HasSends w task) × (told ≡ Any)
 
 -- a port goes to another set or place, from this set, if it is in one
 abbrev pub left_by : (port : ℕ) → Option ℕ → Change
@@ -180,12 +311,10 @@ change_of w (Event.Deallocate task name) reply = by_losing_one (entry_at w task 
 change_of w (Event.MoveMember task member after) reply = by_moving w task member
 change_of w (Event.InsertRight task name from poly number) reply = by_handing w from poly number
 change_of w (Event.ExtractRight task name number to) reply = by_handing w task name number
-change_of w (Event.Receive task name room large) reply = by_receipt task large reply
-change_of w (Event.ReceiveAgain task waited room large) reply = by_receipt task large reply
 change_of w (Event.RequestNotification task name variant sync notify number) reply = by_request w task notify number
 change_of w event reply = Any
 
--- what each call but a send changes
+-- what each call but a send and a receive changes
 abbrev pub Changes : WorldView → Event → Reply → (told : Change) → Type 0
 Changes w (Event.Destroy task name) reply told = ByLosingAll w (entry_at w task name) told
 Changes w (Event.ModRefs task name right delta) reply told = ByReferences w task name right told

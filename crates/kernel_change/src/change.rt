@@ -2,13 +2,17 @@
 ghost use Rattle.std.specs.Prelude.{◌≡◌, ◌↔◌, [], ◌∷◌, Some, None, IsTrue};
 ghost use Rattle.std.specs.Option.{option_map};
 ghost use Rattle.port.specs.Ports.{NoneQueued};
+ghost use Rattle.copyin_base.specs.Stands.{Stands};
 ghost use Rattle.copyin_base.specs.Worlds.{entry_at, HasTask};
+ghost use Rattle.mach_types.specs.Numbers.{kind_sent};
 ghost use Rattle.mach_types.specs.declared.calls.Waited.TheVariants as waited;
 ghost use Rattle.mach_types.specs.declared.touched.Touched.TheVariants.{Few};
-ghost use Rattle.kernel_change.specs.Changing.{few, named_left, port_under, set_of as set_at, with_set as touched_with_set, touched_by, gives_none, by_message as change_by_message, by_receipt as change_by_receipt, made_last, by_making as change_by_making, by_send as change_by_send, by_losing_one as change_by_losing_one, disbanded, ByDisbanding, ByLosingAll, ByReferences, ByEnding, IsUnasked, DiesAlone, EndsAs, left_by as change_left_by, by_moving as change_by_moving, by_handing as change_by_handing, by_paying as change_by_paying, by_request as change_by_request};
+ghost use Rattle.kernel_change.specs.Changing.{few, named_left, port_under, set_of as set_at, with_set as touched_with_set, touched_by, named_given, named_three, gives_none, gives_one, named_two, named_along, by_taking_along as change_by_taking_along, by_taking_two as change_by_taking_two, by_taking as change_by_taking, receives_of, named_two_left, by_message, by_items, by_body, by_answer as change_by_answer, by_destroying, by_too_long as change_by_too_long, made_last, by_making as change_by_making, by_send as change_by_send, by_losing_one as change_by_losing_one, disbanded, ByDisbanding, ByLosingAll, ByReferences, is_send as entry_is_send, HasSends, ByEnding, IsUnasked, DiesAlone, EndsAs, left_by as change_left_by, by_moving as change_by_moving, by_handing as change_by_handing, by_paying as change_by_paying, by_request as change_by_request};
 
-use copyin_base::World;
-use mach_types::{Name, PortId, Reply, SetId, TaskId, Touched, Waited};
+use crate::moved::Moved;
+use crate::received::Received;
+use copyin_base::{Carried, Mark, World};
+use mach_types::{Name, PortId, SetId, TaskId, Touched, Waited};
 use name_space::Entry;
 use std::alloc::Global;
 use type_descriptor::read_word;
@@ -25,8 +29,26 @@ pub enum Change {
     PortNamed(TaskId, Name),
     /// Of this port, and so of its set: the queue, the place of the receive right, or that it entered the set.
     Queue(PortId),
+    /// The queues of these ports, and so of their sets.
+    Queues(PortId, PortId),
+    /// The queue of the first port, and so that of its set, and the place of the second one's receive right.
+    Along(PortId, PortId),
+    /// The same, where the second port left this set.
+    AlongFrom(PortId, PortId, SetId),
+    /// The queue of the first port, and so that of its set, and the places of the other two ports' receive rights.
+    AlongTwo(PortId, PortId, PortId),
+    /// The same, where those of the other two ports that were in a set left this one.
+    AlongTwoFrom(PortId, PortId, PortId, SetId),
+    /// The queue of the first port, and so that of its set, and the places of the other ports' receive rights.
+    AlongThree(PortId, PortId, PortId, PortId),
     /// The queue of the port under this name of the task, and so that of its set.
     QueueNamed(TaskId, Name),
+    /// The same, and the place of the receive right under the last name.
+    Given(TaskId, Name, Name),
+    /// The same of the receive rights under the last two names.
+    GivenTwo(TaskId, Name, Name, Name),
+    /// The same of the receive rights under the last three.
+    GivenThree(TaskId, Name, Name, Name, Name),
     /// Of this port that it left this set, for another place or another set.
     Left(PortId, SetId),
     /// Of this set that it was destroyed; it had no members.
@@ -101,12 +123,16 @@ impl Change {
         }
     }
 
-    /// The task is about to end: of one without names nobody waits for anything. Constant time.
+    /// The task is about to end: of one whose names stand for send rights and dead names alone nobody waits for
+    /// anything. Linear in its names, up to the first that stands for something else. Each name above 65,535 adds a
+    /// logarithm. Each page of 256 names up to there that was used adds four words.
+    #[inline(never)]
     pub fn by_ending(world: &World, task: TaskId) -> Change
-        requires { HasTask world.now task }
+        requires there { HasTask world.now task }
+        requires stands { Stands world.now }
         ensures { ByEnding world.now task result }
     {
-        if world.space(task).is_empty() {
+        if has_sends(world, task) {
             Change::Nothing
         } else {
             Change::Any
@@ -168,15 +194,28 @@ impl Change {
         }
     }
 
-    /// What a receipt changed that was answered so.
+    /// A message was received by the task: its third word after the bits is the task's name for the port that it came by.
+    /// In `told` it leaves what that changed. Constant time for raw bytes and for a body of one right, and else linear in
+    /// the items and in the receive rights.
     #[inline(always)]
-    pub fn by_receipt(task: TaskId, large: bool, reply: &Reply) -> Change
-        ensures { result ≡ change_by_receipt task large reply.now }
+    pub fn tell_message(task: TaskId, bytes: &[u8], told: &mut Change)
+        ensures { told.new ≡ by_message task bytes.now }
     {
-        match reply {
-            Reply::Message(bytes) => by_message(task, bytes.as_slice()),
-            Reply::Empty(_) => Change::Nothing,
-            Reply::TooLarge(_) if large => Change::Nothing,
+        if has_no_receive_right(bytes) {
+            *told = Change::QueueNamed(task, Name::new(read_word(bytes, 12)));
+        } else {
+            tell_items(task, bytes, told);
+        }
+    }
+
+    /// The message in front of this port is about to be destroyed: the right to answer with tells its port, if it is a
+    /// send-once right. Any port and any set, where the body carries rights. Constant time.
+    #[inline(never)]
+    pub fn by_too_long(world: &World, port: PortId) -> Change
+        ensures { result ≡ change_by_too_long world.now (Some port) }
+    {
+        match world.ports.front(port) {
+            Some(queued) if queued.count_rights() == 0 => by_answering(port, queued.reply()),
             _ => Change::Any,
         }
     }
@@ -192,6 +231,25 @@ impl Change {
         }
     }
 
+    /// A message with these rights in its body is about to be sent to the port. Linear in the rights.
+    #[inline(never)]
+    pub fn by_taking(world: &World, to: PortId, rights: &[Carried]) -> Change
+        ensures { result ≡ change_by_taking world.now to (receives_of rights.now) }
+    {
+        match Moved::by(rights) {
+            Moved::Nothing => Change::Queue(to),
+            Moved::One(port) => by_taking_along(to, port, set_of(world, port)),
+            Moved::Two(a, b) => by_taking_two(to, a, b, set_of(world, a), set_of(world, b)),
+            Moved::Three(a, b, c) => {
+                match (set_of(world, a), set_of(world, b), set_of(world, c)) {
+                    (None, None, None) => Change::AlongThree(to, a, b, c),
+                    _ => Change::Any,
+                }
+            }
+            Moved::Several => Change::Any,
+        }
+    }
+
     /// The ports and sets that it names, by the tables after the step. Constant time, and logarithmic for a
     /// name above 65,535.
     pub fn touched(self, world: &World) -> Touched
@@ -203,7 +261,18 @@ impl Change {
                 name_both(named_port(world, task, name).map(Waited::Port), None)
             }
             Change::Queue(port) => name_with_set(world, Some(port)),
+            Change::Queues(a, b) => name_two(world, a, b),
+            Change::Along(to, port) => name_along(world, to, port, None),
+            Change::AlongFrom(to, port, left) => name_along(world, to, port, Some(left)),
+            Change::AlongTwo(to, a, b) => name_received(world, Some(to), Some(a), Some(b)),
+            Change::AlongTwoFrom(to, a, b, left) => name_two_left(world, to, a, b, left),
+            Change::AlongThree(to, a, b, c) => name_three(world, to, (Some(a), Some(b), Some(c))),
             Change::QueueNamed(task, name) => name_with_set(world, named_port(world, task, name)),
+            Change::Given(task, name, a) => name_given(world, task, name, a),
+            Change::GivenTwo(task, name, a, b) => name_given_two(world, task, name, a, b),
+            Change::GivenThree(task, name, a, b, c) => {
+                name_given_three(world, task, name, (a, b, c))
+            }
             Change::Made => name_last(world),
             Change::Left(port, set) => name_left(world, port, set),
             Change::Disbanded(set) => name_both(Some(Waited::Set(set)), None),
@@ -263,6 +332,125 @@ fn name_with_set(world: &World, port: Option<PortId>) -> Touched
         ),
         None => name_both(None, None),
     }
+}
+
+/// Two ports, and their sets.
+fn name_two(world: &World, a: PortId, b: PortId) -> Touched
+    ensures { result ≡ named_two world.now a b }
+{
+    Touched::Few([
+        Some(Waited::Port(a)),
+        set_of(world, a).map(Waited::Set),
+        Some(Waited::Port(b)),
+        set_of(world, b).map(Waited::Set),
+    ])
+}
+
+/// The port and its set, and the other, with the set that it left, if it left one.
+fn name_along(world: &World, to: PortId, port: PortId, left: Option<SetId>) -> Touched
+    ensures { result ≡ named_along world.now to port left }
+{
+    Touched::Few([
+        Some(Waited::Port(to)),
+        set_of(world, to).map(Waited::Set),
+        Some(Waited::Port(port)),
+        left.map(Waited::Set),
+    ])
+}
+
+/// The port, the two others, and the set that these left. Any port and any set, where the first is in another set.
+fn name_two_left(world: &World, to: PortId, a: PortId, b: PortId, left: SetId) -> Touched
+    ensures { result ≡ named_two_left world.now to a b left }
+{
+    match set_of(world, to) {
+        Some(own) if own != left => Touched::All,
+        _ => {
+            Touched::Few([
+                Some(Waited::Port(to)),
+                Some(Waited::Port(a)),
+                Some(Waited::Port(b)),
+                Some(Waited::Set(left)),
+            ])
+        }
+    }
+}
+
+/// The port under the name, and its set, and the port under the other.
+fn name_given(world: &World, task: TaskId, name: Name, a: Name) -> Touched
+    ensures { result ≡ named_given world.now (port_under world.now task name) (port_under world.now task a) None }
+{
+    name_received(
+        world,
+        named_port(world, task, name),
+        named_port(world, task, a),
+        None,
+    )
+}
+
+/// The port under the name, and its set, and the ports under the two others.
+fn name_given_two(world: &World, task: TaskId, name: Name, a: Name, b: Name) -> Touched
+    ensures { result ≡ named_given world.now (port_under world.now task name) (port_under world.now task a) (port_under world.now task b) }
+{
+    name_received(
+        world,
+        named_port(world, task, name),
+        named_port(world, task, a),
+        named_port(world, task, b),
+    )
+}
+
+/// The port, if there is one, and its set, and the two others, where they are there.
+fn name_received(
+    world: &World,
+    port: Option<PortId>,
+    a: Option<PortId>,
+    b: Option<PortId>,
+) -> Touched
+    ensures { result ≡ named_given world.now port a b }
+{
+    let Some(port) = port else {
+        return name_both(None, None);
+    };
+    Touched::Few([
+        Some(Waited::Port(port)),
+        set_of(world, port).map(Waited::Set),
+        a.map(Waited::Port),
+        b.map(Waited::Port),
+    ])
+}
+
+/// The port under the name, and the ports under the three others.
+fn name_given_three(world: &World, task: TaskId, name: Name, given: (Name, Name, Name)) -> Touched
+    ensures { result ≡ named_three world.now (port_under world.now task name) (port_under world.now task given.0) (port_under world.now task given.1) (port_under world.now task given.2) }
+{
+    let Some(port) = named_port(world, task, name) else {
+        return name_both(None, None);
+    };
+    let others = (
+        named_port(world, task, given.0),
+        named_port(world, task, given.1),
+        named_port(world, task, given.2),
+    );
+    name_three(world, port, others)
+}
+
+/// The port, and the three others, where they are there. Any port and any set, where the first is in a set.
+fn name_three(
+    world: &World,
+    port: PortId,
+    others: (Option<PortId>, Option<PortId>, Option<PortId>),
+) -> Touched
+    ensures { result ≡ named_three world.now (Some port) others.0 others.1 others.2 }
+{
+    if set_of(world, port).is_some() {
+        return Touched::All;
+    }
+    Touched::Few([
+        Some(Waited::Port(port)),
+        others.0.map(Waited::Port),
+        others.1.map(Waited::Port),
+        others.2.map(Waited::Port),
+    ])
 }
 
 /// The port, the set that it is in, if any, and the one that it left.
@@ -341,6 +529,30 @@ fn by_removing(world: &World, alloc: Global, task: TaskId, name: Name) -> Change
     }
 }
 
+/// Whether the task's names stand for send rights and dead names alone.
+fn has_sends(world: &World, task: TaskId) -> bool
+    requires there { HasTask world.now task }
+    requires stands { Stands world.now }
+    ensures { IsTrue result ↔ HasSends world.now task }
+{
+    let space = world.space(task);
+    let mut from = Name::null();
+    while let Some(name) = space.next_name(from) {
+        match space.lookup(name) {
+            Some(entry) if is_send(&entry) => from = Name::new(name.number() + 1),
+            _ => return false,
+        }
+    }
+    true
+}
+
+/// Whether this is a send right, or a dead name.
+fn is_send(entry: &Entry) -> bool
+    ensures { result ≡ entry_is_send entry.now }
+{
+    matches!(entry, Entry::Send(..) | Entry::DeadName(_))
+}
+
 /// Whether the port, whose receive right was destroyed, is all that the end of the step changes. So it is where nothing is
 /// queued at it, no request is on it or on a name of it, and none was on a name that went.
 fn dies_alone(world: &World, port: PortId) -> bool
@@ -363,17 +575,16 @@ fn is_unqueued(world: &World, port: PortId) -> bool
 fn is_unasked(world: &World, port: PortId) -> bool
     ensures { IsTrue result ↔ IsUnasked world.now port }
 {
-    let requests = &world.requests;
-    requests.no_senders.get(port.number()).is_none()
-        && requests.port_destroyed.get(port.number()).is_none()
-        && requests.names.first_of(port).is_none()
+    world.find_no_senders(port).is_none()
+        && world.find_port_destroyed(port).is_none()
+        && world.first_on_names(port).is_none()
 }
 
 /// Whether no request was on a name that went.
 fn none_went(world: &World) -> bool
     ensures { IsTrue result ↔ (world.now.requests.names.went ≡ []) }
 {
-    world.requests.names.first_went().is_none()
+    world.first_went().is_none()
 }
 
 /// The port under the name is about to change its set, or its receive right goes to another place.
@@ -387,15 +598,56 @@ fn by_moving(world: &World, task: TaskId, name: Name) -> Change
     }
 }
 
-/// A message was received: its third word after the bits is the task's name for the port that it came by.
-#[inline(always)]
-fn by_message(task: TaskId, bytes: &[u8]) -> Change
-    ensures { result ≡ change_by_message task bytes.now }
+/// A message to the port takes along the receive right of another, which leaves this set, if it is in one.
+fn by_taking_along(to: PortId, port: PortId, left: Option<SetId>) -> Change
+    ensures { result ≡ change_by_taking_along to port left }
 {
-    if has_no_receive_right(bytes) {
-        Change::QueueNamed(task, Name::new(read_word(bytes, 12)))
-    } else {
-        Change::Any
+    match left {
+        Some(left) => Change::AlongFrom(to, port, left),
+        None => Change::Along(to, port),
+    }
+}
+
+/// The same of two others, which leave these sets.
+fn by_taking_two(
+    to: PortId,
+    a: PortId,
+    b: PortId,
+    left: Option<SetId>,
+    other: Option<SetId>,
+) -> Change
+    ensures { result ≡ change_by_taking_two to a b left other }
+{
+    match (left, other) {
+        (None, None) => Change::AlongTwo(to, a, b),
+        (Some(set), None) | (None, Some(set)) => Change::AlongTwoFrom(to, a, b, set),
+        (Some(set), Some(other)) => {
+            if set == other {
+                Change::AlongTwoFrom(to, a, b, set)
+            } else {
+                Change::Any
+            }
+        }
+    }
+}
+
+/// The port's message is destroyed, which has this right to answer with, and no other.
+fn by_answering(port: PortId, reply: Option<Carried>) -> Change
+    ensures { result ≡ by_destroying port reply [] }
+{
+    match reply {
+        Some(carried) => by_answer(port, &carried),
+        None => Change::Queue(port),
+    }
+}
+
+/// The same where it has one.
+fn by_answer(port: PortId, carried: &Carried) -> Change
+    ensures { result ≡ change_by_answer port (kind_sent carried.now.given) carried.now.mark }
+{
+    match carried.mark {
+        Mark::Port(told) if carried.given.is_send_once() => Change::Queues(port, told),
+        _ => Change::Queue(port),
     }
 }
 
@@ -409,4 +661,51 @@ fn has_no_receive_right(bytes: &[u8]) -> bool
     }
     let bits = read_word(bytes, 0);
     bits < 0x8000_0000 && bits % 256 != 16
+}
+
+/// A message with a list of items was received by the task: of a body of one right it is known at once whether that is a
+/// receive right, and under which name it comes. Not in line, as most bodies are raw bytes.
+#[inline(never)]
+fn tell_items(task: TaskId, bytes: &[u8], told: &mut Change)
+    ensures { told.new ≡ by_items task bytes.now }
+{
+    if !has_one_right(bytes) {
+        tell_body(task, bytes, told);
+        return;
+    }
+    let name = Name::new(read_word(bytes, 12));
+    if read_word(bytes, 24) % 256 == 16 {
+        *told = Change::Given(task, name, Name::new(read_word(bytes, 28)));
+    } else {
+        *told = Change::QueueNamed(task, name);
+    }
+}
+
+/// The same by all items of the body. Any port and any set, where the reply right is a receive right, or where more than
+/// three receive rights come. Linear in the items and in the receive rights.
+#[inline(never)]
+fn tell_body(task: TaskId, bytes: &[u8], told: &mut Change)
+    ensures { told.new ≡ by_body task bytes.now }
+{
+    if bytes.len() < 24 || read_word(bytes, 0) % 256 == 16 {
+        *told = Change::Any;
+        return;
+    }
+    let name = Name::new(read_word(bytes, 12));
+    let (_, body) = bytes.split_at(24);
+    *told = match Received::by(body) {
+        Received::Nothing => Change::QueueNamed(task, name),
+        Received::One(a) => Change::Given(task, name, a),
+        Received::Two(a, b) => Change::GivenTwo(task, name, a, b),
+        Received::Three(a, b, c) => Change::GivenThree(task, name, a, b, c),
+        Received::Several => Change::Any,
+    };
+}
+
+/// Whether the message surely gives one right at most in its body, which is eight bytes long, and its reply right is no
+/// receive right.
+fn has_one_right(bytes: &[u8]) -> bool
+    ensures { result ≡ gives_one bytes.now }
+{
+    bytes.len() == 32 && read_word(bytes, 0) % 256 != 16
 }

@@ -6,5 +6,7 @@
 #![tactic(auto)]
 
 mod change;
+mod moved;
+mod received;
 
 pub use change::{Change, set_of};

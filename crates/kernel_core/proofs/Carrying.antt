@@ -1,5 +1,5 @@
 -- A plan is carried out: the send is done, or is refused for want of memory, which it may want.
-use Rattle.std.proofs.Common.{◌≡◌, ℕ, List, [], ◌∷◌, ◌∙◌, false, Some, None, Result, Ok, Err, IfOk, IfErr, OnOk, sym, subst}
+use Rattle.std.proofs.Common.{◌≡◌, ℕ, List, [], ◌∷◌, ◌∙◌, false, Some, None, Result, Ok, Err, IfOk, IfErr, OnOk, sym, subst, inl, inr}
 use Rattle.std.specs.Prelude.{◌≢◌}
 use Rattle.mach_types.specs.declared.calls.Event.{Event}
 use Rattle.mach_types.specs.declared.codes.MsgReturn.{MsgReturn}
@@ -13,6 +13,7 @@ use Rattle.message_codec.specs.Parses.{Parses, is_items}
 use Rattle.message_codec.specs.Words.{body_words}
 use Rattle.copyin_base.specs.Serving.{Declines}
 use Rattle.copyin_base.specs.Worlds.{WorldView, HasTask}
+use Rattle.copyin_base.specs.Changes.{with_slots}
 use Rattle.copyin.specs.declared.judge.Plan.{Plan}
 use Rattle.copyin.specs.Planned.{IsPlan}
 use Rattle.copyin.specs.Wanted.{WantsToSend}
@@ -36,10 +37,15 @@ module _ {A : Type 0} (w new : WorldView) (task : ℕ) (bytes : List ℕ) (plan 
   short_wants (Err code) = λ same. plans_wants w task bytes p.parsed p.text p.is_plan.plans
 
 -- Where it went is told of the bytes.
-pub goes : {A : Type 0} (w : WorldView) (task : ℕ) (bytes : List ℕ) (plan : Plan) → PlansText w task bytes plan → (told : Change) (r : Result A MsgReturn) → OnOk r (TellsPlan plan told) → OnOk r (TellsSend w task bytes told)
-goes w task bytes plan p told (Ok v) (None, g, is) = (None, tt, is)
-goes w task bytes plan p told (Ok v) (Some port, g, is) = (Some port, record { plan = plan; planned = p; goes = g }, is)
+pub goes : {A : Type 0} (w : WorldView) (task : ℕ) (bytes : List ℕ) (plan : Plan) → PlansText w task bytes plan → (told : Change) (r : Result A MsgReturn) → OnOk r (TellsPlan w plan told) → OnOk r (TellsSend w task bytes told)
+goes w task bytes plan p told (Ok v) (inl (None, g, is)) = inl (None, tt, is)
+goes w task bytes plan p told (Ok v) (inl (Some port, g, is)) = inl (Some port, record { plan = plan; planned = p; goes = g }, is)
+goes w task bytes plan p told (Ok v) (inr tells) = inr (record { plan = plan; planned = p; tells = tells })
 goes w task bytes plan p told (Err code) g = tt
+
+-- More slots tell nothing else.
+pub still_tells : (w x : WorldView) (n : ℕ) (plan : Plan) (told : Change) → x ≡ with_slots w n → TellsPlan x plan told → TellsPlan w plan told
+still_tells w x n plan told is tells = subst (λ (y : WorldView). TellsPlan y plan told) is tells
 
 -- A body of raw bytes moves no receive right, and one of one word moves none where the word does not.
 pub raw_moves_none : (w : WorldView) (task : ℕ) (bytes : List ℕ) (parsed : Parsed) (text : Parses bytes parsed) (plan : Plan) → IsPlan w task parsed text.written bytes plan → parsed.is_complex ≡ false → MovesNoReceive plan.words.body.items

@@ -1,9 +1,8 @@
 -- What a kernel keeps of a step covers all that the machine's step changes of ports and sets.
-use Rattle.std.proofs.Common.{◌≡◌, ℕ, suc, zero, ◌+◌, ◌-◌, ◌<◌, ◌^◌, ◌%◌, List, [], ◌∷◌, ◌++◌, Option, Some, None, refl, sym, ap, subst, ◌∙◌, arith, true, false, Bool, inl, inr, ◌⊎◌, length, is_some}
+use Rattle.std.proofs.Common.{◌≡◌, ℕ, suc, zero, ◌+◌, ◌-◌, ◌<◌, List, [], ◌∷◌, ◌++◌, Option, Some, None, refl, sym, ap, subst, ◌∙◌, arith, true, false, Bool, inl, inr, ◌⊎◌, length, is_some}
 use Rattle.std.specs.Prelude.{◌≢◌, ◌==◌, ◌&&◌, ◌||◌, ℤ, not, if◌then◌else◌, MatchBool, Contains, nat_lt, All, Result, Ok, Err, IfOk}
-use Rattle.std.specs.Option.{option_map, option_and_then, option_to_list}
+use Rattle.std.specs.Option.{option_map}
 use Rattle.std.proofs.lemmas.List.Elements.{All-head, All-tail, All-cons, All-nil}
-use Rattle.std.proofs.lemmas.Bool.{and_parts, ltb-true}
 use Rattle.std.proofs.lemmas.Bool.Decides.{eqb_tells}
 use Rattle.mach_types.specs.declared.calls.Event.{Event}
 use Rattle.mach_types.specs.declared.calls.Reply.{Reply}
@@ -14,10 +13,9 @@ use Rattle.mach_types.specs.Touching.{Covers}
 use Rattle.mach_types.specs.declared.rights.Disposition.{Disposition}
 use Rattle.mach_types.specs.declared.rights.Disposition.TheVariants.{MoveSend, MoveSendOnce}
 use Rattle.mach_types.specs.Tokens.{Kind, receive, send_once, Token, token, Place, in_task, in_message, Request, in_request, count, is_of, is_held, Moves}
-use Rattle.mach_types.specs.Messages.{Mark, to_port}
-use Rattle.mach_types.specs.Grammar.{Header, WireBody, text, Spells}
+use Rattle.mach_types.specs.Messages.{Mark as MachineMark, to_port}
+use Rattle.mach_types.specs.Grammar.{Header, WireBody}
 use Rattle.mach_types.specs.Numbers.{most_identities}
-use Rattle.mach_types.specs.TextGuards.{word_at}
 use Rattle.mach_model.specs.State.{State, Target, lookup, held, gives, without_name}
 use Rattle.mach_model.specs.Carried.{lying}
 use Rattle.mach_model.specs.Death.{same_place}
@@ -30,25 +28,24 @@ use Rattle.mach_model.specs.Requests.{Requests}
 use Rattle.mach_model.specs.SentMeans.{target_mark}
 use Rattle.mach_model.specs.CopyIn.{CopyRight}
 use Rattle.mach_model.specs.References.{LosesOne, unused_once, Deallocates, Destroys, Modifies, LosesAll, LosesReceive, RemovesRight, without_set, is_either}
-use Rattle.mach_model.specs.Receive.{Receipt, Receives}
+use Rattle.mach_model.specs.Receive.{Receipt}
 use Rattle.mach_model.specs.Send.{Sends}
 use Rattle.mach_model.specs.Settles.{Settles}
 use Rattle.mach_model.specs.Tasks.{EndsTask}
 use Rattle.mach_model.proofs.Failing.{refusal_fails}
-use Rattle.mach_model.proofs.MessagesLawful.{first_byte}
+use Rattle.mach_model.proofs.StepLawful.{TakesFrom-live}
 use Rattle.mach_model.proofs.NamesLawful.{gives-lawful}
 use Rattle.mach_laws.specs.Touching.{TouchesOnly}
 use Rattle.mach_laws.proofs.Disbanding.{disbanding_touches}
-use Rattle.mach_laws.proofs.EndingTask.{nameless_holds, ends_keep, ends_owing_none}
-use Rattle.mach_laws.proofs.LoneDeath.{LosesRight, none_lost, all_lose, receive_lost, dies_alone}
+use Rattle.mach_laws.proofs.EndingTask.{HoldsSends, sends_hold, ends_keep, ends_owing_none}
+use Rattle.mach_laws.proofs.LoneDeath.{LosesRight, dies_alone}
 use Rattle.mach_laws.proofs.Losing.{one_keeps, all_keeps, IsCounted, counts_keep, modifies_removes, insert_ends, extract_ends, inserts_keep, extracts_keep}
 use Rattle.mach_laws.proofs.Moving.{KeepsOthers, others_end, others_trans, moved_touches, joins_others, receive_moves}
 use Rattle.mach_laws.proofs.QuietEnd.{IsQuietEnd, ends_quietly, ends_telling}
 use Rattle.mach_laws.proofs.Requesting.{OwesOne, OwesNone, request_keeps, taken_away_keeps}
-use Rattle.mach_laws.proofs.Touching.{Keeps, Changes, keeps_same, keeps_by, changes_none, changes_end, touches, touches_before, gives_keeps, made_touches, set_changes, dead_keeps, IsOtherWord, SendsOthers, keeps_trans, sends_change, sends_alike, ReceivesOthers, receives_change, creates_keep, renames_keep, limit_changes}
+use Rattle.mach_laws.proofs.Touching.{Keeps, Changes, keeps_same, keeps_by, changes_none, changes_end, touches, touches_before, gives_keeps, made_touches, set_changes, dead_keeps, IsOtherWord, SendsOthers, keeps_trans, sends_change, sends_alike, creates_keep, renames_keep, limit_changes}
 use Rattle.name_space.specs.declared.Entry.{Entry as Named}
 use Rattle.name_space.specs.declared.Entry.TheVariants as named
-use Rattle.name_space.specs.Entry.{port_named}
 use Rattle.port.specs.Ports.{PortView}
 use Rattle.message_codec.specs.declared.words.PortWord.{PortWord}
 use Rattle.copyin_base.specs.Kept.{Kept}
@@ -64,12 +61,18 @@ use Rattle.copyin.proofs.Planning.{message, third, copied, none_receives}
 use Rattle.destroy.specs.Stages.{SettlesIn}
 use Rattle.kernel_change.specs.declared.change.Change.TheVariants as change
 use Rattle.kernel_change.specs.declared.change.Change.{Change}
-use Rattle.kernel_change.specs.Changing.{few, made_last, port_under, set_of, with_set, named_left, touched_by, gives_none, by_message, by_receipt, by_send, by_paying, by_request, by_making, by_losing_one, by_losing_all, disbanded, ByDisbanding, ByLosingAll, ByReferences, ByEnding, left_by, moved_from, by_moving, by_handing, DiesAlone, EndsAs}
-use Rattle.kernel_core.specs.InTurn.{CompletesInTurn}
+use Rattle.kernel_change.specs.Changing.{ByDisbanding, ByEnding, ByLosingAll, ByReferences, DiesAlone, EndsAs, HasSends, by_handing, by_losing_all, by_losing_one, by_making, by_moving, by_paying, by_receipt, by_request, by_send, by_too_long, disbanded, few, is_send, left_by, made_last, moved_from, named_left, set_of, touched_by, with_set}
+use Rattle.kernel_core.specs.InTurn.{source, TakesByTurn, CompletesInTurn}
+use Rattle.kernel_core.specs.Receive.{taken_by, TakesOne}
 use Rattle.kernel_core.specs.Send.{MovesNoReceive, SendsTo, TellsSent}
 use Rattle.kernel_core.specs.Touching.{TellsChange, Touches, EndsIdle}
+use Rattle.kernel_core.proofs.Along.{along_own}
 use Rattle.kernel_core.proofs.Alone.{none_kept, is_lone}
-use Rattle.kernel_core.proofs.Taking.{settled_in_turn, refused_in_turn}
+use Rattle.kernel_core.proofs.Covered.{OwnTouches, touches_all, none_some, one_some, kept_all, set_is, under, covers_port, covers_set, queue_changed, limit_changed}
+use Rattle.kernel_core.proofs.Taking.{named_takes, again_takes, destroyed_one, one_taken, settled_in_turn, refused_in_turn}
+use Rattle.kernel_core.proofs.Given.{message_own}
+use Rattle.kernel_core.proofs.LostRight.{own_lost}
+use Rattle.kernel_core.proofs.TooLong.{too_long_own}
 
 -- ---- where nothing is left to do, the state midway and the one after are shown by the same tables
 
@@ -100,41 +103,6 @@ quiet_notice w now mid t p place notice bare a b no_sets idle =
     kept_so r kind q [] e none = omega (arith, none)
     kept_so r kind q (x ∷ xs) e none = absurd (cc)
 
--- ---- what is covered
-
--- The step's own part owed one notice, to this port.
-abbrev OwesNotice : (s mid : State) → Owed → Touched → Type 0
-OwesNotice s mid owed touched = (p : ℕ) × OwesOne p owed × ((t : State) → Changes mid t (Some p) None → TouchesOnly s t touched)
-
--- After a quiet end this is all that the step changed; it owed nothing, or one such notice.
-abbrev OwnTouches : (s mid : State) → Owed → Touched → Type 0
-OwnTouches s mid owed touched = (touched ≡ Any) ⊎ ((owed ≡ []) × ((t : State) → Keeps mid t → TouchesOnly s t touched)) ⊎ OwesNotice s mid owed touched
-
-pub touches_all : (s t : State) → TouchesOnly s t Any
-touches_all s t = record { ports = λ p not. absurd (not tt); sets = λ set there not. absurd (not tt) }
-
-none_some : {A : Type 0} (x : A) → None ≡ Some x → ⊥
-none_some x e = cc
-
-one_some : {A : Type 0} (x y : A) → Some x ≡ Some y → x ≡ y
-one_some x y e = cc
-
--- nothing that is waited for has changed
-unchanged : (s mid : State) (owed : Owed) (touched : Touched) → Changes s mid None None → owed ≡ [] → OwnTouches s mid owed touched
-unchanged s mid owed touched c none = inr (inl (
-  none,
-  λ t k.
-      touches s t None None touched (changes_end s mid t None None c k) (λ p e. absurd (none_some p e)) (λ p e. absurd (none_some p e)) (λ p set e. absurd (none_some p e)),
-))
-
-kept_all : (s mid : State) (owed : Owed) (touched : Touched) → Keeps s mid → owed ≡ [] → OwnTouches s mid owed touched
-kept_all s mid owed touched k none = unchanged s mid owed touched (changes_none s mid None None k) none
-
--- what stands for no set
-abbrev IsNoSet : Target → Type 0
-IsNoSet (Target.set set) = ⊥
-IsNoSet target = Unit {0}
-
 -- a set that is destroyed is covered, and so is each of few members
 covers_disbanded : (v : WorldView) (set : ℕ) (ports : List ℕ) → Covers (touched_by v (disbanded set ports)) (Waited.Set set)
 covers_disbanded v set [] = (0, omega arith, refl)
@@ -156,15 +124,10 @@ covers_member v set (a ∷ b ∷ c ∷ []) p (suc (suc zero), below, is) = (3, o
 covers_member v set (a ∷ b ∷ c ∷ []) p (suc (suc (suc i)), below, is) = absurd (omega (arith, below))
 covers_member v set (a ∷ b ∷ c ∷ d ∷ xs) p in_it = tt
 
--- a name for a port stands for it in the tables
-named_port : (o : Option Named) (p : ℕ) → Some (Target.port p) ≡ option_map target_of o → option_and_then port_named o ≡ Some p
-named_port None p e = cc
-named_port (Some (named.Receive q)) p e = grind arith
-named_port (Some (named.Send q n)) p e = grind arith
-named_port (Some (named.ReceiveAndSend q n)) p e = grind arith
-named_port (Some (named.SendOnce q)) p e = cc
-named_port (Some (named.DeadName n)) p e = cc
-named_port (Some (named.Set set)) p e = cc
+-- what stands for no set
+abbrev IsNoSet : Target → Type 0
+IsNoSet (Target.set set) = ⊥
+IsNoSet target = Unit {0}
 
 -- what goes was held
 held_some : (task p : ℕ) (old new : List Token) → Moves old new (token receive p (in_task task) ∷ []) [] → 0 < count (is_held task receive p) old
@@ -173,99 +136,6 @@ held_some task p old new moves =
     let own : is_held task receive p (token receive p (in_task task)) ≡ true = grind arith in
     let one : ◌≡◌ {A = ℕ} (if is_held task receive p (token receive p (in_task task)) then 1 else 0) 1 = rw own refl in
     omega (arith, m, one)
-
--- the set that a port is in is the one of its tables
-module _ (w : WorldView) (s : State) (a : Agrees w s) (p : ℕ) (no_sets : s.live_port p ≡ false → s.sets_of p ≡ []) where
-  in_one : (o : Option ℕ) (set : ℕ) → Contains (option_to_list o) set → o ≡ Some set
-  in_one None set (i, below, is) = absurd (omega (arith, below))
-  in_one (Some x) set one = grind arith
-
-  none_in : (set : ℕ) → Contains [] set → ⊥
-  none_in set (i, below, is) = omega (arith, below)
-
-  set_is : (set : ℕ) → Contains (s.sets_of p) set → set_of w p ≡ Some set
-  set_is set in_it = go (port_at w p) refl
-    where
-      go : (o : Option (PortView Kept)) → port_at w p ≡ o → set_of w p ≡ Some set
-      go None is = absurd (none_in set (subst (λ (xs : List ℕ). Contains xs set) (no_sets (sym (a.live_port p) ∙ ap is_some is)) in_it))
-      go (Some v) is =
-          let e : v.attributes.set ≡ Some set = in_one v.attributes.set set (subst (λ (xs : List ℕ). Contains xs set) (sym (a.ports p v is).sets) in_it) in
-          ap (option_and_then (λ (x : PortView Kept). x.attributes.set)) is ∙ e
-
-module _ (w : WorldView) (mid : State) (a : Agrees w mid) where
-  under : (task name p : ℕ) → lookup mid task name ≡ Some (Target.port p) → port_under w task name ≡ Some p
-  under task name p is = named_port (entry_at w task name) p (sym is ∙ a.naming task name)
-
-  covers_port : (p : ℕ) → Covers (with_set w (Some p)) (Waited.Port p)
-  covers_port p = (0, omega arith, refl)
-
-  covers_alone : (o : Option ℕ) (p : ℕ) → o ≡ Some p → Covers (few (option_map Waited.Port o) None) (Waited.Port p)
-  covers_alone o p e = rw e (0, omega arith, refl)
-
-  covers_set : (p set : ℕ) → (mid.live_port p ≡ false → mid.sets_of p ≡ []) → Contains (mid.sets_of p) set → Covers (with_set w (Some p)) (Waited.Set set)
-  covers_set p set no_sets in_it = let f = set_is w mid a p no_sets set in_it in rw f (1, omega arith, refl)
-
-  -- the queue of one port has changed
-  queue_changed : (s : State) (owed : Owed) (p : ℕ) → MidLawful mid [] → Changes s mid (Some p) None → owed ≡ [] → OwnTouches s mid owed (with_set w (Some p))
-  queue_changed s owed p l c none = inr (inl (
-    none,
-    λ t k.
-        touches s t (Some p) None (with_set w (Some p)) (changes_end s mid t (Some p) None c k)
-        (λ q e. subst (λ (x : ℕ). Covers (with_set w (Some p)) (Waited.Port x)) (one_some p q e) (covers_port p))
-        (λ q e. absurd (none_some q e))
-        (λ q set e in_it.
-        let own : Contains (s.sets_of p) set = subst (λ (x : ℕ). Contains (s.sets_of x) set) (sym (one_some p q e)) in_it in
-        covers_set p set (l.no_sets p) (subst (λ (xs : List ℕ). Contains xs set) (sym (c.sets p)) own)),
-  ))
-
-  -- the limit of one port has
-  limit_changed : (s : State) (owed : Owed) (task name p : ℕ) → Changes s mid None (Some p) → lookup mid task name ≡ Some (Target.port p) → owed ≡ [] → OwnTouches s mid owed (touched_by w (change.PortNamed task name))
-  limit_changed s owed task name p c found none = inr (inl (
-    none,
-    λ t k.
-        touches s t None (Some p) (touched_by w (change.PortNamed task name)) (changes_end s mid t None (Some p) c k)
-        (λ q e. absurd (none_some q e))
-        (λ q e. covers_alone (port_under w task name) q (under task name p found ∙ e))
-        (λ q set e. absurd (none_some q e)),
-  ))
-
-  -- ---- a receipt
-
-  bits_of : (h : Header) (v : WireBody) → h.remote_kind < 2 ^ 8 → h.local_kind < 2 ^ 8 → word_at (text h v) 0 < 2 ^ 31 → (bytes : List ℕ) × (v ≡ WireBody.raw bytes)
-  bits_of h (WireBody.raw bytes) x y few = (bytes, refl)
-  bits_of h (WireBody.items xs) x y few = absurd (omega (arith, few))
-
-  local_of : (h : Header) (v : WireBody) → h.local < 2 ^ 32 → word_at (text h v) 12 ≡ h.local
-  local_of h (WireBody.raw bytes) fits = omega arith
-  local_of h (WireBody.items xs) fits = omega arith
-
-  gives_others : (bytes : List ℕ) (h : Header) (v : WireBody) → Spells bytes h v → gives_none bytes ≡ true → ReceivesOthers h v
-  gives_others bytes h v spells is =
-      let both = and_parts (nat_lt 23 (length bytes)) _ is in
-      let parts = and_parts (nat_lt (word_at bytes 0) (2 ^ 31)) (not (word_at bytes 0 % 2 ^ 8 == 16)) both.1 in
-      let small : word_at bytes 0 < 2 ^ 31 = ltb-true (word_at bytes 0) (2 ^ 31) parts.0 in
-      let first : word_at bytes 0 % 2 ^ 8 ≡ h.remote_kind = ap (λ (bs : List ℕ). word_at bs 0 % 2 ^ 8) spells.is_text ∙ first_byte h v spells.header_fits.remote_kind spells.header_fits.local_kind in
-      let raw = bits_of h v spells.header_fits.remote_kind spells.header_fits.local_kind (subst (λ (bs : List ℕ). word_at bs 0 < 2 ^ 31) spells.is_text small) in
-      record {
-        reply = λ e. (let f = parts.1 in let g = first ∙ e in differs (word_at bytes 0 % 2 ^ 8) g f);
-        body = subst (λ (x : WireBody). All IsOtherWord (machine_words x)) (sym raw.1) (All-nil IsOtherWord);
-      }
-    where
-      differs : (n : ℕ) → n ≡ 16 → not (n == 16) ≡ true → ⊥
-      differs n e f = grind arith
-
-  message_received : (s : State) (owed : Owed) (task port room : ℕ) (bytes : List ℕ) → IsLawful s → MidLawful mid [] → Receives task port room bytes s mid → owed ≡ [] → OwnTouches s mid owed (touched_by w (by_message task bytes))
-  message_received s owed task port room bytes l m r none = go (gives_none bytes) refl
-    where
-      local : word_at bytes 12 ≡ r.header.local
-      local = ap (λ (bs : List ℕ). word_at bs 12) r.spells.is_text ∙ local_of r.header r.written r.spells.header_fits.local
-
-      found : port_under w task (word_at bytes 12) ≡ Some port
-      found = ap (port_under w task) local ∙ under task r.header.local port r.local
-
-      go : (b : Bool) → gives_none bytes ≡ b → OwnTouches s mid owed (touched_by w (if b then change.QueueNamed task (word_at bytes 12) else change.Any))
-      go false is = inl refl
-      go true is = rw found (queue_changed s owed port m (receives_change task port room bytes s mid l r (gives_others bytes r.header r.written r.spells is)) none)
 
 -- ---- a send
 
@@ -401,12 +271,49 @@ module _ (now : ℕ) (old w : WorldView) (s mid : State) (owed : Owed) (sh : Sho
       go (Some (named.DeadName n)) f x = absurd (let h = f in cc)
       go (Some (named.Set t)) f x = by (subst (λ (n : ℕ). ByDisbanding old n told) (let g : t ≡ set = (let h = f in cc) in g) x)
 
-  -- a task ends that has no names
+  -- a task ends whose names stand for send rights and dead names alone
+  module _ (task : ℕ) (sends : HasSends old task) where
+    unlike : (name : ℕ) (x : Named) → entry_at old task name ≡ Some x → is_send x ≡ false → ⊥
+    unlike name x is other = let f : true ≡ false = sym (sends.only name x is) ∙ other in cc
+
+    port_unheld : (name p : ℕ) (o : Option Named) → entry_at old task name ≡ o → Some (Target.port p) ≡ option_map target_of o → held s task receive p ≡ 0
+    port_unheld name p None is e = absurd (cc)
+    port_unheld name p (Some (named.Receive q)) is e = absurd (unlike name (named.Receive q) is refl)
+    port_unheld name p (Some (named.Send q n)) is e =
+        let none_held : held s task receive q ≡ 0 = (sh.agrees.references task name (named.Send q n) q is refl).0 in
+        let same : p ≡ q = (let f = e in cc) in
+        subst (λ (x : ℕ). held s task receive x ≡ 0) (sym same) none_held
+    port_unheld name p (Some (named.ReceiveAndSend q n)) is e = absurd (unlike name (named.ReceiveAndSend q n) is refl)
+    port_unheld name p (Some (named.SendOnce q)) is e = absurd (cc)
+    port_unheld name p (Some (named.DeadName n)) is e = absurd (cc)
+    port_unheld name p (Some (named.Set set)) is e = absurd (cc)
+
+    no_once : (name p : ℕ) (o : Option Named) → entry_at old task name ≡ o → Some (Target.once p) ≡ option_map target_of o → ⊥
+    no_once name p None is e = cc
+    no_once name p (Some (named.Receive q)) is e = cc
+    no_once name p (Some (named.Send q n)) is e = cc
+    no_once name p (Some (named.ReceiveAndSend q n)) is e = cc
+    no_once name p (Some (named.SendOnce q)) is e = unlike name (named.SendOnce q) is refl
+    no_once name p (Some (named.DeadName n)) is e = cc
+    no_once name p (Some (named.Set set)) is e = cc
+
+    no_set : (name set : ℕ) (o : Option Named) → entry_at old task name ≡ o → Some (Target.set set) ≡ option_map target_of o → ⊥
+    no_set name set None is e = cc
+    no_set name set (Some (named.Receive q)) is e = cc
+    no_set name set (Some (named.Send q n)) is e = cc
+    no_set name set (Some (named.ReceiveAndSend q n)) is e = cc
+    no_set name set (Some (named.SendOnce q)) is e = cc
+    no_set name set (Some (named.DeadName n)) is e = cc
+    no_set name set (Some (named.Set t)) is e = unlike name (named.Set t) is refl
+
+    holds_sends : HoldsSends task s
+    holds_sends =
+        sends_hold task s sh.lawful (λ name p found. port_unheld name p (entry_at old task name) refl (sym found ∙ sh.agrees.naming task name))
+        (λ name p found. no_once name p (entry_at old task name) refl (sym found ∙ sh.agrees.naming task name)) (λ name set found. no_set name set (entry_at old task name) refl (sym found ∙ sh.agrees.naming task name))
+
   ending_own : (task : ℕ) (told : Change) → EndsTask task s mid owed → ByEnding old task told → OwnTouches s mid owed (touched_by w told)
   ending_own task told e (inr any) = inl (any_all told any.1)
-  ending_own task told e (inl nameless) =
-      let few = nameless_holds task s sh.lawful (sym (sh.agrees.names_kept task nameless.0.space nameless.0.there) ∙ nameless.0.none) in
-      kept_all s mid owed _ (ends_keep task s mid owed e few) (ends_owing_none task s mid owed e few)
+  ending_own task told e (inl sends) = let few = holds_sends task sends.0 in kept_all s mid owed _ (ends_keep task s mid owed e few) (ends_owing_none task s mid owed e few)
 
   all_own : (task name : ℕ) (told : Change) → Destroys task name s mid owed → ByLosingAll old (entry_at old task name) told → OwnTouches s mid owed (touched_by w told)
   all_own task name told (Target.port p, found, d) tells = port_own task name p told found d.0 d.1 d.2 (loss_is (entry_at old task name) (Target.port p) told (sym found ∙ sh.agrees.naming task name) tt tells)
@@ -494,7 +401,7 @@ module _ (now : ℕ) (old w : WorldView) (s mid : State) (owed : Owed) (sh : Sho
       subst (λ (c : Change). OwnTouches s mid owed (touched_by w c)) (sym is) (moved_own p others none)
 
   -- a right is handed from the task's name
-  handing_own : (task name number : ℕ) (told : Change) (copied : State) (mark : Mark) (place : Place) → CopyRight task place number name s mark copied → Keeps copied mid → (number ≢ 16 → Keeps s mid) → owed ≡ [] →
+  handing_own : (task name number : ℕ) (told : Change) (copied : State) (mark : MachineMark) (place : Place) → CopyRight task place number name s mark copied → Keeps copied mid → (number ≢ 16 → Keeps s mid) → owed ≡ [] →
       told ≡ by_handing old task name number → OwnTouches s mid owed (touched_by w told)
   handing_own task name number told copied mark place copy ends keeps none tells = elim (eqb_tells number 16) [
     | inl e ↦
@@ -543,12 +450,16 @@ module _ (now : ℕ) (old w : WorldView) (s mid : State) (owed : Owed) (sh : Sho
 
   -- ---- a receipt
 
-  receipt_own : (task : ℕ) (waited : Waited) (room : ℕ) (large : Bool) (reply : Reply) → Receipt s task waited room large reply mid owed → OwnTouches s mid owed (touched_by w (by_receipt task large reply))
-  receipt_own task waited room large (Reply.Message bytes) (p, from, r, none) = message_received w mid (agree none) s owed task p room bytes sh.lawful (law none) r none
-  receipt_own task waited room large (Reply.Empty told) (is, empty, same, none) = kept_all s mid owed _ (keeps_same s mid same) none
-  receipt_own task waited room true (Reply.TooLarge n) (p, e, from, front, is, over, what) = kept_all s mid owed _ (keeps_same s mid what.0) what.1
-  receipt_own task waited room false (Reply.TooLarge n) x = inl refl
-  receipt_own task waited room large reply x = absurd x
+  receipt_own : (task : ℕ) (waited : Waited) (room : ℕ) (large : Bool) (from : Option ℕ) (reply : Reply) → (taken_by large reply ≡ 1 → (port : ℕ) × (from ≡ Some port) × TakesOne s mid port) →
+      Receipt s task waited room large reply mid owed → OwnTouches s mid owed (touched_by w (by_receipt old task large from reply))
+  receipt_own task waited room large from (Reply.Message bytes) takes (p, of, r, none) = message_own w mid (agree none) s owed task p room bytes sh.lawful (law none) r none
+  receipt_own task waited room large from (Reply.Empty told) takes (is, empty, same, none) = kept_all s mid owed _ (keeps_same s mid same) none
+  receipt_own task waited room true from (Reply.TooLarge n) takes (p, e, of, front, is, over, what) = kept_all s mid owed _ (keeps_same s mid what.0) what.1
+  receipt_own task waited room false from (Reply.TooLarge n) takes (p, e, of, front, is, over, d) =
+      let x = takes refl in
+      let here : from ≡ Some p = x.1 ∙ ap Some (one_taken s mid x.0 p x.2 (destroyed_one s mid p e owed d).next) in
+      subst (λ (o : Option ℕ). OwnTouches s mid owed (touched_by w (by_too_long old o))) (sym here) (too_long_own now old w s mid owed sh shown p e (TakesFrom-live s sh.lawful task waited p of) front d)
+  receipt_own task waited room large from reply takes x = absurd x
 
   -- ---- something is made under a name
 
@@ -580,191 +491,41 @@ module _ (now : ℕ) (old w : WorldView) (s mid : State) (owed : Owed) (sh : Sho
   as_told : {told change : Change} → told ≡ change → OwnTouches s mid owed (touched_by w change) → OwnTouches s mid owed (touched_by w told)
   as_told is own = subst (λ (c : Change). OwnTouches s mid owed (touched_by w c)) (sym is) own
 
-  pub own : (event : Event) (reply : Reply) (told : Change) → Does now s event reply mid owed → TellsChange old event reply told → OwnTouches s mid owed (touched_by w told)
-  own Event.TaskCreate (Reply.Task task) told d tells = kept_all s mid owed _ (creates_keep s task mid d.0) d.1
-  own (Event.GetRefs task name right) (Reply.Refs n) told d tells = kept_all s mid owed _ (keeps_same s mid d.0) d.1
-  own (Event.NameType task name) (Reply.NameType n) told d tells = kept_all s mid owed _ (keeps_same s mid d.0) d.1
-  own (Event.Names task) (Reply.Names entries) told d tells = kept_all s mid owed _ (keeps_same s mid d.0) d.1
-  own (Event.ReceiveStatus task name) (Reply.Status status) told d tells = kept_all s mid owed _ (keeps_same s mid d.0) d.1
-  own (Event.SetStatus task name) (Reply.Members members) told d tells = kept_all s mid owed _ (keeps_same s mid d.0) d.1
-  own (Event.Rename task o n) (Reply.Code code) told d tells = kept_all s mid owed _ (renames_keep task o n s mid d.1) d.2
-  own (Event.SetMscount task name n) (Reply.Code code) told d tells =
+  pub own : (event : Event) (reply : Reply) (told : Change) → TakesByTurn old event reply s mid → Does now s event reply mid owed → TellsChange old event reply told → OwnTouches s mid owed (touched_by w told)
+  own Event.TaskCreate (Reply.Task task) told turn d tells = kept_all s mid owed _ (creates_keep s task mid d.0) d.1
+  own (Event.GetRefs task name right) (Reply.Refs n) told turn d tells = kept_all s mid owed _ (keeps_same s mid d.0) d.1
+  own (Event.NameType task name) (Reply.NameType n) told turn d tells = kept_all s mid owed _ (keeps_same s mid d.0) d.1
+  own (Event.Names task) (Reply.Names entries) told turn d tells = kept_all s mid owed _ (keeps_same s mid d.0) d.1
+  own (Event.ReceiveStatus task name) (Reply.Status status) told turn d tells = kept_all s mid owed _ (keeps_same s mid d.0) d.1
+  own (Event.SetStatus task name) (Reply.Members members) told turn d tells = kept_all s mid owed _ (keeps_same s mid d.0) d.1
+  own (Event.Rename task o n) (Reply.Code code) told turn d tells = kept_all s mid owed _ (renames_keep task o n s mid d.1) d.2
+  own (Event.SetMscount task name n) (Reply.Code code) told turn d tells =
       kept_all s mid owed _ (keeps_by s mid _ d.2.3 (λ p. refl) (λ p. refl) (λ p. refl) (λ p. refl) (λ p. refl) (λ set. refl) (λ test is. ap (λ (x : State). count test x.ledger) d.2.3)) d.3
-  own (Event.SetSeqno task name n) (Reply.Code code) told d tells =
+  own (Event.SetSeqno task name n) (Reply.Code code) told turn d tells =
       kept_all s mid owed _ (keeps_by s mid _ d.2.3 (λ p. refl) (λ p. refl) (λ p. refl) (λ p. refl) (λ p. refl) (λ set. refl) (λ test is. ap (λ (x : State). count test x.ledger) d.2.3)) d.3
-  own (Event.SetQlimit task name n) (Reply.Code code) told d tells =
+  own (Event.SetQlimit task name n) (Reply.Code code) told turn d tells =
       as_told tells (limit_changed w mid (agree d.2) s owed task name d.1.0 (limit_changes s mid d.1.0 n d.1.3) (ap (λ (x : State). lookup x task name) d.1.3 ∙ d.1.1) d.2)
-  own (Event.Allocate task right) (Reply.Name name) told d tells = as_told tells (made_own task right name (gives task name s) (gives_keeps task name s) (gives-lawful task name s sh.lawful) d.1 d.2)
-  own (Event.AllocateName task right name) (Reply.Name to) told d tells =
+  own (Event.Allocate task right) (Reply.Name name) told turn d tells = as_told tells (made_own task right name (gives task name s) (gives_keeps task name s) (gives-lawful task name s sh.lawful) d.1 d.2)
+  own (Event.AllocateName task right name) (Reply.Name to) told turn d tells =
       as_told tells (made_own task right to s (keeps_same s s refl) sh.lawful (subst (λ (n : ℕ). Makes task right n s mid) (sym d.0) d.1) d.2)
-  own (Event.Send task bytes) (Reply.Code code) told d (sent, tells, is) = as_told is (sent_own task bytes sent d.1 d.2 tells)
-  own (Event.Receive task name room large) reply told (waited, waits, receipt) tells = as_told tells (receipt_own task waited room large reply receipt)
-  own (Event.ReceiveAgain task waited room large) reply told receipt tells = as_told tells (receipt_own task waited room large reply receipt)
-  own (Event.TaskTerminate task) (Reply.Code code) told d tells = ending_own task told d.1 tells
-  own (Event.Deallocate task name) (Reply.Code code) told d tells = one_own task name told d.1 tells
-  own (Event.Destroy task name) (Reply.Code code) told d tells = all_own task name told d.1 tells
-  own (Event.ModRefs task name right delta) (Reply.Code code) told d tells = counts_own task name right delta told d.1 tells
-  own (Event.MoveMember task member after) (Reply.Code code) told d tells = moving_own task member d.1.0 told d.1.1 (joins_others task member after s mid d.1) d.2 tells
-  own (Event.InsertMember task member set) reply told d tells = inl (any_all told tells)
-  own (Event.ExtractMember task member set) reply told d tells = inl (any_all told tells)
-  own (Event.InsertRight task name from poly number) (Reply.Code code) told (is, i, none) tells =
+  own (Event.Send task bytes) (Reply.Code code) told turn d (inl (sent, tells, is)) = as_told is (sent_own task bytes sent d.1 d.2 tells)
+  own (Event.Send task bytes) (Reply.Code code) told turn d (inr along) = along_own now old w s mid owed sh shown task bytes told d.1 d.2 along
+  own (Event.Receive task name room large) reply told turn (waited, waits, receipt) tells = as_told tells (receipt_own task waited room large (source old (Event.Receive task name room large)) reply (λ one. turn (named_takes task name room large reply ∙ one)) receipt)
+  own (Event.ReceiveAgain task waited room large) reply told turn receipt tells =
+      as_told tells (receipt_own task waited room large (source old (Event.ReceiveAgain task waited room large)) reply (λ one. turn (again_takes task waited room large reply ∙ one)) receipt)
+  own (Event.TaskTerminate task) (Reply.Code code) told turn d tells = ending_own task told d.1 tells
+  own (Event.Deallocate task name) (Reply.Code code) told turn d tells = one_own task name told d.1 tells
+  own (Event.Destroy task name) (Reply.Code code) told turn d tells = all_own task name told d.1 tells
+  own (Event.ModRefs task name right delta) (Reply.Code code) told turn d tells = counts_own task name right delta told d.1 tells
+  own (Event.MoveMember task member after) (Reply.Code code) told turn d tells = moving_own task member d.1.0 told d.1.1 (joins_others task member after s mid d.1) d.2 tells
+  own (Event.InsertMember task member set) reply told turn d tells = inl (any_all told tells)
+  own (Event.ExtractMember task member set) reply told turn d tells = inl (any_all told tells)
+  own (Event.InsertRight task name from poly number) (Reply.Code code) told turn (is, i, none) tells =
       handing_own from poly number told i.copied (to_port i.p) (in_task task) i.copy (insert_ends task name from poly number s mid i) (λ not. inserts_keep task name from poly number s mid not i) none tells
-  own (Event.ExtractRight task name number to) (Reply.Right new_name kind) told (e, none) tells =
+  own (Event.ExtractRight task name number to) (Reply.Right new_name kind) told turn (e, none) tells =
       handing_own task name number told e.copied (to_port e.p) (in_task to) e.copy (extract_ends task name number to new_name kind s mid e) (λ not. extracts_keep task name number to new_name kind s mid not e) none tells
-  own (Event.RequestNotification task name variant sync notify number) (Reply.Previous previous) told d tells = request_own task name variant sync notify number previous told d tells
-  own event reply told d tells = absurd d
-
--- ---- a receive right that is destroyed
-
-abbrev NotLost : Change → Type 0
-NotLost (change.Lost p) = ⊥
-NotLost told = Unit {0}
-
-not_either : (b : Bool) (x y : Change) → NotLost x → NotLost y → NotLost (if b then x else y)
-not_either true x y f g = f
-not_either false x y f g = g
-
-not_making : (right : ℕ) → NotLost (by_making right)
-not_making right = not_either (right == 1) change.Made change.Nothing tt tt
-
-not_receipt : (task : ℕ) (large : Bool) (reply : Reply) → NotLost (by_receipt task large reply)
-not_receipt task large (Reply.Message bytes) = not_either (gives_none bytes) (change.QueueNamed task (word_at bytes 12)) change.Any tt tt
-not_receipt task large (Reply.Empty waited) = tt
-not_receipt task large (Reply.TooLarge n) = not_either large change.Nothing change.Any tt tt
-not_receipt task large reply = tt
-
-not_sent : (sent : Option ℕ) → NotLost (by_send sent)
-not_sent (Some port) = tt
-not_sent None = tt
-
-not_losing_one : (o : Option Named) → NotLost (by_losing_one o)
-not_losing_one None = tt
-not_losing_one (Some (named.Receive p)) = tt
-not_losing_one (Some (named.Send p n)) = tt
-not_losing_one (Some (named.ReceiveAndSend p n)) = tt
-not_losing_one (Some (named.SendOnce p)) = tt
-not_losing_one (Some (named.DeadName n)) = tt
-not_losing_one (Some (named.Set set)) = tt
-
-not_paying : (o : Option Named) → NotLost (by_paying o)
-not_paying None = tt
-not_paying (Some (named.Receive p)) = tt
-not_paying (Some (named.Send p n)) = tt
-not_paying (Some (named.ReceiveAndSend p n)) = tt
-not_paying (Some (named.SendOnce p)) = tt
-not_paying (Some (named.DeadName n)) = tt
-not_paying (Some (named.Set set)) = tt
-
-not_left : (p : ℕ) (o : Option ℕ) → NotLost (left_by p o)
-not_left p (Some set) = tt
-not_left p None = tt
-
-not_moved : (w : WorldView) (o : Option ℕ) → NotLost (moved_from w o)
-not_moved w (Some p) = not_left p (set_of w p)
-not_moved w None = tt
-
-not_handing : (w : WorldView) (task name number : ℕ) → NotLost (by_handing w task name number)
-not_handing w task name number = not_either (number == 16) (by_moving w task name) change.Nothing (not_moved w (port_under w task name)) tt
-
-not_request : (w : WorldView) (task name number : ℕ) → NotLost (by_request w task name number)
-not_request w task name number =
-    not_either (name == 0) change.Nothing (if number == 16 then change.Any else by_paying (entry_at w task name)) tt (not_either (number == 16) change.Any (by_paying (entry_at w task name)) tt (not_paying (entry_at w task name)))
-
-not_disbanded : (set : ℕ) (ports : List ℕ) → NotLost (disbanded set ports)
-not_disbanded set [] = tt
-not_disbanded set (a ∷ []) = tt
-not_disbanded set (a ∷ b ∷ []) = tt
-not_disbanded set (a ∷ b ∷ c ∷ []) = tt
-not_disbanded set (a ∷ b ∷ c ∷ d ∷ xs) = tt
-
--- of no set that went a lost receive right is told
-lost_loss : (v : WorldView) (o : Option Named) (told : Change) (p : ℕ) → ByLosingAll v o told → told ≡ change.Lost p → by_losing_all o ≡ change.Lost p
-lost_loss v None told p is lost = sym is ∙ lost
-lost_loss v (Some (named.Receive q)) told p is lost = sym is ∙ lost
-lost_loss v (Some (named.Send q n)) told p is lost = sym is ∙ lost
-lost_loss v (Some (named.ReceiveAndSend q n)) told p is lost = sym is ∙ lost
-lost_loss v (Some (named.SendOnce q)) told p is lost = sym is ∙ lost
-lost_loss v (Some (named.DeadName n)) told p is lost = sym is ∙ lost
-lost_loss v (Some (named.Set set)) told p (inl (ports, are, is)) lost = absurd (subst NotLost (sym is ∙ lost) (not_disbanded set ports))
-lost_loss v (Some (named.Set set)) told p (inr any) lost = absurd (subst NotLost (sym any ∙ lost) tt)
-
--- what stands under a name of which this is told
-lost_target : (o : Option Named) (target : Target) (p : ℕ) → Some target ≡ option_map target_of o → by_losing_all o ≡ change.Lost p → target ≡ Target.port p
-lost_target None target p e is = absurd (cc)
-lost_target (Some (named.Receive q)) target p e is = let f : q ≡ p = (let g = is in cc) in let h : target ≡ Target.port q = (let g = e in cc) in h ∙ ap Target.port f
-lost_target (Some (named.ReceiveAndSend q n)) target p e is = let f : q ≡ p = (let g = is in cc) in let h : target ≡ Target.port q = (let g = e in cc) in h ∙ ap Target.port f
-lost_target (Some (named.Send q n)) target p e is = absurd (cc)
-lost_target (Some (named.SendOnce q)) target p e is = absurd (cc)
-lost_target (Some (named.DeadName n)) target p e is = absurd (cc)
-lost_target (Some (named.Set set)) target p e is = absurd (cc)
-
-module _ (now : ℕ) (old : WorldView) (s mid : State) (owed : Owed) (sh : Shows old s) (p : ℕ) (told : Change) (lost : told ≡ change.Lost p) where
-  -- its right goes, and nothing is owed
-  abbrev Loses : Type 0
-  Loses = LosesRight p s mid × (owed ≡ [])
-
-  never : (c : Change) → told ≡ c → NotLost c → ⊥
-  never c is not = subst NotLost (sym is ∙ lost) not
-
-  target_is : (task name : ℕ) (target : Target) → lookup s task name ≡ Some target → ByLosingAll old (entry_at old task name) told → target ≡ Target.port p
-  target_is task name target found tells = lost_target (entry_at old task name) target p (sym found ∙ sh.agrees.naming task name) (lost_loss old (entry_at old task name) told p tells lost)
-
-  same_port : (q : ℕ) → Target.port q ≡ Target.port p → q ≡ p
-  same_port q e = cc
-
-  destroyed_lost : (task name : ℕ) → Destroys task name s mid owed → ByLosingAll old (entry_at old task name) told → Loses
-  destroyed_lost task name (Target.port q, found, d) tells = (subst (λ (x : ℕ). LosesRight x s mid) (same_port q (target_is task name (Target.port q) found tells)) (all_lose task name q s mid d.0 d.1), d.2)
-  destroyed_lost task name (Target.once q, found, d) tells = absurd (let e = target_is task name (Target.once q) found tells in cc)
-  destroyed_lost task name (Target.dead n, found, d) tells = absurd (let e = target_is task name (Target.dead n) found tells in cc)
-  destroyed_lost task name (Target.set set, found, d) tells = absurd (let e = target_is task name (Target.set set) found tells in cc)
-
-  removed_lost : (task name right : ℕ) (target : Target) → lookup s task name ≡ Some target → RemovesRight right task name target s mid owed → ByLosingAll old (entry_at old task name) told → Loses
-  removed_lost task name right (Target.port q) found r tells = (subst (λ (x : ℕ). LosesRight x s mid) (same_port q (target_is task name (Target.port q) found tells)) (receive_lost task name q s mid r.1), r.2)
-  removed_lost task name right (Target.once q) found r tells = absurd (let e = target_is task name (Target.once q) found tells in cc)
-  removed_lost task name right (Target.set set) found r tells = absurd (let e = target_is task name (Target.set set) found tells in cc)
-  removed_lost task name right (Target.dead n) found r tells = absurd r
-
-  modified_lost : (task name right : ℕ) (delta : ℤ) → Modifies task name right delta s mid owed → ByReferences old task name right told → Loses
-  modified_lost task name right delta m tells = go (right == 0 || right == 4) refl tells
-    where
-      not : (right == 0 || right == 4) ≡ false → (right ≢ 0) × (right ≢ 4)
-      not is = ((λ e. (let f : (right == 0 || right == 4) ≡ true = rw e refl in cc)), (λ e. (let f : (right == 0 || right == 4) ≡ true = rw e refl in cc)))
-
-      go : (b : Bool) → (right == 0 || right == 4) ≡ b → MatchBool b (told ≡ change.Nothing) (ByLosingAll old (entry_at old task name) told) → Loses
-      go true is tells = absurd (never change.Nothing tells tt)
-      go false is tells = elim (modifies_removes task name right delta s mid owed (not is).0 (not is).1 m) [
-        | inl same ↦ (none_lost p s mid same.0, same.1)
-        | inr (target, found, r) ↦ removed_lost task name right target found r tells
-      ]
-
-  pub own_lost : (event : Event) (reply : Reply) → Does now s event reply mid owed → TellsChange old event reply told → Loses
-  own_lost (Event.Destroy task name) (Reply.Code code) d tells = destroyed_lost task name d.1 tells
-  own_lost (Event.ModRefs task name right delta) (Reply.Code code) d tells = modified_lost task name right delta d.1 tells
-  own_lost Event.TaskCreate reply d tells = absurd (never change.Nothing tells tt)
-  own_lost (Event.TaskTerminate task) reply d (inl nameless) = absurd (never change.Nothing nameless.1 tt)
-  own_lost (Event.TaskTerminate task) reply d (inr any) = absurd (never change.Any any.1 tt)
-  own_lost (Event.Allocate task right) reply d tells = absurd (never (by_making right) tells (not_making right))
-  own_lost (Event.AllocateName task right name) reply d tells = absurd (never (by_making right) tells (not_making right))
-  own_lost (Event.Deallocate task name) reply d tells = absurd (never (by_losing_one (entry_at old task name)) tells (not_losing_one (entry_at old task name)))
-  own_lost (Event.GetRefs task name right) reply d tells = absurd (never change.Nothing tells tt)
-  own_lost (Event.NameType task name) reply d tells = absurd (never change.Nothing tells tt)
-  own_lost (Event.Names task) reply d tells = absurd (never change.Nothing tells tt)
-  own_lost (Event.Rename task from to) reply d tells = absurd (never change.Nothing tells tt)
-  own_lost (Event.ReceiveStatus task name) reply d tells = absurd (never change.Nothing tells tt)
-  own_lost (Event.SetStatus task name) reply d tells = absurd (never change.Nothing tells tt)
-  own_lost (Event.MoveMember task member after) reply d tells = absurd (never (by_moving old task member) tells (not_moved old (port_under old task member)))
-  own_lost (Event.InsertMember task member set) reply d tells = absurd (never change.Any tells tt)
-  own_lost (Event.ExtractMember task member set) reply d tells = absurd (never change.Any tells tt)
-  own_lost (Event.SetQlimit task name n) reply d tells = absurd (never (change.PortNamed task name) tells tt)
-  own_lost (Event.SetMscount task name n) reply d tells = absurd (never change.Nothing tells tt)
-  own_lost (Event.SetSeqno task name n) reply d tells = absurd (never change.Nothing tells tt)
-  own_lost (Event.InsertRight task name from poly number) reply d tells = absurd (never (by_handing old from poly number) tells (not_handing old from poly number))
-  own_lost (Event.ExtractRight task name number to) reply d tells = absurd (never (by_handing old task name number) tells (not_handing old task name number))
-  own_lost (Event.RequestNotification task name variant sync notify number) reply d tells = absurd (never (by_request old task notify number) tells (not_request old task notify number))
-  own_lost (Event.Send task bytes) reply d (sent, tells, is) = absurd (never (by_send sent) is (not_sent sent))
-  own_lost (Event.Receive task name room large) reply d tells = absurd (never (by_receipt task large reply) tells (not_receipt task large reply))
-  own_lost (Event.ReceiveAgain task waited room large) reply d tells = absurd (never (by_receipt task large reply) tells (not_receipt task large reply))
-  own_lost event reply d tells = absurd d
+  own (Event.RequestNotification task name variant sync notify number) (Reply.Previous previous) told turn d tells = request_own task name variant sync notify number previous told d tells
+  own event reply told turn d tells = absurd d
 
 -- ---- the step
 
@@ -791,7 +552,7 @@ module _ (old w new : WorldView) (event : Event) (reply : Reply) (turns : ℕ) (
       let tells_one : (p : ℕ) → OwesOne p d.owed → Changes d.mid e.0 (Some p) None = λ p one.
       ends_telling now s d.mid e.0 p one.place one.notice one.bare (subst (MidLawful d.mid) one.is d.shows.lawful)
       (quiet_notice w now d.mid e.0 p one.place one.notice one.bare (subst (λ (o : Owed). Agrees w (with_posted now d.mid o)) one.is d.shows.agrees) here d.shows.lawful.no_sets idle) (subst (λ (o : Owed). Settles now s d.mid o e.0) one.is e.1) in
-      let only : TouchesOnly s e.0 (touched_by w told) = by (own now old w s d.mid d.owed sh d.shows event reply told d.does tells) ends tells_one in (
+      let only : TouchesOnly s e.0 (touched_by w told) = by (own now old w s d.mid d.owed sh d.shows event reply told x.1 d.does tells) ends tells_one in (
         e.0,
         inr (record { performed = record { mid = d.mid; owed = d.owed; does = d.does; settles = e.1 }; unrefused = d.unrefused; judged = d.judged }),
         e.2,
@@ -847,7 +608,16 @@ module _ (old w new : WorldView) (event : Event) (reply : Reply) (turns : ℕ) (
   ends_touched change.Made ends tells is = any_touched ends is
   ends_touched (change.PortNamed task name) ends tells is = any_touched ends is
   ends_touched (change.Queue p) ends tells is = any_touched ends is
+  ends_touched (change.Queues a b) ends tells is = any_touched ends is
+  ends_touched (change.Along to p) ends tells is = any_touched ends is
+  ends_touched (change.AlongFrom to p set) ends tells is = any_touched ends is
+  ends_touched (change.AlongTwo to a b) ends tells is = any_touched ends is
+  ends_touched (change.AlongTwoFrom to a b set) ends tells is = any_touched ends is
+  ends_touched (change.AlongThree to a b c) ends tells is = any_touched ends is
   ends_touched (change.QueueNamed task name) ends tells is = any_touched ends is
+  ends_touched (change.Given task name a) ends tells is = any_touched ends is
+  ends_touched (change.GivenTwo task name a b) ends tells is = any_touched ends is
+  ends_touched (change.GivenThree task name a b c) ends tells is = any_touched ends is
   ends_touched (change.Left p set) ends tells is = any_touched ends is
   ends_touched (change.Disbanded set) ends tells is = any_touched ends is
   ends_touched (change.DisbandedTwo set a b) ends tells is = any_touched ends is

@@ -12,9 +12,9 @@ use Rattle.mach_model.specs.Receive.{IsFront}
 use Rattle.rights.specs.declared.RightKind.TheVariants as right
 use Rattle.rights.specs.Ledger.{LedgerView, counts_of, taken}
 use Rattle.name_space.specs.Names.{SpaceView}
-use Rattle.copyin_base.specs.declared.message.Carried.{Carried}
-use Rattle.copyin_base.specs.declared.message.Mark.{Mark}
-use Rattle.copyin_base.specs.declared.message.Mark.TheVariants as mark
+use Rattle.copyin_base.specs.declared.Carried.{Carried}
+use Rattle.copyin_base.specs.declared.Mark.{Mark}
+use Rattle.copyin_base.specs.declared.Mark.TheVariants as mark
 use Rattle.copyin_base.specs.Changes.{MakesRoom}
 use Rattle.copyin_base.specs.Kept.{Kept}
 use Rattle.copyin_base.specs.Posted.{with_posted}

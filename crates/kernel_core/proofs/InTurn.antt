@@ -20,11 +20,11 @@ use Rattle.port.specs.Turns.{ReadyLists, turns_of, with_turns, left, joined, rea
 use Rattle.port.proofs.InTurn.{turns_here, turns_other}
 use Rattle.port.proofs.Keys.{same_some, equal_or_not, put_here, put_other, out_here, out_other, same_gets}
 use Rattle.port.proofs.Turned.{same_set-same}
-use Rattle.copyin_base.specs.declared.message.Carried.{Carried}
-use Rattle.copyin_base.specs.declared.message.Mark.{Mark}
-use Rattle.copyin_base.specs.declared.message.Mark.TheVariants as mark
+use Rattle.copyin_base.specs.declared.Carried.{Carried}
+use Rattle.copyin_base.specs.declared.Mark.{Mark}
+use Rattle.copyin_base.specs.declared.Mark.TheVariants as mark
 use Rattle.copyin_base.specs.Changes.{MakesRoom, NotesSenderless}
-use Rattle.copyin_base.specs.declared.notice.Notice.TheVariants as notice
+use Rattle.copyin_base.specs.declared.Notice.TheVariants as notice
 use Rattle.copyin_base.specs.Kept.{Kept}
 use Rattle.copyin_base.specs.Queued.{notice_kept}
 use Rattle.copyin_base.specs.Worlds.{WorldView, entry_at, port_at}

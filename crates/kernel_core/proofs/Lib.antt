@@ -6,7 +6,7 @@ mod Unused
 mod Ending
 mod Freed
 mod Stepping
-mod Taking
+pub mod Taking
 mod Keeping
 mod Sparing
 mod Listed
@@ -20,4 +20,10 @@ pub mod Limited
 pub mod Named
 pub mod Carrying
 mod Alone
+mod Covered
+mod TooLong
+mod Walked
+mod Given
+mod Along
+mod LostRight
 mod Changed

@@ -1,6 +1,7 @@
 -- A step that takes a message takes the one in front of its source.
-use Rattle.std.proofs.Common.{◌≡◌, ℕ, ◌+◌, List, Bool, true, Option, Some, Result, Ok, Err, IfOk, refl, sym, ap, subst, ◌∙◌, arith}
+use Rattle.std.proofs.Common.{◌≡◌, ℕ, ◌+◌, List, Bool, true, Option, Some, Result, Ok, Err, IfOk, refl, sym, ap, subst, ◌∙◌, arith, true, false, inl, inr}
 use Rattle.std.specs.Prelude.{MatchOption}
+use Rattle.std.proofs.lemmas.Bool.Decides.{eqb_tells}
 use Rattle.mach_types.specs.declared.calls.Event.{Event}
 use Rattle.mach_types.specs.declared.calls.Reply.{Reply}
 use Rattle.mach_types.specs.declared.calls.Waited.{Waited}
@@ -8,16 +9,21 @@ use Rattle.mach_types.specs.Messages.{Entry}
 use Rattle.mach_model.specs.State.{State, at}
 use Rattle.mach_model.specs.Lawful.{IsLawful}
 use Rattle.mach_model.specs.Notices.{Owed}
-use Rattle.mach_model.specs.Receive.{Receives, DestroysFront}
+use Rattle.mach_model.specs.Receive.{Receipt, Receives, DestroysFront}
 use Rattle.mach_model.specs.Settles.{Settles}
 use Rattle.mach_model.proofs.MessagesLawful.{Receives-removes}
 use Rattle.mach_model.proofs.Names.{at_own, at_other}
 use Rattle.mach_laws.specs.Counts.{takes_from}
 use Rattle.copyin_base.specs.declared.code.Code.{Code}
 use Rattle.copyin_base.specs.Serving.{Completes, Serves}
+use Rattle.copyin_base.specs.Stands.{Stands}
 use Rattle.copyin_base.specs.Worlds.{WorldView}
+use Rattle.kernel_change.specs.declared.change.Change.{Change}
+use Rattle.kernel_change.specs.declared.change.Change.TheVariants.{Nothing}
+use Rattle.kernel_change.specs.Changing.{by_too_long, by_receipt}
 use Rattle.kernel_core.specs.InTurn.{IsFirst, source_of, TakesByTurn, KeepsTurns, CompletesInTurn}
-use Rattle.kernel_core.specs.Receive.{HasMessage, NoneWaits, TakesOne, taken_by}
+use Rattle.kernel_core.specs.Touching.{by_length, with_message}
+use Rattle.kernel_core.specs.Receive.{HasMessage, NoneWaits, IsReceipt, TakesOne, taken_by}
 
 -- ---- a receipt
 
@@ -50,6 +56,29 @@ source_first w (Waited.Port p) ready port first has is =
     let here : HasMessage w (Waited.Port p) port = subst (λ (o : Option ℕ). MatchOption o (NoneWaits w (Waited.Port p)) (HasMessage w (Waited.Port p))) is has in
     ap Some (sym here.from.is_of)
 source_first w (Waited.Set set) ready port first has is = sym first ∙ is
+
+-- where one message is taken, of this port, each port of which one is taken is this
+pub one_taken : (s t : State) (p q : ℕ) → TakesOne s t p → t.taken q ≡ s.taken q + 1 → p ≡ q
+one_taken s t p q one next = elim (eqb_tells p q) [
+  | inl h ↦ h.1
+  | inr h ↦ absurd (let same = one.others q (λ e. h.1 (sym e)) in omega (arith, same, next))
+]
+
+-- it is told of as of its source
+pub told_of_source : (w : WorldView) (stands : Stands w) (task : ℕ) (waited : Waited) (room : ℕ) (large : Bool) (ready : Option ℕ) (reply : Reply) (new : WorldView) → IsFirst w waited ready →
+    MatchOption ready (NoneWaits w waited) (HasMessage w waited) → IsReceipt w task waited room large ready reply new → (told taken : Change) → told ≡ Nothing → taken ≡ by_length w large ready reply told →
+    with_message task reply taken ≡ by_receipt w task large (source_of w waited) reply
+told_of_source w stands task waited room large ready reply new first has r told taken none is =
+    let x = r.receipt 0 stands.state stands.shown in
+    ap (with_message task reply) (is ∙ ap (by_length w large ready reply) none) ∙ go x.mid x.owed large reply (λ one. let t = x.takes one in t.1 ∙ sym (source_first w waited ready t.0 first has t.1)) x.receipt
+  where
+    go : (mid : State) (owed : Owed) (b : Bool) (x : Reply) → (taken_by b x ≡ 1 → ready ≡ source_of w waited) → Receipt stands.state task waited room b x mid owed →
+        with_message task x (by_length w b ready x Nothing) ≡ by_receipt w task b (source_of w waited) x
+    go mid owed b (Reply.Message bytes) same receipt = refl
+    go mid owed b (Reply.Empty told) same receipt = refl
+    go mid owed true (Reply.TooLarge n) same receipt = refl
+    go mid owed false (Reply.TooLarge n) same receipt = ap (by_too_long w) (same refl)
+    go mid owed b x same receipt = absurd receipt
 
 -- ---- other calls
 

@@ -75,7 +75,7 @@ impl Model for Kernel {
     ghost use Rattle.request_table.specs.contracts.Request as request;
     ghost use Rattle.copyin_base.specs.Kept.{kept_code};
     ghost use Rattle.copyin_base.specs.Requests.{request_tables_code};
-    ghost use Rattle.copyin_base.specs.contracts.message.Carried as carried;
+    ghost use Rattle.copyin_base.specs.contracts.Carried as carried;
     ghost use Rattle.mach_types.specs.contracts.profiles.Profile as profile_of;
     ghost use Rattle.copyin_base.specs.Worlds.{world_code};
     ghost use Rattle.copyin_base.specs.Stands.{Stands};
@@ -250,11 +250,13 @@ impl Kernel {
     ///
     /// None before the first step and after a refusal. None, or few, after calls that make or rename something,
     /// that ask, or that set a limit or a count. So it is after a port went to another set or a right to another
-    /// task, where send rights or dead names lost references, where a send-once right was lost, and where a notice was
-    /// asked for. It is so too after a message that carried no receive right was sent, or was received with a body of
-    /// raw bytes, or none was there. A port that dies with nothing queued, and no request on it or on a name of it, is
-    /// one of few. So is a set that is destroyed with at most three members, if there was memory for their list. None
-    /// after the end of a task that had no names.
+    /// task, where send rights or dead names lost references, where a send-once right was lost, and where a notice
+    /// was asked for. It is so too after a message was sent that carried one receive right at most, or two or three
+    /// that with the sets concerned fit into the four places. So it is after one was received with two receive rights at most, or with three by a port in no set, or none was there, or one
+    /// was destroyed as too long whose body carried no right. A port that dies with nothing queued, and no request on
+    /// it or on a name of it, is one of few. So is a set that is destroyed with at most three members, if there
+    /// was memory for their list. None after the end of a task whose names stood for send rights and dead names
+    /// alone.
     ///
     /// `All` after every other call, and where other ports died or notices were sent at the end of the step. Takes no
     /// memory. Constant time, and logarithmic for a name above 65,535.

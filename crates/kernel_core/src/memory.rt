@@ -158,7 +158,7 @@ fn has_room(world: &World, bytes: usize) -> bool
     ensures { MatchBool result (world.now.ledger.total + (bytes - 16) / 4 ≤ most_rights) (most_rights < world.now.ledger.total + (bytes - 16) / 4) }
 {
     let words = bytes.saturating_sub(16) / 4;
-    world.ledger.total() as u64 + words as u64 <= MOST_RIGHTS as u64
+    world.total_rights() as u64 + words as u64 <= MOST_RIGHTS as u64
 }
 
 // ---- receipts

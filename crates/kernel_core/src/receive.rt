@@ -1,5 +1,5 @@
 //! Receiving a message.
-ghost use Rattle.std.specs.Prelude.{◌≡◌, ℕ, ◌<◌, Bool, true, Some, IfOk, IfErr, IfSome, MatchBool, MatchOption, is_some, length};
+ghost use Rattle.std.specs.Prelude.{◌≡◌, ℕ, ◌<◌, Bool, true, Some, IfOk, IfErr, IfSome, MatchBool, MatchOption, is_some, length, if◌then◌else◌};
 ghost use Rattle.std.specs.Option.{option_and_then};
 ghost use Rattle.mach_types.specs.declared.codes.MsgReturn.TheVariants as msg;
 ghost use Rattle.mach_types.specs.declared.calls.Event.{Event as AnyEvent};
@@ -10,9 +10,11 @@ ghost use Rattle.copyin_base.specs.Serving.{code_number, Serves, IsRefused, IsAl
 ghost use Rattle.copyin_base.specs.Finds.{FindsReceive};
 ghost use Rattle.copyin_base.specs.Stands.{Stands};
 ghost use Rattle.copyin_base.specs.Worlds.{entry_at, port_at, HasTask};
-ghost use Rattle.kernel_change.specs.Changing.{by_receipt};
-ghost use Rattle.kernel_core.specs.InTurn.{IsFirst, TakesInTurn, KeepsTurns, CompletesInTurn, told_by};
+ghost use Rattle.kernel_change.specs.declared.change.Change.TheVariants.{Nothing};
+ghost use Rattle.kernel_change.specs.Changing.{by_receipt, by_too_long};
+ghost use Rattle.kernel_core.specs.InTurn.{IsFirst, source, TakesInTurn, KeepsTurns, CompletesInTurn, told_by};
 ghost use Rattle.kernel_core.specs.Receive.{named_guards, Sources, IsFrom, IsMember, IsAlone, HasMessage, NoneWaits, IsReceipt, StaysFor, waited_at, FreesSlot};
+ghost use Rattle.kernel_core.specs.Touching.{by_length, with_message};
 ghost use Rattle.kernel_core.specs.Wanted.{WantsToTake, WantsMemory, LeavesSpares};
 ghost use Rattle.notifications.specs.Destroying.{CanDestroy, DestroysMessage};
 
@@ -59,10 +61,11 @@ pub(crate) fn receive(
 ) -> Result<Reply, Code>
     requires there { HasTask world.old task }
     requires stands { Stands world.old }
+    requires nothing { told.old ≡ Nothing }
     ensures serves { Serves world.old (AnyEvent.Receive task name buffer.room buffer.large) result world.new }
     ensures wanted { IfErr result (λ code. code_number code ≡ msg_number msg.ReceiveBodyErrorMemory → WantsMemory world.old (AnyEvent.Receive task name buffer.room buffer.large)) }
     ensures spares { LeavesSpares world.old (AnyEvent.Receive task name buffer.room buffer.large) result world.new }
-    ensures tells { IfOk result (λ reply. told.new ≡ by_receipt task buffer.large reply) }
+    ensures tells { IfOk result (λ reply. told.new ≡ by_receipt world.old task buffer.large (source world.old (AnyEvent.Receive task name buffer.room buffer.large)) reply) }
     ensures turns { KeepsTurns world.old (AnyEvent.Receive task name buffer.room buffer.large) (told_by result) world.new }
     ensures takes { IfOk result (λ reply. CompletesInTurn world.old (AnyEvent.Receive task name buffer.room buffer.large) reply world.new) }
 {
@@ -73,8 +76,8 @@ pub(crate) fn receive(
         name,
         ready,
     };
-    let reply = take(world, alloc, task, origin, buffer)?;
-    *told = Change::by_receipt(task, buffer.large, &reply);
+    let reply = take(world, alloc, task, origin, buffer, told)?;
+    tell_message(task, &reply, told);
     Ok(reply)
 }
 
@@ -97,10 +100,11 @@ pub(crate) fn receive_again(
 ) -> Result<Reply, Code>
     requires there { HasTask world.old task }
     requires stands { Stands world.old }
+    requires nothing { told.old ≡ Nothing }
     ensures serves { Serves world.old (AnyEvent.ReceiveAgain task waited buffer.room buffer.large) result world.new }
     ensures wanted { IfErr result (λ code. code_number code ≡ msg_number msg.ReceiveBodyErrorMemory → WantsToTake world.old task waited) }
     ensures spares { LeavesSpares world.old (AnyEvent.ReceiveAgain task waited buffer.room buffer.large) result world.new }
-    ensures tells { IfOk result (λ reply. told.new ≡ by_receipt task buffer.large reply) }
+    ensures tells { IfOk result (λ reply. told.new ≡ by_receipt world.old task buffer.large (source world.old (AnyEvent.ReceiveAgain task waited buffer.room buffer.large)) reply) }
     ensures turns { KeepsTurns world.old (AnyEvent.ReceiveAgain task waited buffer.room buffer.large) (told_by result) world.new }
     ensures takes { IfOk result (λ reply. CompletesInTurn world.old (AnyEvent.ReceiveAgain task waited buffer.room buffer.large) reply world.new) }
 {
@@ -112,8 +116,8 @@ pub(crate) fn receive_again(
         name,
         ready,
     };
-    let reply = take(world, alloc, task, origin, buffer)?;
-    *told = Change::by_receipt(task, buffer.large, &reply);
+    let reply = take(world, alloc, task, origin, buffer, told)?;
+    tell_message(task, &reply, told);
     Ok(reply)
 }
 
@@ -230,7 +234,7 @@ fn judge_set(world: &World, task: TaskId, set: SetId) -> Result<(), MsgReturn>
     ensures ok { IfOk result (λ _. IsAllowed world.now (λ s. again_guards s task (AnyWaited.Set set))) }
     ensures err { IfErr result (λ code. IsRefused world.now (λ s. again_guards s task (AnyWaited.Set set)) (msg_number code)) }
 {
-    let Some(kept) = world.sets.get(set) else {
+    let Some(kept) = world.set_record(set) else {
         return Err(MsgReturn::ReceivePortDied);
     };
     if kept.owner.number() != task.number() {
@@ -267,7 +271,8 @@ fn has_receive(world: &World, task: TaskId, port: PortId) -> bool
 /// the room, when it stays or is destroyed. A refusal leaves all as it was.
 ///
 /// `MACH_RCV_BODY_ERROR` with `MACH_MSG_IPC_SPACE` where the task's names don't suffice for the
-/// message's rights, or with `MACH_MSG_IPC_KERNEL` where memory was refused. Linear in the message.
+/// message's rights, or with `MACH_MSG_IPC_KERNEL` where memory was refused. In `told` it leaves what a message
+/// changed that was destroyed. Linear in the message.
 #[inline(always)]
 fn take(
     world: &mut World,
@@ -275,6 +280,7 @@ fn take(
     task: TaskId,
     origin: Origin,
     buffer: Buffer,
+    told: &mut Change,
 ) -> Result<Reply, MsgReturn>
     requires there { HasTask world.old task }
     requires stands { Stands world.old }
@@ -287,6 +293,7 @@ fn take(
     ensures wanted { IfErr result (λ code. msg_number code ≡ msg_number msg.ReceiveBodyErrorMemory → WantsToTake world.old task origin.waited) }
     ensures spares { IfOk result (λ reply. FreesSlot world.old buffer.large reply world.new) }
     ensures turns { IfOk result (λ reply. TakesInTurn world.old origin.waited buffer.large reply world.new) }
+    ensures tells { IfOk result (λ reply. told.new ≡ by_length world.old buffer.large origin.ready reply told.old) }
 {
     let Some(port) = origin.ready else {
         return Ok(Reply::Empty(origin.waited));
@@ -295,7 +302,7 @@ fn take(
     match copyout::receive(world, alloc, task, port, name, buffer.room) {
         Ok(bytes) => Ok(Reply::Message(bytes)),
         Err(Refusal::TooLarge(length)) => {
-            lose_or_keep(world, port, buffer.large);
+            lose_or_keep(world, port, buffer.large, told);
             Ok(Reply::TooLarge(length))
         }
         Err(Refusal::Names) => Err(MsgReturn::ReceiveBodyErrorNames),
@@ -303,12 +310,25 @@ fn take(
     }
 }
 
-/// A message that is too long is destroyed, unless it was asked that it stay.
-fn lose_or_keep(world: &mut World, port: PortId, large: bool)
+/// Leaves in `told` what a message changed that was received. After another reply `told` stays.
+#[inline(always)]
+fn tell_message(task: TaskId, reply: &Reply, told: &mut Change)
+    ensures { told.new ≡ with_message task reply.now told.old }
+{
+    if let Reply::Message(bytes) = reply {
+        Change::tell_message(task, bytes.as_slice(), told);
+    }
+}
+
+/// A message that is too long is destroyed, unless it was asked that it stay. In `told` it leaves what that changes.
+#[inline(never)]
+fn lose_or_keep(world: &mut World, port: PortId, large: bool, told: &mut Change)
     requires { CanDestroy world.old port }
-    ensures { MatchBool large (world.new ≡ world.old) (DestroysMessage world.old port world.new) }
+    ensures ends { MatchBool large (world.new ≡ world.old) (DestroysMessage world.old port world.new) }
+    ensures tells { told.new ≡ (if large then told.old else by_too_long world.old (Some port)) }
 {
     if !large {
+        *told = Change::by_too_long(world, port);
         lose_message(world, port);
     }
 }

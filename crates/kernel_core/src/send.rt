@@ -10,14 +10,14 @@ ghost use Rattle.copyin.specs.Wanted.{WantsToSend};
 ghost use Rattle.message_codec.specs.Parses.{Parses};
 ghost use Rattle.message_codec.specs.Plain.{parsed_lone, parsed_plain, parsed_request};
 ghost use Rattle.message_codec.specs.Words.{body_words};
-ghost use Rattle.kernel_core.specs.Send.{GoesTo, MovesNoReceive, PlansText, SendsText, UsesSlot};
+ghost use Rattle.kernel_core.specs.Send.{MovesNoReceive, PlansText, SendsText, UsesSlot};
 ghost use Rattle.kernel_core.specs.Touching.{TellsPlan, TellsSend};
 ghost use Rattle.copyin_base.specs.Worlds.{HasTask};
 
 use copyin::{Plan, check, check_lone, check_plain, check_request, commit};
 use copyin_base::{Code, World};
 use kernel_change::Change;
-use mach_types::{Bytes, MsgReturn, PortId, Reply, TaskId};
+use mach_types::{Bytes, MsgReturn, Reply, TaskId};
 use message_codec::{
     Lone, Plain, PortWord, Request, parse, parse_lone, parse_plain, parse_request,
 };
@@ -30,8 +30,8 @@ use std::alloc::Global;
 /// - those of its rights and of the message as a whole, as [`copyin::check`];
 /// - `MACH_SEND_NO_BUFFER`: memory was refused for the slots that it wants.
 ///
-/// In `told` it leaves that the queue of the port changed that the message went to, where no receive right went
-/// along.
+/// In `told` it leaves that the queue of the port changed that the message went to, and whose receive right went along,
+/// where that is one.
 ///
 /// Linear in the message, except for what [`copyin::check`] says of each right.
 #[inline(always)]
@@ -228,7 +228,7 @@ fn send_any(
 }
 
 /// Makes the slots that the plan wants, and sends its message, whose body may move receive rights. In `told` it
-/// leaves the port that it goes to, where it moves none. `MACH_SEND_NO_BUFFER` where memory was refused for the
+/// leaves the port that it goes to, and a port whose receive right goes along. `MACH_SEND_NO_BUFFER` where memory was refused for the
 /// slots; the tables are then as before.
 #[inline(always)]
 fn carry_out(world: &mut World, plan: Plan, moves: bool, told: &mut Change) -> Result<(), MsgReturn>
@@ -236,25 +236,30 @@ fn carry_out(world: &mut World, plan: Plan, moves: bool, told: &mut Change) -> R
     requires planned { (task : ℕ) × (bytes : List ℕ) × PlansText world.old task bytes plan }
     requires moves { moves ≡ false → MovesNoReceive plan.words.body.items }
     ensures ok { IfOk result (λ _. (task : ℕ) (bytes : List ℕ) → PlansText world.old task bytes plan → SendsText world.old task bytes world.new) }
-    ensures tells { OnOk result (TellsPlan plan told.new) }
+    ensures tells { OnOk result (TellsPlan world.old plan told.new) }
     ensures err { IfErr result (λ code. code ≡ SendNoBuffer) }
     ensures refused { OnErr result (world.new ≡ world.old) }
 {
     let Ok(()) = world.reserve_slots(plan.count_slots()) else {
         return Err(MsgReturn::SendNoBuffer);
     };
-    *told = Change::by_send(plain_destination(&plan, moves));
+    tell_sent(world, &plan, moves, told);
     commit(world, plan);
     Ok(())
 }
 
-/// The port that the plan's message goes to, whose body may move receive rights; none where it does.
+/// Leaves in `told` what the plan's message changes, whose body may move receive rights.
 #[inline(always)]
-fn plain_destination(plan: &Plan, moves: bool) -> Option<PortId>
+fn tell_sent(world: &World, plan: &Plan, moves: bool, told: &mut Change)
     requires { moves ≡ false → MovesNoReceive plan.now.words.body.items }
-    ensures { GoesTo plan.now result }
+    ensures { TellsPlan world.now plan.now told.new }
 {
-    if moves { None } else { Some(plan.port) }
+    if moves {
+        let rights = plan.message.rights();
+        *told = Change::by_taking(world, plan.port, rights.as_slice());
+    } else {
+        *told = Change::Queue(plan.port);
+    }
 }
 
 /// Whether a receive right goes by one of the words.

@@ -1,9 +1,8 @@
 -- What is made under a name, and a right more of it.
 use Rattle.std.proofs.Common.{◌≡◌, ℕ, ◌+◌, ◌-◌, ◌<◌, ◌≤◌, List, [], Option, Some, None, refl, sym, ap, subst, ◌∙◌, arith, ◌⊎◌, inl, inr, length}
 use Rattle.std.specs.Prelude.{slice_set, is_some, max}
-use Rattle.std.specs.Option.{option_and_then, unwrap_or}
+use Rattle.std.specs.Option.{option_and_then}
 use Rattle.std.specs.FinMap as map
-use Rattle.std.specs.Ordering.{nat_cmp}
 use Rattle.mach_types.specs.declared.calls.Event.{Event}
 use Rattle.mach_types.specs.declared.calls.Reply.{Reply}
 use Rattle.mach_types.specs.Numbers.{most_names, most_rights, most_identities}
@@ -15,17 +14,15 @@ use Rattle.mach_model.specs.Acts.{Does}
 use Rattle.mach_model.specs.Machine.{Judged}
 use Rattle.mach_model.specs.Lawful.{IsLawful}
 use Rattle.mach_model.proofs.Midway.{LosesNone}
-use Rattle.mach_model.proofs.Names.{get_own, alike}
 use Rattle.rights.specs.declared.RightKind.TheVariants as right
-use Rattle.rights.specs.Ledger.{entered, made, LedgerView, IsEntered, counts_of, left}
-use Rattle.rights.specs.declared.Counts.{Counts}
-use Rattle.rights.specs.Counts.{no_rights, with_more}
+use Rattle.rights.specs.Ledger.{entered, made}
 use Rattle.name_space.specs.declared.Entry.{Entry}
 use Rattle.name_space.specs.declared.Entry.TheVariants as entry
 use Rattle.name_space.specs.Entry.{port_named}
 use Rattle.name_space.specs.Names.{Names, SpaceView, IsFreshFor, IsUsable, HasPlace, HasNoOther, given_after}
 use Rattle.port.specs.Ports.{PortsView, IsLive}
 use Rattle.copyin_base.specs.Serving.{Completes, IsAllowed}
+use Rattle.copyin_base.specs.Coming.{first_port}
 use Rattle.copyin_base.specs.Changes.{MakesRoom, KeepsPlace, SameButNaming, SameButRoom, IsForLive, CanInsert, CanInsertFresh, InsertsEntry, InsertsFresh}
 use Rattle.copyin_base.specs.Kept.{Kept}
 use Rattle.copyin_base.specs.Worlds.{WorldView, entry_in, entry_at, space_at, with_space, HasTask, space_in}
@@ -38,12 +35,12 @@ use Rattle.copyin_base.proofs.NamesChanged.{added_agrees}
 use Rattle.copyin_base.proofs.Roomier.{CountsName, room_made, place_kept, room_refl, room_entry, room_agrees, room_shows, naming_holders, naming_carriers, naming_slots, naming_requested, counted_naming, counted_agrees}
 use Rattle.copyin_base.proofs.SendersNoted.{senders_same, senders_kept, naming_senders}
 use Rattle.copyin_base.proofs.Spaces.{space-set_same, set-set}
-use Rattle.copyin_base.proofs.Putting.{each_put, put_other, put_own}
+use Rattle.copyin_base.proofs.Putting.{put_own}
 use Rattle.copyin_base.proofs.FreshNames.{fresh_for, fresh_unused, fresh_has_room, can_count}
 use Rattle.copyin_base.proofs.Idle.{none_lost_room}
 use Rattle.kernel_core_base.specs.declared.names.NewRight.{NewRight}
 use Rattle.kernel_core_base.specs.declared.names.NewRight.TheVariants as new_right
-use Rattle.kernel_core_base.specs.Names.{first_port, right_made, entry_made, HasRoomFor, IsFullFor, HasRoomOf, IsFullOf, CanAdd, Adds, with_made, MakesRight}
+use Rattle.kernel_core_base.specs.Names.{right_made, entry_made, HasRoomFor, IsFullFor, HasRoomOf, IsFullOf, CanAdd, Adds, with_made, MakesRight}
 use Rattle.kernel_core_base.proofs.MadeKept.{made_carriers, made_none_lost, made_requested, made_senders, room_senders}
 use Rattle.kernel_core_base.proofs.TaskCreated.{allocated, allocates, allocated_agrees, not_made, unknown, set_agrees}
 use Rattle.kernel_core_base.proofs.ReferencesLost.{made_slots}
@@ -273,32 +270,6 @@ module _ (w w1 v : WorldView) (same : SameButRoom w w1) (task number name : ℕ)
   allocate_name_done good unused adds = done w (Event.AllocateName task number name) (Reply.Name name) v below good
       (λ now s sh. let free = room_entry w w1 same task name ∙ unused in
       makes_so (Event.AllocateName task number name) now s sh free adds v (room_refl v).naming (with_right r s task name) (added_agrees_now (Event.AllocateName task number name) now s sh free adds) (refl, makes_number s, refl) tt tt)
-
--- ---- A ledger that a port came to with its receive right, and left again.
-
--- the ledger once the port came
-abbrev pub came : LedgerView → (port : ℕ) → LedgerView
-came l p = made (entered l p) p right.Receive 1
-
--- what it counts of the port then
-abbrev counted : LedgerView → (port : ℕ) → Counts
-counted l p = with_more right.Receive 1 (counts_of (entered l p) p)
-
-counted_is : (l : LedgerView) (p : ℕ) → counted l p ≡ with_more right.Receive 1 no_rights
-counted_is l p = ap (λ (o : Option Counts). with_more right.Receive 1 (unwrap_or o no_rights)) (get_own l.counts p no_rights)
-
-no_more : (m : map.FinMap nat_cmp Counts) (p : ℕ) (c : Counts) → map.get m p ≡ None → map.remove (map.insert (map.insert m p no_rights) p c) p ≡ m
-no_more m p c none = alike (map.remove (map.insert (map.insert m p no_rights) p c) p) m
-    (each_put (map.insert (map.insert m p no_rights) p c) p None (λ n o. o ≡ map.get m n) (sym none) (λ n not. put_other (map.insert m p no_rights) p (Some c) n not ∙ put_other m p (Some no_rights) n not))
-
-same_ledger : (l : LedgerView) (m : map.FinMap nat_cmp Counts) (t u : ℕ) → m ≡ l.counts → t ≡ l.total → u ≡ l.unused → ◌≡◌ {A = LedgerView} (record { counts = m; total = t; unused = u }) l
-same_ledger l m t u e f g = λ i. record { counts = e i; total = f i; unused = g i }
-
-pub came_and_left : (l : LedgerView) (p : ℕ) → map.get l.counts p ≡ None → left (came l p) p ≡ l
-came_and_left l p none = grind (arith, get_own, counted_is, same_ledger, no_more)
-
-pub came_there : (l m : LedgerView) (p : ℕ) → m ≡ came l p → IsEntered m p
-came_there l m p is = rw is (ap is_some (get_own (map.insert l.counts p no_rights) p (counted l p)))
 
 -- ---- One right more, named by the task: what is made, and its name put together.
 

@@ -1,5 +1,5 @@
 -- What is made under a name keeps what is true of the tables alone, and so does a task that is made.
-use Rattle.std.proofs.Common.{arith, ◌≡◌, ℕ, ◌-◌, ◌∷◌, ◌++◌, [], Option, Some, None, refl, sym, ap, subst, ◌∙◌, inl, inr}
+use Rattle.std.proofs.Common.{arith, ◌≡◌, ℕ, ◌-◌, Option, Some, None, refl, sym, ap, subst, ◌∙◌, inl, inr}
 use Rattle.std.specs.Option.{unwrap_or}
 use Rattle.std.specs.FinMap as map
 use Rattle.std.proofs.lemmas.Bool.Decides.{eqb_tells}
@@ -22,8 +22,8 @@ use Rattle.copyin_base.proofs.SendersNoted.{KeepsSends, counts_other, sends_made
 use Rattle.copyin_base.proofs.Spaces.{space-push_other, space-end}
 use Rattle.kernel_core_base.specs.declared.names.NewRight.{NewRight}
 use Rattle.kernel_core_base.specs.declared.names.NewRight.TheVariants as new_right
-use Rattle.kernel_core_base.specs.Names.{first_port, Adds}
-use Rattle.kernel_core_base.specs.Tasks.{no_names}
+use Rattle.copyin_base.specs.Coming.{first_port, with_new_task}
+use Rattle.kernel_core_base.specs.Names.{Adds}
 
 -- ---- what is made under a name
 
@@ -80,17 +80,14 @@ room_senders w v same requested = naming_senders w v same.naming requested
 -- ---- a task
 
 module _ (w : WorldView) where
-  abbrev pub with_new_task : WorldView
-  with_new_task = record w { spaces = w.spaces ++ Some (no_names w.profile) ∷ [] }
-
   no_entry : (e : Entry) → None ≡ Some e → ⊥
   no_entry e f = cc
 
-  pub task_requested : RequestsStand w → RequestsStand with_new_task
+  pub task_requested : RequestsStand w → RequestsStand (with_new_task w)
   task_requested requested = grind (arith, requested_kept, no_entry, space-end, space-push_other)
 
-  pub task_carriers : CarriersAgree w → CarriersAgree with_new_task
-  task_carriers a = carriers_same w with_new_task a refl refl
+  pub task_carriers : CarriersAgree w → CarriersAgree (with_new_task w)
+  task_carriers a = carriers_same w (with_new_task w) a refl refl
 
-  pub task_senders : RequestsStand w → KeepsSenders w with_new_task
-  task_senders requested = keeps_senders_same w with_new_task requested refl refl refl
+  pub task_senders : RequestsStand w → KeepsSenders w (with_new_task w)
+  task_senders requested = keeps_senders_same w (with_new_task w) requested refl refl refl

@@ -165,19 +165,18 @@ can_count w task name m e stands can p named =
     (port_entered w s a p live, omega (arith, h, c, le), can.room p named)
 
 -- the ledger is as it was when the name was changed
-pub still_counts : (old mid x : WorldView) (task name m : ℕ) (e : Entry) (left : Option Entry) → PutsLeft old task name left mid → x ≡ mid → CanCount old.ledger e m → CanCount x.ledger e m
-still_counts old mid x task name m e left puts view can = subst (λ (l : LedgerView). CanCount l e m) (sym (ap (λ (y : WorldView). y.ledger) (view ∙ puts.rest))) can
+pub still_counts : (old mid : WorldView) (task name m : ℕ) (e : Entry) (left : Option Entry) → PutsLeft old task name left mid → CanCount old.ledger e m → CanCount mid.ledger e m
+still_counts old mid task name m e left puts can = subst (λ (l : LedgerView). CanCount l e m) (sym (ap (λ (y : WorldView). y.ledger) puts.rest)) can
 
-pub references_set : (old mid x : WorldView) (task name m : ℕ) (e : Entry) (left : Option Entry) (ledger : LedgerView) → CanSet old task name e m → PutsLeft old task name left mid → left ≡ left_with e m → x ≡ mid →
-    ledger ≡ recounted_at x.ledger (port_named e) (send_references e) m → CountsReferences old task name e m (record x { ledger = ledger })
-references_set old mid x task name m e left ledger can puts left_is view counts =
+pub references_set : (old mid new : WorldView) (task name m : ℕ) (e : Entry) (left : Option Entry) → CanSet old task name e m → PutsLeft old task name left mid → left ≡ left_with e m →
+    new ≡ record mid { ledger = recounted_at mid.ledger (port_named e) (send_references e) m } → CountsReferences old task name e m new
+references_set old mid new task name m e left can puts left_is counts =
     let q = subst (λ (o : Option Entry). PutsLeft old task name o mid) left_is puts in
-    let same = view ∙ q.rest in
     record {
       space = q.space;
       there = q.there;
       found = sym (ap (λ (o : Option SpaceView). entry_in o name) q.there) ∙ can.found;
-      rest = λ i. record (same i) { ledger = (counts ∙ ap (λ (y : WorldView). recounted_at y.ledger (port_named e) (send_references e) m) same) i };
+      rest = counts ∙ ap (λ (y : WorldView). record y { ledger = recounted_at y.ledger (port_named e) (send_references e) m }) q.rest;
     }
 
 -- ---- a set
@@ -246,14 +245,14 @@ module _ (w : WorldView) (stands : Stands w) (task name : ℕ) (l : Loss) (can :
             (sym named, of_some l.port (IsLive killed.ports) still_there) x e
         go false x e = absurd (cc)
 
-    module _ (mid x : WorldView) (left : Option Entry) (puts : PutsLeft killed task name left mid) (same : x ≡ mid) where
-      ledger_is : x.ledger ≡ taken w.ledger l.port right.Receive 1
-      ledger_is = ap (λ (y : WorldView). y.ledger) (same ∙ puts.rest) ∙ ap (λ (y : WorldView). y.ledger) kill.rest
+    module _ (mid : WorldView) (left : Option Entry) (puts : PutsLeft killed task name left mid) where
+      ledger_is : mid.ledger ≡ taken w.ledger l.port right.Receive 1
+      ledger_is = ap (λ (y : WorldView). y.ledger) puts.rest ∙ ap (λ (y : WorldView). y.ledger) kill.rest
 
-      pub still_entered : IsEntered x.ledger l.port
+      pub still_entered : IsEntered mid.ledger l.port
       still_entered = subst (λ (y : LedgerView). IsEntered y l.port) (sym ledger_is) (ap is_some (put_own w.ledger.counts l.port (Some (with_fewer right.Receive 1 (counts_of w.ledger l.port)))))
 
-      pub still_enough : l.held - l.left ≤ (counts_of x.ledger l.port).send
+      pub still_enough : l.held - l.left ≤ (counts_of mid.ledger l.port).send
       still_enough = grind (arith, ledger_is, counts_own, sends)
 
 some_counts : (o : Option Counts) → is_some o ≡ true → (c : Counts) × (o ≡ Some c)
@@ -265,18 +264,16 @@ pub none_taken : (ledger : LedgerView) (port gone : ℕ) → IsEntered ledger po
 none_taken ledger port gone entered none = grind (arith, some_counts, put_same)
 
 -- it was taken so
-pub receive_taken : (old killed mid x : WorldView) (task name : ℕ) (l : Loss) (left : Option Entry) (ledger : LedgerView) → LosesPort old l.port killed → PutsLeft killed task name left mid → left ≡ sends_left l → x ≡ mid →
-    ledger ≡ taken x.ledger l.port right.Send (l.held - l.left) → TakesReceive old task name l (record x { ledger = ledger })
-receive_taken old killed mid x task name l left ledger kill puts left_is view counts =
+pub receive_taken : (old killed mid new : WorldView) (task name : ℕ) (l : Loss) (left : Option Entry) → LosesPort old l.port killed → PutsLeft killed task name left mid → left ≡ sends_left l →
+    new ≡ record mid { ledger = taken mid.ledger l.port right.Send (l.held - l.left) } → TakesReceive old task name l new
+receive_taken old killed mid new task name l left kill puts left_is counts =
     let q = subst (λ (o : Option Entry). PutsLeft killed task name o mid) left_is puts in
-    let same = view ∙ q.rest in
     record {
       space = q.space;
       there = sym (ap (λ (y : WorldView). space_at y task) kill.rest) ∙ q.there;
       v = kill.v;
       port_there = kill.there;
-      rest = (λ i. record (same i) { ledger = (counts ∙ ap (λ (y : WorldView). taken y.ledger l.port right.Send (l.held - l.left)) same) i })
-          ∙ ap (become q.space) kill.rest;
+      rest = counts ∙ ap (λ (y : WorldView). record y { ledger = taken y.ledger l.port right.Send (l.held - l.left) }) q.rest ∙ ap (become q.space) kill.rest;
     }
   where
     become : SpaceView → WorldView → WorldView

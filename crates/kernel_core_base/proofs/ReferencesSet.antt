@@ -46,9 +46,9 @@ use Rattle.copyin_base.proofs.NamesChanged.{names_agree, left_requests}
 use Rattle.copyin_base.proofs.Putting.{put_other, put_same, get_removed}
 use Rattle.copyin_base.proofs.Requesting.{stands_after}
 use Rattle.copyin_base.proofs.Holders.{IsReceive, receives_at, none_receives, left_receives, removed_receives, KeepHolders, same_holders, disbanded_holders, holders_left, put_holders, holders_ports, put_holders_left}
-use Rattle.copyin_base.specs.declared.notice.Notice.TheVariants as notice
+use Rattle.copyin_base.specs.declared.Notice.TheVariants as notice
 use Rattle.copyin_base.specs.Serving.{HasTasks, IsAllowed, Completes}
-use Rattle.copyin_base.specs.Changes.{NotesSenders}
+use Rattle.copyin_base.specs.Changes.{MovesEntry, NotesSenders}
 use Rattle.copyin_base.specs.Kept.{Kept}
 use Rattle.copyin_base.specs.Posted.{with_posted, IsLeft}
 use Rattle.copyin_base.specs.Queued.{notice_kept}
@@ -64,7 +64,6 @@ use Rattle.notifications.proofs.TaskEnded.{weigh_alike, weigh_unlike}
 use Rattle.notifications.proofs.NoticePosted.{told_agrees}
 use Rattle.kernel_core_base.specs.declared.references.Due.{Due}
 use Rattle.kernel_core_base.specs.declared.references.Due.TheVariants.{Nothing, References, Disbanding, LosingOnce, Killing}
-use Rattle.kernel_core_base.specs.Names.{MovesEntry}
 use Rattle.kernel_core_base.specs.References.{Carries, left_with, recounted, CountsReferences, RemovesSet, LosesOnce, SetsReferences, deallocated, whole_loss, destroyed}
 use Rattle.kernel_core_base.proofs.ReferencesLost.{fewer_keeps, IsPlain, lost_spares, receive_lost, unused_recounted, carried_slots, carried_carriers, carried_requested, carried_notes, carried_none_lost}
 use Rattle.kernel_core_base.proofs.ReceiveTaken.{Recounts, recount, TakesSo, kill_held, removed_agrees}

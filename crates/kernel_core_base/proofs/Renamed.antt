@@ -1,12 +1,10 @@
 -- What is under a name moves to another.
 use Rattle.std.proofs.Common.{◌≡◌, ℕ, ◌+◌, List, [], ◌∷◌, refl, sym, ap, subst, ◌∙◌, arith, true, false, Bool, length, map as list_map, ◌-◌, ◌<◌, ◌^◌, Option, Some, None, inl, inr}
-use Rattle.std.specs.Prelude.{if◌then◌else◌, ◌&&◌, is_some, slice_set, get_or}
+use Rattle.std.specs.Prelude.{if◌then◌else◌, ◌&&◌, is_some, slice_set}
 use Rattle.std.proofs.lemmas.Bool.{eq-eqb, ne_eqb, lt-ltb, ltb-true}
 use Rattle.std.specs.Option.{option_map}
 use Rattle.std.specs.FinMap as map
-use Rattle.std.specs.Ordering.{nat_cmp}
 use Rattle.std.proofs.lemmas.Bool.Decides.{eqb_tells}
-use Rattle.mach_types.specs.declared.profiles.Profile.{Profile}
 use Rattle.mach_types.specs.Tokens.{Kind, Request, no_senders, port_destroyed, dead_name, Place, in_task, in_message, in_request, Token, weigh, count, is_of, is_held, is_in_task}
 use Rattle.mach_types.specs.declared.calls.Event.{Event}
 use Rattle.mach_types.specs.declared.calls.Reply.{Reply}
@@ -18,10 +16,9 @@ use Rattle.mach_model.proofs.Lost.{same_request_is}
 use Rattle.mach_model.proofs.Names.{length-weigh, get_own, removed_own}
 use Rattle.mach_model.specs.Refusals.{call_guards}
 use Rattle.mach_model.specs.Lawful.{IsLawful}
-use Rattle.rights.specs.Ledger.{LedgerView}
 use Rattle.name_space.specs.declared.Entry.{Entry}
 use Rattle.name_space.specs.Entry.{port_of}
-use Rattle.name_space.specs.Names.{SpaceView, Names}
+use Rattle.name_space.specs.Names.{SpaceView}
 use Rattle.name_space.specs.declared.Entry.TheVariants as entry
 use Rattle.port.specs.Ports.{PortsView, IsLive}
 use Rattle.port_set.specs.Sets.{SetsView, IsThere}
@@ -30,17 +27,15 @@ use Rattle.request_table.specs.declared.Request.{Request as NameRequest}
 use Rattle.request_table.specs.Requests.{name_key, key_of}
 use Rattle.copyin_base.specs.Kept.{Kept}
 use Rattle.copyin_base.specs.Requests.{RequestTablesView, notify_of, rights_kept, rights_went, AreMade, AreEnded, RequestsAgree}
+use Rattle.copyin_base.specs.Asking.{renamed_by, request_moved}
 use Rattle.copyin_base.specs.Shows.{IsOnName, RequestsStand, Agrees, HoldersAgree, Shows, SetsAgree, target_of}
-use Rattle.copyin_base.specs.Worlds.{WorldView, space_in, space_at, entry_in, entry_at, put, HasTask}
+use Rattle.copyin_base.specs.Worlds.{WorldView, space_in, space_at, entry_in, entry_at, HasTask}
 use Rattle.copyin_base.proofs.Gets.{same_found}
-use Rattle.copyin_base.proofs.Putting.{get_removed, put_other, each_put}
+use Rattle.copyin_base.proofs.Putting.{get_removed, put_other}
 use Rattle.copyin_base.proofs.Requesting.{same_key}
 use Rattle.copyin_base.proofs.Spaces.{each-space-set, space-set_same}
-use Rattle.copyin_base.specs.Reading.{reading, read_names, read_space, live_in, AreGiven}
-use Rattle.copyin_base.proofs.Reading.{get_read, used_read, unused_read, read_put}
-use Rattle.copyin_base.proofs.Written.{tables, lent_there, lent_read, given_after, space_written}
 use Rattle.copyin_base.specs.Serving.{Completes, IsAllowed}
-use Rattle.copyin_base.specs.Changes.{KeepsPlace, SameButRoom}
+use Rattle.copyin_base.specs.Changes.{KeepsPlace, MayRename, MovesEntry, SameButRoom}
 use Rattle.copyin_base.specs.Wanted.{kept_in, kept_of}
 use Rattle.copyin_base.specs.Stands.{Stands}
 use Rattle.copyin_base.proofs.Acting.{done}
@@ -52,7 +47,7 @@ use Rattle.copyin_base.proofs.Carriers.{carriers_same}
 use Rattle.copyin_base.proofs.Idle.{none_lost_same}
 use Rattle.copyin_base.proofs.SendersNoted.{senders_same, senders_kept, keeps_senders_same}
 use Rattle.copyin_base.proofs.Told.{found}
-use Rattle.kernel_core_base.specs.Names.{renamed_by, request_moved, MovesEntry, MayRename, renamed_in, sets_named}
+use Rattle.kernel_core_base.specs.Names.{renamed_in, sets_named}
 use Rattle.kernel_core_base.proofs.MadeKept.{room_senders}
 
 -- ---- What requests keep goes along with the request on a name that moves: how many rights lie where then.
@@ -304,10 +299,6 @@ module _ (v : RequestTablesView) (task o n : ℕ) (small_from : o < 2 ^ 32) (sma
       ended_went = subst (λ (xs : List NameRequest). AreEnded stands2 xs) (sym (went_in (map.get v.names.requests key_from) ∙ waits)) tt;
     }
 
--- where none stands, none goes along
-pub none_moves : (v : RequestTablesView) → v.names.requests ≡ map.empty → (task from_moved to_moved : ℕ) → v ≡ request_moved v task from_moved to_moved
-none_moves v none task from_moved to_moved = ap (λ (o : Option NameRequest). record v { names = renamed_by v.names to_moved o }) (sym (ap (λ m. map.get m (name_key task from_moved)) none ∙ map.get-empty nat_cmp (name_key task from_moved)))
-
 -- ---- requests stand on their names
 
 module _ (w w1 x : WorldView) (requested : RequestsStand w) (task from_moved to_moved : ℕ) (small_from : from_moved < 2 ^ 32) (small_to : to_moved < 2 ^ 32) (e : Entry) (found : entry_at w task from_moved ≡ Some e) (unused : entry_at w task to_moved ≡ None)
@@ -391,73 +382,6 @@ module _ (w w1 x : WorldView) (requested : RequestsStand w) (task from_moved to_
     port_destroyed = λ p is. live p (requested.port_destroyed p (subst (λ (y : RequestTablesView). map.contains_key y.port_destroyed.map p ≡ true) now_requests is));
   }
 
--- ---- What a task keeps under one name goes under another, as it is kept; what is read there is what was read.
-
--- the task of a name that is in use has names
-pub space_of : (o : Option SpaceView) (name : ℕ) (e : Entry) → entry_in o name ≡ Some e → (space : SpaceView) × (o ≡ Some space) × (map.get space.names name ≡ Some e)
-space_of (Some space) name e is = (space, refl, is)
-space_of None name e is = absurd (cc)
-
--- what is kept where this is read
-kept_entry : (live_moved : ℕ → Bool) (m : Names) (n : ℕ) (e : Entry) → map.get (read_names live_moved m) n ≡ Some e → (k : Entry) × (map.get m n ≡ Some k) × (reading live_moved k ≡ e)
-kept_entry live_moved m n e is = grind (arith, get_read, same_found)
-
-module _ (old : WorldView) (task : ℕ) (space : SpaceView) {profile : Profile} (spaces : List (Option SpaceView)) (ports : PortsView Kept) (ledger : LedgerView) (sets : SetsView) (requests : RequestTablesView)
-    (i : ℕ) (read : Option SpaceView) (lent : SpaceView)
-    (there : space_at old task ≡ Some space) (view : tables profile spaces ports ledger sets requests ≡ old) (index : i ≡ task) (is : read ≡ get_or spaces i read) (some : read ≡ Some lent) where
-  abbrev live_moved : ℕ → Bool
-  live_moved = live_in ports
-
-  here : space ≡ read_space live_moved lent
-  here = lent_read old task space spaces ports ledger sets requests i read lent there view index is some
-
-  pub kept_used : (name : ℕ) (e : Entry) → map.get space.names name ≡ Some e → map.contains_key lent.names name ≡ true
-  kept_used name e found = sym (used_read live_moved lent.names name) ∙ ap (λ (x : SpaceView). map.contains_key x.names name) (sym here) ∙ ap is_some found
-
-  pub kept_unused : (name : ℕ) → map.get space.names name ≡ None → map.get lent.names name ≡ None
-  kept_unused name none = unused_read live_moved lent.names name (ap (λ (x : SpaceView). map.get x.names name) (sym here) ∙ none)
-
-  pub kept_place : lent.kept ≡ space.kept
-  kept_place = ap (λ (x : SpaceView). x.kept) (sym here)
-
-  module _ (from to : ℕ) (e : Entry) (found : map.get space.names from ≡ Some e) where
-    was : (k : Entry) × (map.get lent.names from ≡ Some k) × (reading live_moved k ≡ e)
-    was = kept_entry live_moved lent.names from e (ap (λ (x : SpaceView). map.get x.names from) (sym here) ∙ found)
-
-    abbrev moved : SpaceView
-    moved = record lent { names = map.insert (map.remove lent.names from) to was.0; room = lent.room - 1 }
-
-    -- this is what becomes of what is kept
-    abbrev Becomes : SpaceView → Type 0
-    Becomes after = (entry : Entry) → map.get lent.names from ≡ Some entry → after ≡ record lent { names = map.insert (map.remove lent.names from) to entry; room = lent.room - 1 }
-
-    no_some : (entry : Entry) → None ≡ Some entry → ⊥
-    no_some entry f = cc
-
-    pub moved_given : AreGiven spaces ports → (after : SpaceView) → Becomes after → AreGiven (slice_set spaces i (Some after)) ports
-    moved_given g after b = given_after old task space spaces ports ledger sets requests i read lent there view index is some g after
-        (λ name entry p at for. each_put (map.remove lent.names from) to (Some was.0) (λ n x. x ≡ Some entry → p < ports.made)
-        (λ f. g.kept i from lent entry p inside (was.1 ∙ f) for)
-        (λ n not. each_put lent.names from None (λ k x. x ≡ Some entry → p < ports.made) (λ f. absurd (no_some entry f)) (λ k differs f. g.kept i k lent entry p inside f for) n) name
-        (ap (λ (x : SpaceView). map.get x.names name) (sym (b was.0 was.1)) ∙ at))
-      where
-        inside : get_or spaces i None ≡ Some lent
-        inside = lent_there old task space spaces ports ledger sets requests i read lent there view index is some
-
-    moved_reads : read_names live_moved moved.names ≡ map.insert (map.remove (read_names live_moved lent.names) from) to e
-    moved_reads =
-        read_put live_moved (map.remove lent.names from) to (Some was.0)
-        ∙ ap (λ (m : Names). put m to (Some (reading live_moved was.0))) (read_put live_moved lent.names from None)
-        ∙ ap (λ (x : Entry). put (put (read_names live_moved lent.names) from None) to (Some x)) was.2
-
-    pub moved_entry : (after : SpaceView) → Becomes after → MovesEntry old task from to e (tables profile (slice_set spaces i (Some after)) ports ledger sets requests)
-    moved_entry after b = record {
-      space = space;
-      there = there;
-      rest = space_written old task space spaces ports ledger sets requests i read lent there view index is some (λ x. record x { names = map.insert (map.remove x.names from) to e; room = x.room - 1 }) after
-          (ap (read_space live_moved) (b was.0 was.1) ∙ ap (λ (m : Names). record lent { names = m; room = lent.room - 1 }) moved_reads);
-    }
-
 -- ---- What is under a name moves to another, in the tables and in the machine alike; what is kept of a set goes along.
 
 -- ---- once a place is kept for the name
@@ -503,8 +427,8 @@ module _ (w w1 : WorldView) (task from to : ℕ) (small : to < 2 ^ 32) (e : Entr
   named_so = record w1 { sets = sets_named e to w1.sets; requests = request_moved w1.requests task from to }
 
   -- what was done one after the other
-  pub named_from : (x : WorldView) → x ≡ w1 → (requests : RequestTablesView) → requests ≡ request_moved x.requests task from to → (v : WorldView) → v ≡ record x { sets = sets_named e to x.sets; requests = requests } → v ≡ named_so
-  named_from x view requests moved v named = grind arith
+  pub named_from : (x : WorldView) → x ≡ record w1 { requests = request_moved w1.requests task from to } → (v : WorldView) → v ≡ record x { sets = sets_named e to x.sets } → v ≡ named_so
+  named_from x moved v named = named ∙ ap (λ (y : WorldView). record y { sets = sets_named e to y.sets }) moved
 
   abbrev after : State → State
   after s = record s {

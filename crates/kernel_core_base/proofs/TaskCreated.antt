@@ -1,6 +1,6 @@
 -- A task, a port and a set that are made.
 use Rattle.std.proofs.Common.{◌≡◌, ℕ, ◌+◌, ◌<◌, List, [], ◌∷◌, ◌++◌, Option, Some, None, refl, sym, ap, subst, ◌∙◌, arith, Bool, true, false, inl, inr, length}
-use Rattle.std.specs.Prelude.{is_some, if◌then◌else◌, ◌≢◌, slice_set, ◌==◌}
+use Rattle.std.specs.Prelude.{is_some, ◌≢◌, slice_set, ◌==◌}
 use Rattle.std.specs.Option.{option_map}
 use Rattle.std.specs.FinMap as map
 use Rattle.std.specs.Ordering.{nat_cmp}
@@ -10,7 +10,6 @@ use Rattle.std.proofs.lemmas.Bool.Decides.{eqb_tells}
 use Rattle.mach_types.specs.declared.calls.Event.{Event}
 use Rattle.mach_types.specs.declared.calls.Reply.{Reply}
 use Rattle.mach_types.specs.declared.profiles.Profile.{Profile}
-use Rattle.mach_types.specs.declared.profiles.Profile.TheVariants.{One}
 use Rattle.mach_types.specs.Numbers.{most_tasks}
 use Rattle.mach_types.specs.Tokens.{receive, send, Kind, send_once, in_task, in_request, Request, token, count, is_of, is_held}
 use Rattle.mach_model.specs.State.{State, Target, Names, held, at}
@@ -33,7 +32,6 @@ use Rattle.port_set.specs.declared.SetRecord.{SetRecord}
 use Rattle.port_set.specs.Sets.{SetsView}
 use Rattle.copyin_base.specs.Serving.{Completes}
 use Rattle.copyin_base.specs.Kept.{Kept}
-use Rattle.copyin_base.specs.Reading.{AreGiven}
 use Rattle.copyin_base.specs.Worlds.{WorldView, has_generations, entry_in, space_at, space_in}
 use Rattle.copyin_base.specs.Shows.{GivenAgrees, Agrees, HoldersAgree, target_of, HasCount, onces_queued, CountsAgree, ShowsPort, SetsAgree}
 use Rattle.copyin_base.proofs.Acting.{done}
@@ -41,7 +39,6 @@ use Rattle.copyin_base.proofs.Agreeing.{sets_stay, NamesAgree, CountRights, own_
 use Rattle.copyin_base.proofs.FreshNames.{first_agrees}
 use Rattle.copyin_base.proofs.Gets.{same_found, of_some}
 use Rattle.copyin_base.proofs.Holders.{same_holders, holders_pushed}
-use Rattle.copyin_base.proofs.Reading.{given_pushed}
 use Rattle.copyin_base.proofs.Idle.{none_lost_same}
 use Rattle.copyin_base.proofs.SendersNoted.{senders_same, senders_kept}
 use Rattle.copyin_base.proofs.Spaces.{space-push_same, space-push_other, space-end}
@@ -51,9 +48,8 @@ use Rattle.copyin_base.proofs.Counting.{counts_agree, right_made}
 use Rattle.copyin_base.proofs.Putting.{each_put}
 use Rattle.copyin_base.proofs.Requesting.{requests_stay}
 use Rattle.copyin_base.proofs.NamesChanged.{stands_still, with_sets}
-use Rattle.kernel_core_base.specs.Tasks.{no_names}
-use Rattle.kernel_core_base.proofs.MadeKept.{with_new_task, task_carriers, task_requested, task_senders}
-use Rattle.kernel_core_base.specs.Names.{first_port}
+use Rattle.kernel_core_base.proofs.MadeKept.{task_carriers, task_requested, task_senders}
+use Rattle.copyin_base.specs.Coming.{first_port, no_names, with_new_task}
 
 -- ---- A task that is made: the tables agree with the state after.
 
@@ -120,14 +116,6 @@ module _ (w : WorldView) (s : State) (a : Agrees w s) where
     in_sets = sets_stay w.sets s.set_owner s.sets_made s.naming with_task.naming a.in_sets task (at_other s.naming task map.empty) (λ n set is. absurd (let none = nothing n in cc));
     of_requests = a.of_requests;
   }
-
--- A place was asked for at the end of the tasks: it came, or all is as before.
-pub pushed_or_not : (spaces after : List (Option SpaceView)) (ports : PortsView Kept) → AreGiven spaces ports → (new : SpaceView) → new.names ≡ map.empty →
-    (came : Bool) → after ≡ (if came then spaces ++ Some new ∷ [] else spaces) → AreGiven after ports
-pushed_or_not spaces after ports g new none true is =
-    subst (λ (xs : List (Option SpaceView)). AreGiven xs ports) (sym is)
-    (given_pushed spaces ports g new (λ name e p found. absurd (none_under One name e (ap (λ m. map.get m name) (sym none) ∙ found))))
-pushed_or_not spaces after ports g new none false is = subst (λ (xs : List (Option SpaceView)). AreGiven xs ports) (sym is) g
 
 -- the new task has no receive right
 task_holders : (w : WorldView) → HoldersAgree w → HoldersAgree (record w { spaces = w.spaces ++ Some (no_names w.profile) ∷ [] })

@@ -1,4 +1,3 @@
-pub mod Tasks
 pub mod Names
 pub mod References
 pub mod ReceiveRight

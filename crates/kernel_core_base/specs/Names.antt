@@ -1,6 +1,6 @@
--- What stands under a task's names after a port, a port set or a dead name was made, and after one was renamed; where nothing more
--- can be made; and the types of all names.
-use Rattle.std.specs.Prelude.{◌≡◌, ℕ, ◌+◌, ◌-◌, ◌<◌, ◌≤◌, ◌⊎◌, List, [], Option, Some, None, slice_set}
+-- What stands under a task's names after a port, a port set or a dead name was made; where nothing more can be made; what is kept of a
+-- set that is renamed; and the types of all names.
+use Rattle.std.specs.Prelude.{◌≡◌, ℕ, ◌+◌, ◌-◌, ◌<◌, ◌≤◌, ◌⊎◌, List, Option, Some, None, slice_set}
 use Rattle.std.specs.Prelude as std
 use Rattle.std.specs.FinMap as map
 use Rattle.mach_types.specs.Numbers.{most_names, most_rights, most_identities}
@@ -9,16 +9,13 @@ use Rattle.name_space.specs.declared.Entry.{Entry}
 use Rattle.name_space.specs.declared.Entry.TheVariants as entry
 use Rattle.name_space.specs.Entry.{type_in}
 use Rattle.name_space.specs.Names.{Names, SpaceView, IsUsable, HasPlace, HasNoOther}
-use Rattle.port.specs.Ports.{PortView, first_attributes}
 use Rattle.port_set.specs.declared.SetRecord.{SetRecord}
 use Rattle.port_set.specs.Sets.{SetsView, created, renamed}
-use Rattle.rights.specs.declared.RightKind.TheVariants as right
-use Rattle.rights.specs.Ledger.{entered, made}
 use Rattle.request_table.specs.declared.Request.{Request}
-use Rattle.request_table.specs.Requests.{RequestsView, name_key, with_request, without_request}
-use Rattle.copyin_base.specs.Kept.{Kept}
+use Rattle.request_table.specs.Requests.{name_key}
+use Rattle.copyin_base.specs.Coming.{HasRoomForPort, with_new_port}
 use Rattle.copyin_base.specs.Requests.{RequestTablesView}
-use Rattle.copyin_base.specs.Worlds.{WorldView, entry_at, space_at}
+use Rattle.copyin_base.specs.Worlds.{WorldView, space_at}
 use Rattle.kernel_core_base.specs.declared.names.NewRight.{NewRight}
 use Rattle.kernel_core_base.specs.declared.names.NewRight.TheVariants as new_right
 
@@ -29,17 +26,6 @@ abbrev pub right_made : NewRight → ℕ
 right_made new_right.Port = 1
 right_made new_right.Set = 3
 right_made new_right.DeadName = 4
-
--- a new port, whose receive right the task holds
-abbrev pub first_port : (task : ℕ) → PortView Kept
-first_port task = record { queue = []; attributes = first_attributes task }
-
--- one more port and its receive right, which the task holds and no name is for yet
-abbrev pub with_new_port : WorldView → (task : ℕ) → WorldView
-with_new_port w task = record w {
-  ports = record w.ports { ports = map.insert w.ports.ports w.ports.made (first_port task); made = w.ports.made + 1 };
-  ledger = made (entered w.ledger w.ports.made) w.ports.made right.Receive 1;
-}
 
 -- one more of what is made, before it stands under its name
 abbrev pub with_made : WorldView → (task : ℕ) → NewRight → (name : ℕ) → WorldView
@@ -69,7 +55,7 @@ pub record Adds (old : WorldView) (task : ℕ) (right : NewRight) (name : ℕ) (
 
 -- There is room for one more, wherever it is named.
 abbrev pub HasRoomFor : WorldView → NewRight → Type 0
-HasRoomFor w new_right.Port = (w.ledger.total < most_rights) × (w.ports.made < most_identities)
+HasRoomFor w new_right.Port = HasRoomForPort w
 HasRoomFor w new_right.Set = w.sets.made < most_identities
 HasRoomFor w new_right.DeadName = Unit {0}
 
@@ -106,18 +92,6 @@ pub record CanAdd (w : WorldView) (task : ℕ) (right : NewRight) (name : ℕ) :
 
 -- ---- renaming
 
--- This stands under the first name of the task and may stand under the second, which isn't in use.
-pub record MayRename (w : WorldView) (task from to : ℕ) (e : Entry) : Type 0 where
-  pub found : entry_at w task from ≡ Some e
-  pub unused : entry_at w task to ≡ None
-  pub usable : IsUsable to
-
--- What is under the first name of the task goes under the second, for which a place is kept, in its names alone.
-pub record MovesEntry (old : WorldView) (task from to : ℕ) (e : Entry) (new : WorldView) : Type 0 where
-  pub space : SpaceView
-  pub there : space_at old task ≡ Some space
-  pub rest : new ≡ record old { spaces = slice_set old.spaces task (Some (record space { names = map.insert (map.remove space.names from) to e; room = space.room - 1 })) }
-
 -- the sets after their task's name for one of them, if it is there
 abbrev pub renamed_in : Option SetRecord → SetsView → (set name : ℕ) → SetsView
 renamed_in (Some r) sets set name = renamed sets set r name
@@ -127,15 +101,6 @@ renamed_in None sets set name = sets
 abbrev pub sets_named : Entry → (name : ℕ) → SetsView → SetsView
 sets_named (entry.Set set) name sets = renamed_in (map.get sets.sets set) sets set name
 sets_named e name sets = sets
-
--- the dead-name requests after one, if there is one, comes to this name: it is the last of its port's then
-abbrev pub renamed_by : RequestsView → (name : ℕ) → Option Request → RequestsView
-renamed_by names name (Some r) = with_request (without_request names r) (record r { name = name })
-renamed_by names name None = names
-
--- the requests after what was under the first name of the task comes under the second
-abbrev pub request_moved : RequestTablesView → (task from to : ℕ) → RequestTablesView
-request_moved v task from to = record v { names = renamed_by v.names to (map.get v.names.requests (name_key task from)) }
 
 -- ---- types
 

@@ -16,7 +16,7 @@ use Rattle.port.specs.Ports.{PortView, with_port}
 use Rattle.port_set.specs.Sets.{removed, IsDisbanded}
 use Rattle.rights.specs.declared.RightKind.TheVariants as kind
 use Rattle.rights.specs.Ledger.{LedgerView, IsEntered, counts_of, made, taken}
-use Rattle.copyin_base.specs.declared.notice.Notice.TheVariants as notice
+use Rattle.copyin_base.specs.declared.Notice.TheVariants as notice
 use Rattle.copyin_base.specs.Changes.{PutsLeft, NotesSenderless}
 use Rattle.copyin_base.specs.Kept.{Kept}
 use Rattle.copyin_base.specs.Requests.{request_left, requests_after}

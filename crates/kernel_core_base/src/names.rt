@@ -8,23 +8,22 @@ ghost use Rattle.mach_types.specs.Numbers.{most_rights, most_identities};
 ghost use Rattle.mach_types.specs.Codes.{kern_number};
 ghost use Rattle.mach_model.specs.Refusals.{IsNoMaking, call_guards};
 ghost use Rattle.name_space.specs.Names.{IsUsable};
-ghost use Rattle.name_space.specs.declared.Entry.{Entry as AnyEntry};
 ghost use Rattle.name_space.specs.declared.Entry.TheVariants as entry_of;
 ghost use Rattle.port_set.specs.Sets.{IsThere, created};
 ghost use Rattle.request_table.specs.Requests.{name_key};
+ghost use Rattle.copyin_base.specs.Changes.{MayRename};
 ghost use Rattle.copyin_base.specs.Serving.{code_number, Serves, IsRefused, IsAllowed};
 ghost use Rattle.copyin_base.specs.Stands.{Stands};
-ghost use Rattle.copyin_base.specs.Wanted.{KeepsSpares, kept_of};
+ghost use Rattle.copyin_base.specs.Wanted.{KeepsSpares};
 ghost use Rattle.copyin_base.specs.Worlds.{entry_at, HasTask};
 ghost use Rattle.kernel_core_base.specs.declared.names.NewRight.TheVariants as AnyRight;
-ghost use Rattle.kernel_core_base.specs.Names.{right_made, with_new_port, IsFullFor, HasRoomFor, IsFullOf, HasRoomOf, MayMake, CanAdd, Adds, MakesRight, MovesEntry, MayRename, request_moved, sets_named, bit_requested, type_of_entry, type_found, types_of};
+ghost use Rattle.kernel_core_base.specs.Names.{right_made, IsFullFor, HasRoomFor, IsFullOf, HasRoomOf, MayMake, CanAdd, Adds, MakesRight, sets_named, bit_requested, type_of_entry, type_found, types_of};
 ghost use Rattle.kernel_core_base.specs.Wanted.{MayLackMemory};
 
-use copyin_base::{Code, RequestTables, TaskNames, World};
+use copyin_base::{Code, TaskNames, World};
 use mach_types::limits::MOST_RIGHTS;
-use mach_types::{KernReturn, Name, NameTypes, PortId, Reply, Right, TaskId};
+use mach_types::{KernReturn, Name, NameTypes, Reply, Right, TaskId};
 use name_space::Entry;
-use rights::RightKind;
 use std::alloc::{AllocError, Global};
 use user_refs::UserRefs;
 
@@ -188,8 +187,8 @@ fn is_used_up(world: &World, right: NewRight) -> bool
     ensures room { result ≡ false → HasRoomFor world.now right }
 {
     match right {
-        NewRight::Port => world.ledger.total() == MOST_RIGHTS || world.ports.is_exhausted(),
-        NewRight::Set => world.sets.is_exhausted(),
+        NewRight::Port => world.total_rights() == MOST_RIGHTS || world.ports.is_exhausted(),
+        NewRight::Set => world.are_sets_exhausted(),
         NewRight::DeadName => false,
     }
 }
@@ -220,29 +219,11 @@ fn make_right(
     ensures err { IfErr result (λ code. (code ≡ kern.ResourceShortage) × (world.new ≡ world.old) × (right ≢ AnyRight.DeadName)) }
 {
     let made = match right {
-        NewRight::Port => make_port(world, task).map(Entry::Receive),
-        NewRight::Set => world.sets.create(task, name).map(Entry::Set),
+        NewRight::Port => world.create_port(task).map(Entry::Receive),
+        NewRight::Set => world.create_set(task, name).map(Entry::Set),
         NewRight::DeadName => Ok(Entry::DeadName(UserRefs::one())),
     };
     made.map_err(|_| KernReturn::ResourceShortage)
-}
-
-// A new port, and its receive right, which is counted and which the port knows to be the task's.
-fn make_port(world: &mut World, task: TaskId) -> Result<PortId, AllocError>
-    requires room { HasRoomFor world.old AnyRight.Port }
-    requires unknown { map.get world.old.ledger.counts world.old.ports.made ≡ None }
-    ensures ok { IfOk result (λ port. (port ≡ world.old.ports.made) × (world.new ≡ with_new_port world.old task)) }
-    ensures err { OnErr result (world.new ≡ world.old) }
-{
-    let id = world.ports.next_id();
-    world.ledger.enter(id, RightKind::Receive)?;
-    match world.ports.allocate(task) {
-        Ok(port) => Ok(port),
-        Err(error) => {
-            world.ledger.leave(id);
-            Err(error)
-        }
-    }
 }
 
 /// `NameType` (Port Manipulation Interface, `mach_port_type`): a bit for each kind of right that the
@@ -256,7 +237,7 @@ pub fn name_type(world: &World, task: TaskId, name: Name) -> Result<Reply, Code>
     ensures { Serves world.now (Event.NameType task name) result world.now }
 {
     let entry = world.find(task, name)?;
-    Ok(Reply::NameType(type_of(&world.requests, task, name, &entry)))
+    Ok(Reply::NameType(type_of(world, task, name, &entry)))
 }
 
 /// `Names` (Port Manipulation Interface, `mach_port_names`): the names of the task with their types,
@@ -270,7 +251,7 @@ pub fn list_names(world: &World, alloc: Global, task: TaskId) -> Result<Reply, C
     ensures serves { Serves world.now (Event.Names task) result world.now }
     ensures wanted { IfErr result (λ code. code_number code ≡ kern_number kern.ResourceShortage → MayLackMemory world.now (Event.Names task)) }
 {
-    match names_with_types(&world.requests, task, &world.space(task), alloc) {
+    match names_with_types(world, task, &world.space(task), alloc) {
         Ok(entries) => Ok(Reply::Names(NameTypes::from_vec(entries))),
         Err(_) => Err(Code::Kern(KernReturn::ResourceShortage)),
     }
@@ -278,12 +259,12 @@ pub fn list_names(world: &World, alloc: Global, task: TaskId) -> Result<Reply, C
 
 // The names of a task with their types, names rising.
 fn names_with_types(
-    requests: &RequestTables,
+    world: &World,
     task: TaskId,
     space: &TaskNames<'_>,
     alloc: Global,
 ) -> Result<Vec<(Name, u32)>, AllocError>
-    ensures ok { IfOk result (λ entries. entries.items ≡ types_of requests.now task space.now.names) }
+    ensures ok { IfOk result (λ entries. entries.items ≡ types_of world.now.requests task space.now.names) }
     ensures err { OnErr result (0 < map.len space.now.names) }
 {
     let mut entries = Vec::new(alloc);
@@ -293,33 +274,33 @@ fn names_with_types(
     let names = space.names(alloc)?;
     entries.reserve(names.len())?;
     for name in &names {
-        entries.push((*name, type_at(requests, task, space, *name)))?;
+        entries.push((*name, type_at(world, task, space, *name)))?;
     }
     Ok(entries)
 }
 
 // The type of a task's name, 0 where it isn't in use.
-fn type_at(requests: &RequestTables, task: TaskId, space: &TaskNames<'_>, name: Name) -> u32
-    ensures { result ≡ type_found requests.now task name (map.get space.now.names name) }
+fn type_at(world: &World, task: TaskId, space: &TaskNames<'_>, name: Name) -> u32
+    ensures { result ≡ type_found world.now.requests task name (map.get space.now.names name) }
 {
     match space.lookup(name) {
-        Some(entry) => type_of(requests, task, name, &entry),
+        Some(entry) => type_of(world, task, name, &entry),
         None => 0,
     }
 }
 
 // The type of a task's name under which this stands.
-fn type_of(requests: &RequestTables, task: TaskId, name: Name, entry: &Entry) -> u32
-    ensures { result ≡ type_of_entry requests.now task name entry.now }
+fn type_of(world: &World, task: TaskId, name: Name, entry: &Entry) -> u32
+    ensures { result ≡ type_of_entry world.now.requests task name entry.now }
 {
-    entry.type_bits() | request_bit(requests, task, name)
+    entry.type_bits() | request_bit(world, task, name)
 }
 
 // The bit for a dead-name request on a task's name, 0 where there is none.
-fn request_bit(requests: &RequestTables, task: TaskId, name: Name) -> u32
-    ensures { result ≡ bit_requested (map.get requests.now.names.requests (name_key task name)) }
+fn request_bit(world: &World, task: TaskId, name: Name) -> u32
+    ensures { result ≡ bit_requested (map.get world.now.requests.names.requests (name_key task name)) }
 {
-    match requests.names.get(task, name) {
+    match world.find_on_name(task, name) {
         Some(_) => DEAD_NAME_REQUESTED,
         None => 0,
     }
@@ -346,8 +327,8 @@ pub fn rename(world: &mut World, task: TaskId, from: Name, to: Name) -> Result<R
 {
     let entry = judge_rename(world, task, from, to)?;
     world.reserve_name(task, to)?;
-    move_entry(world, task, from, to);
-    move_request(&mut world.requests, task, from, to);
+    world.move_entry(task, from, to);
+    world.move_on_name(task, from, to);
     name_set(world, entry, to);
     Ok(Reply::Code(0))
 }
@@ -381,35 +362,12 @@ fn judge_rename(world: &World, task: TaskId, from: Name, to: Name) -> Result<Ent
     Ok(entry)
 }
 
-// Moves what is under a name to one that isn't in use, for which a place is kept, in the task's names
-// alone.
-fn move_entry(world: &mut World, task: TaskId, from: Name, to: Name)
-    requires may { (e : AnyEntry) × MayRename world.old task from to e }
-    requires place { kept_of world.old task ≡ Some to }
-    ensures { (e : AnyEntry) → MayRename world.old task from to e → MovesEntry world.old task from to e world.new }
-{
-    let Some(space) = &mut world.spaces[task.number() as usize] else {
-        unreachable!()
-    };
-    space.rename(from, to);
-}
-
-// The request on a task's name, if there is one, goes along to another name, which has none.
-fn move_request(requests: &mut RequestTables, task: TaskId, from: Name, to: Name)
-    requires { map.get requests.old.names.requests (name_key task to) ≡ None }
-    ensures { requests.new ≡ request_moved requests.old task from to }
-{
-    if !requests.names.is_empty() {
-        requests.names.rename(task, from, to);
-    }
-}
-
 // Keeps the name for the entry's set, if it is one.
 fn name_set(world: &mut World, entry: Entry, name: Name)
     requires { (set : ℕ) → entry ≡ entry_of.Set set → IsThere world.old.sets set }
     ensures { world.new ≡ record world.old { sets = sets_named entry name world.old.sets } }
 {
     if let Entry::Set(set) = entry {
-        world.sets.rename(set, name);
+        world.rename_set(set, name);
     }
 }

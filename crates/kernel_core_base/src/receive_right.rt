@@ -1,6 +1,5 @@
 //! What a task may ask of a receive right, and set.
-ghost use Rattle.std.specs.Prelude.{◌≡◌, ◌<◌};
-ghost use Rattle.std.specs.FinMap as map;
+ghost use Rattle.std.specs.Prelude.{◌≡◌, ◌<◌, is_some};
 ghost use Rattle.mach_types.specs.declared.calls.Event.{Event};
 ghost use Rattle.mach_model.specs.Telling.{one_if};
 ghost use Rattle.copyin_base.specs.Serving.{Serves};
@@ -12,7 +11,6 @@ ghost use Rattle.copyin_base.specs.Worlds.{HasTask};
 use copyin_base::{Code, World};
 use mach_types::limits::GREATEST_LIMIT;
 use mach_types::{KernReturn, Name, PortId, Reply, SetId, Status, TaskId};
-use number_map::NumberMap;
 use port::Attributes;
 
 /// `ReceiveStatus` (Port Manipulation Interface, `mach_port_get_receive_status`): returns the port's status.
@@ -36,7 +34,7 @@ fn status_of(world: &World, port: PortId) -> Status
     requires { HasPort world.now port }
     ensures { TellsPort world.now port result }
 {
-    let counts = world.ledger.counts(port).unwrap();
+    let counts = world.counts(port).unwrap();
     let attributes = world.attributes(port);
     Status {
         set: set_name(world, attributes.set),
@@ -46,16 +44,16 @@ fn status_of(world: &World, port: PortId) -> Status
         queued: world.ports.queued(port) as u32,
         send_once: counts.send_once + counts.destination,
         has_send: counts.send.min(1),
-        port_destroyed: is_requested(&world.requests.port_destroyed, port),
-        no_senders: is_requested(&world.requests.no_senders, port),
+        port_destroyed: is_requested(world.find_port_destroyed(port)),
+        no_senders: is_requested(world.find_no_senders(port)),
     }
 }
 
-// 1 where a request stands on the port, else 0.
-fn is_requested(notify_ports: &NumberMap<PortId>, port: PortId) -> u32
-    ensures { result ≡ one_if (map.contains_key notify_ports.now.map port) }
+// 1 where a request stands with this notify port, else 0.
+fn is_requested(notify: Option<PortId>) -> u32
+    ensures { result ≡ one_if (is_some notify) }
 {
-    match notify_ports.get(port.number()) {
+    match notify {
         Some(_) => 1,
         None => 0,
     }
@@ -68,7 +66,7 @@ fn set_name(world: &World, set: Option<SetId>) -> Name
     let Some(set) = set else {
         return Name::null();
     };
-    match world.sets.get(set) {
+    match world.set_record(set) {
         Some(kept) => kept.name,
         None => Name::null(),
     }

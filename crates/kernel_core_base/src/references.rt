@@ -20,7 +20,7 @@ use copyin_base::{Code, Notice, World};
 use mach_types::limits::{MOST_REFERENCES, MOST_RIGHTS};
 use mach_types::{KernReturn, Name, PortId, Reply, Right, SetId, TaskId};
 use name_space::Entry;
-use rights::{Ledger, RightKind};
+use rights::RightKind;
 use user_refs::UserRefs;
 
 // How a number of references changes.
@@ -75,20 +75,20 @@ fn left_under(entry: &Entry, references: u32) -> Option<Entry>
 }
 
 // Counts the send rights that come or go where those of an entry become so many.
-fn count_sends(ledger: &mut Ledger, entry: &Entry, references: u32)
-    requires { CanCount ledger.old entry.now references }
-    ensures { ledger.new ≡ recounted_at ledger.old (port_named entry.now) (send_references entry.now) references }
+fn count_sends(world: &mut World, entry: &Entry, references: u32)
+    requires { CanCount world.old.ledger entry.now references }
+    ensures { world.new ≡ record world.old { ledger = recounted_at world.old.ledger (port_named entry.now) (send_references entry.now) references } }
 {
     let Some(port) = entry.port() else {
         return;
     };
     let held = entry.send_references();
     if held < references {
-        ledger
-            .make(port, RightKind::Send, references - held)
+        world
+            .make_rights(port, RightKind::Send, references - held)
             .unwrap();
     } else {
-        ledger.take(port, RightKind::Send, held - references);
+        world.take_rights(port, RightKind::Send, held - references);
     }
 }
 
@@ -110,7 +110,7 @@ fn count_references(world: &mut World, task: TaskId, name: Name, entry: &Entry, 
     ensures { CountsReferences world.old task name entry.now references world.new }
 {
     world.put_left(task, name, left_under(entry, references));
-    count_sends(&mut world.ledger, entry, references);
+    count_sends(world, entry, references);
 }
 
 // Makes the references of what stands under a name so many. A name of nothing else goes with the last.
@@ -153,13 +153,13 @@ fn left_sending(loss: Loss) -> Option<Entry>
 
 // Counts so many send rights of a port as gone, where any go: mostly the task has none beside its receive
 // right.
-fn take_sends(ledger: &mut Ledger, port: PortId, gone: u32)
-    requires entered { IsEntered ledger.old port }
-    requires there { gone ≤ (counts_of ledger.old port).send }
-    ensures { ledger.new ≡ taken ledger.old port kind.Send gone }
+fn take_sends(world: &mut World, port: PortId, gone: u32)
+    requires entered { IsEntered world.old.ledger port }
+    requires there { gone ≤ (counts_of world.old.ledger port).send }
+    ensures { world.new ≡ record world.old { ledger = taken world.old.ledger port kind.Send gone } }
 {
     if gone > 0 {
-        ledger.take(port, RightKind::Send, gone);
+        world.take_rights(port, RightKind::Send, gone);
     }
 }
 
@@ -175,7 +175,7 @@ fn take_receive(world: &mut World, task: TaskId, name: Name, loss: Loss)
     let left = left_sending(loss);
     world.lose_receive(port);
     world.put_left(task, name, left);
-    take_sends(&mut world.ledger, port, gone);
+    take_sends(world, port, gone);
 }
 
 // Notes a port that has no send rights left, where some of them went.
@@ -351,30 +351,29 @@ fn sum_of(held: u32, change: Change) -> Result<u32, KernReturn>
 }
 
 // Whether there would be too many rights.
-fn lacks_rights(ledger: &Ledger, change: Change) -> bool
-    ensures { MatchBool result (most_rights < ledger.now.total + more_in change) (ledger.now.total + more_in change ≤ most_rights) }
+fn lacks_rights(total: u32, change: Change) -> bool
+    ensures { MatchBool result (most_rights < total + more_in change) (total + more_in change ≤ most_rights) }
 {
-    let total = ledger.total();
     match change {
         Change::More(more) => more > MOST_RIGHTS - total,
         Change::Fewer(_) => false,
     }
 }
 
-fn judge_sends(ledger: &Ledger, entry: Entry, change: Change) -> Result<Due, KernReturn>
-    ensures ok { IfOk result (λ due. CanChange ledger.now.total right.Send entry change due) }
-    ensures err { IfErr result (λ code. CannotChange ledger.now.total right.Send entry change code) }
+fn judge_sends(total: u32, entry: Entry, change: Change) -> Result<Due, KernReturn>
+    ensures ok { IfOk result (λ due. CanChange total right.Send entry change due) }
+    ensures err { IfErr result (λ code. CannotChange total right.Send entry change code) }
 {
     let sum = sum_of(entry.references(Right::Send), change)?;
-    if lacks_rights(ledger, change) {
+    if lacks_rights(total, change) {
         return Err(KernReturn::NoSpace);
     }
     Ok(Due::References(entry, sum))
 }
 
-fn judge_dead(ledger: &Ledger, entry: Entry, change: Change) -> Result<Due, KernReturn>
-    ensures ok { IfOk result (λ due. CanChange ledger.now.total right.DeadName entry change due) }
-    ensures err { IfErr result (λ code. CannotChange ledger.now.total right.DeadName entry change code) }
+fn judge_dead(total: u32, entry: Entry, change: Change) -> Result<Due, KernReturn>
+    ensures ok { IfOk result (λ due. CanChange total right.DeadName entry change due) }
+    ensures err { IfErr result (λ code. CannotChange total right.DeadName entry change code) }
 {
     let sum = sum_of(entry.references(Right::DeadName), change)?;
     Ok(Due::References(entry, sum))
@@ -391,26 +390,26 @@ fn judge_whole(change: Change, whole: Result<Due, KernReturn>) -> Result<Due, Ke
     }
 }
 
-fn judge_set(ledger: &Ledger, entry: Entry, change: Change) -> Result<Due, KernReturn>
-    ensures ok { IfOk result (λ due. CanChange ledger.now.total right.PortSet entry change due) }
-    ensures err { IfErr result (λ code. CannotChange ledger.now.total right.PortSet entry change code) }
+fn judge_set(total: u32, entry: Entry, change: Change) -> Result<Due, KernReturn>
+    ensures ok { IfOk result (λ due. CanChange total right.PortSet entry change due) }
+    ensures err { IfErr result (λ code. CannotChange total right.PortSet entry change code) }
 {
     let set = entry.set().ok_or(KernReturn::InvalidRight)?;
     judge_whole(change, Ok(Due::Disbanding(set)))
 }
 
-fn judge_once(ledger: &Ledger, entry: Entry, change: Change) -> Result<Due, KernReturn>
-    ensures ok { IfOk result (λ due. CanChange ledger.now.total right.SendOnce entry change due) }
-    ensures err { IfErr result (λ code. CannotChange ledger.now.total right.SendOnce entry change code) }
+fn judge_once(total: u32, entry: Entry, change: Change) -> Result<Due, KernReturn>
+    ensures ok { IfOk result (λ due. CanChange total right.SendOnce entry change due) }
+    ensures err { IfErr result (λ code. CannotChange total right.SendOnce entry change code) }
 {
     let port = entry.right_port().ok_or(KernReturn::InvalidRight)?;
     judge_whole(change, Ok(Due::LosingOnce(port)))
 }
 
 // The send references stay.
-fn judge_receive(ledger: &Ledger, entry: Entry, change: Change) -> Result<Due, KernReturn>
-    ensures ok { IfOk result (λ due. CanChange ledger.now.total right.Receive entry change due) }
-    ensures err { IfErr result (λ code. CannotChange ledger.now.total right.Receive entry change code) }
+fn judge_receive(total: u32, entry: Entry, change: Change) -> Result<Due, KernReturn>
+    ensures ok { IfOk result (λ due. CanChange total right.Receive entry change due) }
+    ensures err { IfErr result (λ code. CannotChange total right.Receive entry change code) }
 {
     let port = entry.port().ok_or(KernReturn::InvalidRight)?;
     let held = entry.send_references();
@@ -423,21 +422,16 @@ fn judge_receive(ledger: &Ledger, entry: Entry, change: Change) -> Result<Due, K
 }
 
 // What is due where the references of a right that the entry has change so.
-fn judge_change(
-    ledger: &Ledger,
-    right: Right,
-    entry: Entry,
-    change: Change,
-) -> Result<Due, KernReturn>
-    ensures ok { IfOk result (λ due. CanChange ledger.now.total right entry change due) }
-    ensures err { IfErr result (λ code. CannotChange ledger.now.total right entry change code) }
+fn judge_change(total: u32, right: Right, entry: Entry, change: Change) -> Result<Due, KernReturn>
+    ensures ok { IfOk result (λ due. CanChange total right entry change due) }
+    ensures err { IfErr result (λ code. CannotChange total right entry change code) }
 {
     match right {
-        Right::Send => judge_sends(ledger, entry, change),
-        Right::DeadName => judge_dead(ledger, entry, change),
-        Right::PortSet => judge_set(ledger, entry, change),
-        Right::SendOnce => judge_once(ledger, entry, change),
-        Right::Receive => judge_receive(ledger, entry, change),
+        Right::Send => judge_sends(total, entry, change),
+        Right::DeadName => judge_dead(total, entry, change),
+        Right::PortSet => judge_set(total, entry, change),
+        Right::SendOnce => judge_once(total, entry, change),
+        Right::Receive => judge_receive(total, entry, change),
     }
 }
 
@@ -493,7 +487,7 @@ pub fn mod_refs(
     ensures spares { UsesSpares world.old world.new }
 {
     let (right, entry) = find_right(world, task, name, right)?;
-    let due = judge_change(&world.ledger, right, entry, change_of(delta))?;
+    let due = judge_change(world.total_rights(), right, entry, change_of(delta))?;
     carry_out(world, task, name, due);
     Ok(Reply::Code(0))
 }

@@ -1,19 +1,16 @@
 //! Making and ending tasks.
-ghost use Rattle.std.specs.Prelude.{◌≡◌, ◌++◌, ◌∷◌, [], OnOk, IfErr};
+ghost use Rattle.std.specs.Prelude.{OnOk, IfErr};
 ghost use Rattle.mach_types.specs.declared.calls.Event.{Event};
-ghost use Rattle.mach_types.specs.declared.codes.KernReturn.TheVariants as kern;
 ghost use Rattle.mach_types.specs.Codes.{kern_number};
 ghost use Rattle.mach_model.specs.Refusals.{call_guards};
 ghost use Rattle.copyin_base.specs.Serving.{Serves, IsRefused, IsAllowed};
 ghost use Rattle.copyin_base.specs.Stands.{Stands};
 ghost use Rattle.copyin_base.specs.Wanted.{KeepsSpares, UsesSpares};
 ghost use Rattle.copyin_base.specs.Worlds.{HasTask};
-ghost use Rattle.kernel_core_base.specs.Tasks.{no_names};
 
 use copyin_base::{Code, World};
 use mach_types::limits::MOST_TASKS;
 use mach_types::{KernReturn, Reply, TaskId};
-use name_space::Space;
 use notifications::end_task;
 use std::alloc::Global;
 
@@ -27,12 +24,14 @@ pub fn create_task(world: &mut World, alloc: Global) -> Result<Reply, Code>
     ensures serves { Serves world.old Event.TaskCreate result world.new }
     ensures spares { KeepsSpares world.old world.new }
 {
-    let number = world.spaces.len();
+    let number = world.tasks_made();
     if number >= MOST_TASKS {
         return Err(Code::Kern(KernReturn::NoSpace));
     }
-    push_task(world, alloc)?;
-    Ok(Reply::Task(TaskId::new(number as u32)))
+    match world.create_task(alloc) {
+        Ok(task) => Ok(Reply::Task(task)),
+        Err(_) => Err(Code::Kern(KernReturn::ResourceShortage)),
+    }
 }
 
 /// Whether a task may be made, where there is memory: as [`create_task`] refuses it, except when out of
@@ -41,22 +40,10 @@ pub fn check_create_task(world: &World) -> Result<(), KernReturn>
     ensures ok { OnOk result (IsAllowed world.now (λ s. call_guards s Event.TaskCreate)) }
     ensures err { IfErr result (λ code. IsRefused world.now (λ s. call_guards s Event.TaskCreate) (kern_number code)) }
 {
-    if world.spaces.len() >= MOST_TASKS {
+    if world.tasks_made() >= MOST_TASKS {
         return Err(KernReturn::NoSpace);
     }
     Ok(())
-}
-
-// One task more, with no names.
-fn push_task(world: &mut World, alloc: Global) -> Result<(), KernReturn>
-    ensures ok { OnOk result (world.new ≡ record world.old { spaces = world.old.spaces ++ Some (no_names world.old.profile) ∷ [] }) }
-    ensures err { IfErr result (λ code. (code ≡ kern.ResourceShortage) × (world.new ≡ world.old)) }
-{
-    let space = Space::new(alloc, world.has_generations());
-    match world.spaces.push(Some(space)) {
-        Ok(()) => Ok(()),
-        Err(_) => Err(KernReturn::ResourceShortage),
-    }
 }
 
 /// `TaskTerminate` (Task Interface, `task_terminate`): ends a task that lives. All that its names hold is

@@ -222,11 +222,21 @@ impl LockedKernel {
 /// A kernel behind its lock, for many threads, and the board beside it.
 ///
 /// To contracts it is which board that is, the kernel's profile, and whether the history's entries are kept.
-#[derive(Drop)]
 pub struct Shared {
     gate: Mutex<()>,
     berth: Berth,
     board: Board,
+}
+
+/// Drops the kernel with its history. It is written out, so that it is proved here alone, and not in each crate that drops one.
+impl Drop for Shared {
+    fn drop(self) {
+        let Shared {
+            gate: _,
+            berth: _,
+            board: _,
+        } = self;
+    }
 }
 
 impl Model for Shared {

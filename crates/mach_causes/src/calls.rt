@@ -177,7 +177,7 @@ fn no_space(follower: &Follower, task: TaskId) -> Reason {
 
 /// Returns that there can't be so many more rights.
 fn rights_full(follower: &Follower, more: u32) -> Reason {
-    Reason::RightsFull(follower.tables().ledger.total(), more)
+    Reason::RightsFull(follower.tables().total_rights(), more)
 }
 
 /// Finds why a right isn't made under a fresh name.

@@ -22,11 +22,11 @@ pub(crate) fn is_true(world: &World, reason: &Reason) -> bool
 {
     match reason {
         Reason::NoTask(task, ended) => is_no_task(world, *task, ended.is_some()),
-        Reason::TasksFull => world.spaces.len() == MOST_TASKS,
+        Reason::TasksFull => world.tasks_made() == MOST_TASKS,
         Reason::NamesFull(task) => has_names(world, *task, MOST_NAMES),
         Reason::NamesShort(task, names) => has_names(world, *task, *names as usize),
         Reason::RightsFull(rights, more) => {
-            world.ledger.total() == *rights && is_too_many(*rights, *more)
+            world.total_rights() == *rights && is_too_many(*rights, *more)
         }
         Reason::InNoSet(..)
         | Reason::InSet(..)
@@ -113,7 +113,7 @@ fn is_true_of_numbers(reason: &Reason) -> bool
 fn is_no_task(world: &World, task: TaskId, was_made: bool) -> bool
     ensures { IsTrue result → LacksTask world.now task was_made }
 {
-    let is_made = (task.number() as usize) < world.spaces.len();
+    let is_made = (task.number() as usize) < world.tasks_made();
     world.find_space(task).is_none() && is_made == was_made
 }
 
@@ -208,7 +208,7 @@ fn is_there(world: &World, waited: &Waited) -> bool
 {
     match waited {
         Waited::Port(port) => world.ports.contains(*port),
-        Waited::Set(set) => world.sets.get(*set).is_some(),
+        Waited::Set(set) => world.set_record(*set).is_some(),
     }
 }
 
@@ -220,8 +220,8 @@ pub fn made_once(world: &World, waited: &Waited) -> Option<bool>
     match waited {
         Waited::Port(_) if world.ports.is_exhausted() => None,
         Waited::Port(port) => Some(port.number() < world.ports.next_id().number()),
-        Waited::Set(_) if world.sets.is_exhausted() => None,
-        Waited::Set(set) => Some(set.number() < world.sets.next_id().number()),
+        Waited::Set(_) if world.are_sets_exhausted() => None,
+        Waited::Set(set) => Some(set.number() < world.next_set().number()),
     }
 }
 
@@ -252,7 +252,7 @@ fn is_kept_from(world: &World, task: TaskId, port: PortId) -> bool
 fn is_of_another(world: &World, task: TaskId, set: SetId) -> bool
     ensures { IsTrue result → IsOthers world.now task set }
 {
-    match world.sets.get(set) {
+    match world.set_record(set) {
         Some(record) => record.owner != task,
         None => false,
     }

@@ -75,7 +75,6 @@ pub struct Span {
 /// A chart as data: its rows, with their comments, and the hops of messages.
 ///
 /// It takes some 100 bytes and its comment for a row, and at most 100 bytes for a message.
-#[derive(Drop)]
 pub struct Chart {
     pub(crate) rows: Vec<Row>,
     pub(crate) hops: Vec<Hop>,
@@ -89,6 +88,22 @@ pub struct Chart {
     pub(crate) waits: Waits,
     // A text that is put together.
     scratch: Text,
+}
+
+/// Drops the rows and what was noted for them. It is written out, so that it is proved here alone, and not in each crate that drops one.
+impl Drop for Chart {
+    fn drop(self) {
+        let Chart {
+            rows: _,
+            hops: _,
+            places: _,
+            spans: _,
+            comments: _,
+            ends: _,
+            waits: _,
+            scratch: _,
+        } = self;
+    }
 }
 
 impl Chart {

@@ -26,7 +26,6 @@ use std::alloc::{AllocError, Global};
 use std::collections::{BTreeMap, LinkedList};
 
 /// For each live port the origins of its queued messages, and what the last step did.
-#[derive(Drop)]
 pub struct Fates {
     alloc: Global,
     ports: BTreeMap<u64, Waiting>,
@@ -36,6 +35,20 @@ pub struct Fates {
     // The ports that the last step may have changed.
     visited: Vec<u64>,
     effects: Effects,
+}
+
+/// Drops the origins of the queued messages. It is written out, so that it is proved here alone, and not in each crate that drops one.
+impl Drop for Fates {
+    fn drop(self) {
+        let Fates {
+            alloc: _,
+            ports: _,
+            made: _,
+            taken: _,
+            visited: _,
+            effects: _,
+        } = self;
+    }
 }
 
 impl Fates {

@@ -1,17 +1,17 @@
 -- What stays for those that wait where a task ends that has no sets, and of rights only send rights.
-use Rattle.std.proofs.Common.{◌≡◌, ℕ, suc, zero, ◌<◌, List, [], ◌∷◌, Option, Some, None, refl, sym, ap, ◌∙◌, arith, true, false, Bool, All}
+use Rattle.std.proofs.Common.{◌≡◌, ℕ, suc, zero, ◌<◌, List, [], ◌∷◌, Option, Some, None, refl, ap, ◌∙◌, arith, true, false, Bool, All}
 use Rattle.std.specs.Prelude.{◌≢◌, ◌==◌, ◌&&◌, not, filter, if◌then◌else◌}
-use Rattle.std.specs.Ordering.{nat_cmp}
+use Rattle.std.specs.Option.{option_map}
 use Rattle.std.specs.FinMap as map
 use Rattle.std.proofs.lemmas.Bool.{false_from_ne_true, ne_eqb}
 use Rattle.std.proofs.lemmas.List.Elements.{All-head, All-tail, All-cons, All-nil}
 use Rattle.mach_types.specs.Tokens.{Kind, receive, send_once, Token, count, same_kind, is_in_task, is_held}
-use Rattle.mach_model.specs.State.{State, Target, Names, held}
+use Rattle.mach_model.specs.State.{State, Target, Names, lookup, held}
 use Rattle.mach_model.specs.Lawful.{IsLawful, is_once, tally}
 use Rattle.mach_model.specs.Notices.{Owed}
 use Rattle.mach_model.specs.References.{unused_among}
 use Rattle.mach_model.specs.Tasks.{EndsTask, is_owner}
-use Rattle.mach_model.proofs.Names.{no_values}
+use Rattle.mach_model.proofs.SettledEnd.{IsMapped, mapped_tally}
 use Rattle.mach_laws.proofs.Touching.{Keeps, moves_keep, IsNoReceive}
 
 -- The task has no receive right, no send-once right and no set.
@@ -83,23 +83,47 @@ module _ (task : ℕ) (old mid : State) (owed : Owed) (e : EndsTask task old mid
   pub ends_owing_none : owed ≡ []
   ends_owing_none = e.owed_are ∙ none_unused e.loses.gone (none_gone send_once few.no_once)
 
--- A task without names has none of these.
-pub nameless_holds : (task : ℕ) (s : State) → IsLawful s → map.len (s.naming task) ≡ 0 → HoldsSends task s
-nameless_holds task s l none = record {
-  no_receive = λ p. zero_of (held s task receive p) (λ some. unnamed ((l.naming task).is_named p (let h = some in omega (arith, h))));
-  no_once = λ p. (l.naming task).once_names p ∙ ap (λ (m : Names). tally (is_once p) (map.values m)) no_names ∙ no_values (is_once p);
-  no_set = λ set owned. (let named = l.set_named set task owned in absurd (some_not named.0 (Target.set set) named.1));
+-- what stands for a send-once right, as a dead name
+abbrev unonce : ℕ → Target → Target
+unonce name (Target.once p) = Target.dead 0
+unonce name target = target
+
+-- A task whose names stand for send rights and dead names alone has none of these.
+pub sends_hold : (task : ℕ) (s : State) → IsLawful s → ((name p : ℕ) → lookup s task name ≡ Some (Target.port p) → held s task receive p ≡ 0) →
+    ((name p : ℕ) → lookup s task name ≢ Some (Target.once p)) → ((name set : ℕ) → lookup s task name ≢ Some (Target.set set)) → HoldsSends task s
+sends_hold task s l unheld no_once no_set = record {
+  no_receive = λ p. zero_of (held s task receive p) (λ some.
+      let h = some in
+      let named = (l.naming task).is_named p (omega (arith, h)) in
+      let none = unheld named.0 p named.1 in
+      omega (arith, h, none));
+  no_once = λ p. (l.naming task).once_names p ∙ mapped_tally (map.len names) unonce (λ t. false) (is_once p) names names refl alike (λ n v. no_longer p n v) ∙ none_pass (map.values names);
+  no_set = λ set owned. (let named = l.set_named set task owned in no_set named.0 set named.1);
 }
   where
-    no_names : s.naming task ≡ map.empty
-    no_names = map.empty_of_len (s.naming task) none
-
-    some_not : (name : ℕ) (target : Target) → map.get (s.naming task) name ≡ Some target → ⊥
-    some_not name target is = let gone = ap (λ (m : Names). map.get m name) no_names ∙ map.get-empty nat_cmp name in let e : None ≡ Some target = sym gone ∙ is in cc
-
-    unnamed : {p : ℕ} → (name : ℕ) × (map.get (s.naming task) name ≡ Some (Target.port p)) → ⊥
-    unnamed {p} named = some_not named.0 (Target.port p) named.1
+    names : Names
+    names = s.naming task
 
     zero_of : (n : ℕ) → (0 < n → ⊥) → n ≡ 0
     zero_of zero none = refl
     zero_of (suc n) none = absurd (none (omega arith))
+
+    no_longer : (p n : ℕ) (v : Target) → is_once p (unonce n v) ≡ false
+    no_longer p n (Target.port q) = refl
+    no_longer p n (Target.once q) = refl
+    no_longer p n (Target.dead k) = refl
+    no_longer p n (Target.set set) = refl
+
+    none_pass : (xs : List Target) → tally (λ (t : Target). false) xs ≡ 0
+    none_pass [] = refl
+    none_pass (x ∷ xs) = omega (arith, none_pass xs)
+
+    same_target : (name : ℕ) (o : Option Target) → map.get names name ≡ o → o ≡ option_map (unonce name) o
+    same_target name None is = refl
+    same_target name (Some (Target.port q)) is = refl
+    same_target name (Some (Target.once q)) is = absurd (no_once name q is)
+    same_target name (Some (Target.dead k)) is = refl
+    same_target name (Some (Target.set set)) is = refl
+
+    alike : IsMapped unonce names names
+    alike = record { get = λ name. same_target name (map.get names name) refl }

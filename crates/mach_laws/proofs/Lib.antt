@@ -40,3 +40,6 @@ pub mod Losing
 pub mod Moving
 pub mod Disbanding
 pub mod EndingTask
+pub mod TooLong
+pub mod Carrying
+pub mod Giving

@@ -10,12 +10,13 @@ use Rattle.mach_types.specs.declared.touched.Touched.{Touched}
 use Rattle.mach_types.specs.Touching.{Covers}
 use Rattle.mach_types.specs.Numbers.{disposition}
 use Rattle.mach_types.specs.Tokens.{receive, send, in_task, in_message, Place, Token, token, Moves, count, is_of, is_held, is_in_task}
-use Rattle.mach_types.specs.Messages.{Mark}
+use Rattle.mach_types.specs.Messages.{Mark, to_port}
 use Rattle.mach_model.specs.State.{State, Target, lookup, held, at, queue}
 use Rattle.mach_model.specs.Death.{same_place}
 use Rattle.mach_model.specs.CopyIn.{CopyRight, IsLegal, changed_by, name_kept, taken_by, put_by}
 use Rattle.mach_model.specs.Names.{JoinsSet}
-use Rattle.mach_model.proofs.Names.{at_other}
+use Rattle.mach_model.specs.SentMeans.{target_mark}
+use Rattle.mach_model.proofs.Names.{at_own, at_other}
 use Rattle.mach_laws.specs.Touching.{TouchesOnly}
 use Rattle.mach_laws.proofs.Touching.{Keeps, IsOfReceives, held_is, lying_is, none_and}
 
@@ -133,22 +134,27 @@ right_moves false task name p place old new e m = record {
 }
 
 -- A receive right is copied in: the port under its name alone changes.
-pub record MovesReceive (task name : ℕ) (old new : State) : Type 0 where
+pub record MovesReceive (task name : ℕ) (old : State) (mark : Mark) (new : State) : Type 0 where
   pub port : ℕ
   pub found : lookup old task name ≡ Some (Target.port port)
+  pub mark_is : mark ≡ to_port port
+  pub bare : new.sets_of port ≡ []
   pub others : KeepsOthers port old new
 
-pub receive_moves : (task : ℕ) (place : Place) (name : ℕ) (old : State) (mark : Mark) (new : State) → CopyRight task place 16 name old mark new → MovesReceive task name old new
-receive_moves task place name old mark new c = go c.given c.target c.is_given c.found c.legal c.rest c.tokens
+pub receive_moves : (task : ℕ) (place : Place) (name : ℕ) (old : State) (mark : Mark) (new : State) → CopyRight task place 16 name old mark new → MovesReceive task name old mark new
+receive_moves task place name old mark new c = go c.given c.target c.is_given c.found c.legal c.mark_is c.rest c.tokens
   where
-    go : (d : Disposition) (target : Target) → disposition 16 ≡ Some d → lookup old task name ≡ Some target → IsLegal old task d target → new ≡ record (changed_by d target task name old) { ledger = new.ledger } →
-        Moves old.ledger new.ledger (taken_by d target task) (put_by d target place) → MovesReceive task name old new
-    go MoveReceive (Target.port p) is found legal rest tokens = record { port = p; found = found; others = right_moves (nat_lt 0 (held old task send p)) task name p place old new rest tokens }
-    go MoveReceive (Target.once p) is found legal rest tokens = absurd legal
-    go MoveReceive (Target.dead n) is found legal rest tokens = absurd legal
-    go MoveReceive (Target.set set) is found legal rest tokens = absurd legal
-    go MoveSend target is found legal rest tokens = absurd (let e : Some MoveReceive ≡ Some MoveSend = is in cc)
-    go MoveSendOnce target is found legal rest tokens = absurd (let e : Some MoveReceive ≡ Some MoveSendOnce = is in cc)
-    go CopySend target is found legal rest tokens = absurd (let e : Some MoveReceive ≡ Some CopySend = is in cc)
-    go MakeSend target is found legal rest tokens = absurd (let e : Some MoveReceive ≡ Some MakeSend = is in cc)
-    go MakeSendOnce target is found legal rest tokens = absurd (let e : Some MoveReceive ≡ Some MakeSendOnce = is in cc)
+    same_mark : (a b : Mark) → Some a ≡ Some b → b ≡ a
+    same_mark a b e = cc
+
+    go : (d : Disposition) (target : Target) → disposition 16 ≡ Some d → lookup old task name ≡ Some target → IsLegal old task d target → target_mark d target ≡ Some mark → new ≡ record (changed_by d target task name old) { ledger = new.ledger } →
+        Moves old.ledger new.ledger (taken_by d target task) (put_by d target place) → MovesReceive task name old mark new
+    go MoveReceive (Target.port p) is found legal marked rest tokens = record { port = p; found = found; mark_is = same_mark (to_port p) mark marked; bare = ap (λ (x : State). x.sets_of p) rest ∙ at_own old.sets_of p []; others = right_moves (nat_lt 0 (held old task send p)) task name p place old new rest tokens }
+    go MoveReceive (Target.once p) is found legal marked rest tokens = absurd legal
+    go MoveReceive (Target.dead n) is found legal marked rest tokens = absurd legal
+    go MoveReceive (Target.set set) is found legal marked rest tokens = absurd legal
+    go MoveSend target is found legal marked rest tokens = absurd (let e : Some MoveReceive ≡ Some MoveSend = is in cc)
+    go MoveSendOnce target is found legal marked rest tokens = absurd (let e : Some MoveReceive ≡ Some MoveSendOnce = is in cc)
+    go CopySend target is found legal marked rest tokens = absurd (let e : Some MoveReceive ≡ Some CopySend = is in cc)
+    go MakeSend target is found legal marked rest tokens = absurd (let e : Some MoveReceive ≡ Some MakeSend = is in cc)
+    go MakeSendOnce target is found legal marked rest tokens = absurd (let e : Some MoveReceive ≡ Some MakeSendOnce = is in cc)

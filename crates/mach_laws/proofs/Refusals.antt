@@ -322,7 +322,7 @@ module _ (task : ℕ) (header : Header) (written : WireBody) (s : State) where
   to_one p q first other a b = grind (arith, same_port, right_same, same_state, right_alike)
 
   -- and so is one message
-  copied_alike : (m n : Message) (mid other : State) → Copied task header written s m mid → Copied task header written s n other → (n ≡ m) × IsReordered mid other
+  pub copied_alike : (m n : Message) (mid other : State) → Copied task header written s m mid → Copied task header written s n other → (n ≡ m) × IsReordered mid other
   copied_alike m n mid other a b = grind (arith, right_same, same_state, to_one, reply_alike, body_alike, one_message)
 
   -- a refused reply isn't copied in

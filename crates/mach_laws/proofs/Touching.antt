@@ -1,9 +1,9 @@
 -- What a step's own part changes for those that wait.
-use Rattle.std.proofs.Common.{◌≡◌, ℕ, ◌+◌, length, List, [], ◌∷◌, ◌++◌, Option, Some, None, refl, sym, ap, subst, ◌∙◌, arith, true, false, Bool, inl, inr, All}
-use Rattle.std.specs.Prelude.{◌≢◌, ◌==◌, ◌&&◌, if◌then◌else◌, MatchBool, Contains, nat_lt, flat_map, map as list_map}
+use Rattle.std.proofs.Common.{◌≡◌, ℕ, ◌+◌, List, [], ◌∷◌, ◌++◌, Option, Some, None, refl, sym, ap, subst, ◌∙◌, arith, true, false, Bool, inl, inr, All}
+use Rattle.std.specs.Prelude.{◌≢◌, ◌==◌, ◌&&◌, if◌then◌else◌, MatchBool, Contains, nat_lt}
 use Rattle.std.proofs.lemmas.Bool.{false_from_ne_true, ne_eqb}
 use Rattle.std.proofs.lemmas.Bool.Decides.{eqb_tells}
-use Rattle.std.proofs.lemmas.List.Elements.{All-head, All-tail, All-cons, All-nil, All-append}
+use Rattle.std.proofs.lemmas.List.Elements.{All-head, All-tail, All-cons, All-nil}
 use Rattle.mach_types.specs.declared.calls.Waited.TheVariants.{Port, Set}
 use Rattle.mach_types.specs.declared.rights.Disposition.{Disposition}
 use Rattle.mach_types.specs.declared.rights.Disposition.TheVariants.{MoveReceive, MoveSend, MoveSendOnce, CopySend, MakeSend, MakeSendOnce}
@@ -11,17 +11,16 @@ use Rattle.mach_types.specs.declared.touched.Touched.{Touched}
 use Rattle.mach_types.specs.Touching.{Covers}
 use Rattle.mach_types.specs.Numbers.{disposition, kind_sent, null_word, dead_word, most_references, first_limit}
 use Rattle.mach_types.specs.Tokens.{Kind, receive, send, send_once, Request, dead_name, Place, in_task, in_message, in_request, Token, token, weigh, count, same_kind, is_in_task, is_of, is_held, Moves}
-use Rattle.mach_types.specs.Messages.{Mark, to_port, null, dead, ReplyRight, absent, present, Item, plain, rights, Body, Message, Entry}
-use Rattle.mach_types.specs.Grammar.{Wire, data_item, port_item, WireBody, Header}
-use Rattle.mach_types.specs.Bodies.{wire_words, body_words, item_rights, body_rights, reply_rights, message_rights, AllZip, SameItem, SameReply, SameBody, Through}
+use Rattle.mach_types.specs.Messages.{Mark, to_port, null, dead, ReplyRight, absent, present, Message, Entry}
+use Rattle.mach_types.specs.Grammar.{WireBody, Header}
+use Rattle.mach_types.specs.Bodies.{body_words, body_rights, Through}
 use Rattle.mach_model.specs.State.{State, Target, held, at, queue, same_request, without_name, with_name, gives}
 use Rattle.mach_model.specs.Death.{same_place}
 use Rattle.mach_model.specs.Lawful.{IsLawful}
 use Rattle.mach_model.specs.CopyIn.{taken_by, put_by, name_kept, changed_by, CopyRight, CopyWord, CopyReply, CopyCarried}
-use Rattle.mach_model.specs.CopyOut.{Named, NamedOnce, NamedFor, given_to, GiveRight, GiveMark, GiveWord}
+use Rattle.mach_model.specs.CopyOut.{Named, NamedOnce, NamedFor, given_to, GiveRight, GiveMark}
 use Rattle.mach_model.specs.Names.{renamed_token, Renames, AllocatesPort, with_set}
-use Rattle.mach_model.specs.ReceivedMeans.{IsReceived, received_words}
-use Rattle.mach_model.specs.Receive.{Takes, Receives}
+use Rattle.mach_model.specs.Receive.{Takes}
 use Rattle.mach_model.specs.Send.{place_at, Copied, Sends, entry}
 use Rattle.mach_model.specs.Tasks.{CreatesTask}
 use Rattle.mach_model.proofs.Names.{at_own, at_other}
@@ -178,7 +177,7 @@ word_keeps task place number word old mark new other w = go (word == null_word) 
     go false true x = keeps_same old new x.1
     go false false x = copy_keeps task place number word old mark new other x
 
-reply_keeps : (task : ℕ) (place : Place) (number word : ℕ) (old : State) (reply : ReplyRight) (new : State) → IsOther number → CopyReply task place number word old reply new → Keeps old new
+pub reply_keeps : (task : ℕ) (place : Place) (number word : ℕ) (old : State) (reply : ReplyRight) (new : State) → IsOther number → CopyReply task place number word old reply new → Keeps old new
 reply_keeps task place number word old absent new other r = keeps_same old new r.2
 reply_keeps task place number word old (present kind mark) new other r = word_keeps task place number word old mark new other r.1
 
@@ -280,9 +279,6 @@ sends_alike now task bytes old mid other l a b =
 
 -- ---- a receipt
 
-abbrev pub IsOtherRight : Kind × Mark → Type 0
-IsOtherRight r = same_kind receive r.0 ≡ false
-
 named_keeps : (task name : ℕ) (target : Target) (old new : State) → Named task name target old new → Keeps old new
 named_keeps task name target old new n =
     keeps_by old new _ n.rest (λ p. refl) (λ p. refl) (λ p. refl) (λ p. refl) (λ p. refl) (λ set. refl) (λ test is. ap (λ (x : State). count test x.ledger) n.rest)
@@ -311,7 +307,7 @@ right_keeps task place kind port old name new not g =
     keeps_by old new _ g.rest k.live k.log k.taken k.limit k.sets k.owner
     (moves_keep old.ledger new.ledger (token kind port place ∷ []) (given_to kind port task old) g.tokens (one_token kind port place not) (given_none kind port task old not))
 
-mark_keeps : (task : ℕ) (place : Place) (kind : Kind) (mark : Mark) (old : State) (word : ℕ) (new : State) → same_kind receive kind ≡ false → GiveMark task place kind mark old word new → Keeps old new
+pub mark_keeps : (task : ℕ) (place : Place) (kind : Kind) (mark : Mark) (old : State) (word : ℕ) (new : State) → same_kind receive kind ≡ false → GiveMark task place kind mark old word new → Keeps old new
 mark_keeps task place kind null old word new not g = keeps_same old new g.1
 mark_keeps task place kind dead old word new not g = keeps_same old new g.1
 mark_keeps task place kind (to_port p) old word new not g = go (old.live_port p) g
@@ -320,20 +316,13 @@ mark_keeps task place kind (to_port p) old word new not g = go (old.live_port p)
     go true x = right_keeps task place kind p old word new not x
     go false x = keeps_same old new x.1
 
-rights_keep : (task : ℕ) (place : Place) (old : State) (ws : List (ℕ × ℕ)) (rs : List (Kind × Mark)) (new : State) → All IsOtherRight rs → Through (GiveWord task place) old ws rs new → Keeps old new
-rights_keep task place old [] [] new other t = keeps_same old new t
-rights_keep task place old (w ∷ ws) (r ∷ rs) new other (mid, x, rest) =
-    keeps_trans old mid new (mark_keeps task place r.0 r.1 old w.1 mid (All-head IsOtherRight r rs other) x) (rights_keep task place mid ws rs new (All-tail IsOtherRight r rs other) rest)
-rights_keep task place old [] (r ∷ rs) new other t = absurd t
-rights_keep task place old (w ∷ ws) [] new other t = absurd t
-
 -- the destination's right is no receive right
 not_receive : (kind : Kind) → kind ≢ receive → same_kind receive kind ≡ false
 not_receive receive not = absurd (not refl)
 not_receive send not = refl
 not_receive send_once not = refl
 
-taken_changes : (port : ℕ) (e : Entry) (old new : State) → IsLawful old → Takes port e old new → Changes old new (Some port) None
+pub taken_changes : (port : ℕ) (e : Entry) (old new : State) → IsLawful old → Takes port e old new → Changes old new (Some port) None
 taken_changes port e old new l t =
     let not = not_receive e.message.kind (l.sent_here port (old.taken port) e t.front).1 in
     record {
@@ -347,63 +336,6 @@ taken_changes port e old new l t =
       owner = λ set there. ap (λ (x : State). x.set_owner set) t.rest;
       receives = moves_keep old.ledger new.ledger (token e.message.kind port (in_message port (old.taken port)) ∷ []) [] t.tokens (one_token e.message.kind port (in_message port (old.taken port)) not) (All-nil IsNoReceive);
     }
-
--- The text gives no receive right, with its reply or in its body.
-pub record ReceivesOthers (header : Header) (written : WireBody) : Type 0 where
-  pub reply : IsOther header.remote_kind
-  pub body : All IsOtherWord (body_words written)
-
-other_received : (number : ℕ) (kind : Kind) → IsReceived number kind → IsOther number → same_kind receive kind ≡ false
-other_received number receive is not = absurd (not is)
-other_received number send is not = refl
-other_received number send_once is not = refl
-
-reply_others : (header : Header) (reply : ReplyRight) → SameReply IsReceived header.remote_kind header.remote reply → IsOther header.remote_kind → All IsOtherRight (reply_rights reply)
-reply_others header absent same other = All-nil IsOtherRight
-reply_others header (present kind mark) same other = All-cons IsOtherRight (kind, mark) [] (other_received header.remote_kind kind same other) (All-nil IsOtherRight)
-
-all_left : {A : Type 0} (P : A → Type 0) (xs ys : List A) → All P (xs ++ ys) → All P xs
-all_left P [] ys all = All-nil P
-all_left P (x ∷ xs) ys all = All-cons P x xs (All-head P x (xs ++ ys) all) (all_left P xs ys (All-tail P x (xs ++ ys) all))
-
-all_right : {A : Type 0} (P : A → Type 0) (xs ys : List A) → All P (xs ++ ys) → All P ys
-all_right P [] ys all = all
-all_right P (x ∷ xs) ys all = all_right P xs ys (All-tail P x (xs ++ ys) all)
-
-kinds_other : (number : ℕ) (kind : Kind) (words : List ℕ) (marks : List Mark) → IsReceived number kind → length marks ≡ length words → All IsOtherWord (list_map (λ (w : ℕ). (number, w)) words) → All IsOtherRight (list_map (λ (m : Mark). (kind, m)) marks)
-kinds_other number kind words [] is same other = All-nil IsOtherRight
-kinds_other number kind [] (m ∷ ms) is same other = absurd (omega (arith, same))
-kinds_other number kind (w ∷ ws) (m ∷ ms) is same other =
-    All-cons IsOtherRight (kind, m) (list_map (λ (x : Mark). (kind, x)) ms) (other_received number kind is (All-head IsOtherWord (number, w) (list_map (λ (x : ℕ). (number, x)) ws) other))
-    (kinds_other number kind ws ms is (let e = same in omega (arith, e)) (All-tail IsOtherWord (number, w) (list_map (λ (x : ℕ). (number, x)) ws) other))
-
-item_others : (wire : Wire) (item : Item) → SameItem IsReceived wire item → All IsOtherWord (wire_words wire) → All IsOtherRight (item_rights item)
-item_others (data_item f n s c bytes padding) item same other = subst (λ (x : Item). All IsOtherRight (item_rights x)) (sym same) (All-nil IsOtherRight)
-item_others (port_item f number words) (rights g kind marks) same other = kinds_other number kind words marks same.1 same.2 other
-item_others (port_item f number words) (plain g n s c bytes padding) same other = absurd same
-
-items_others : (wires : List Wire) (items : List Item) → AllZip (SameItem IsReceived) wires items → All IsOtherWord (flat_map wire_words wires) → All IsOtherRight (flat_map item_rights items)
-items_others [] [] same other = All-nil IsOtherRight
-items_others (x ∷ xs) (y ∷ ys) same other =
-    All-append IsOtherRight (item_rights y) (flat_map item_rights ys) (item_others x y same.0 (all_left IsOtherWord (wire_words x) (flat_map wire_words xs) other))
-    (items_others xs ys same.1 (all_right IsOtherWord (wire_words x) (flat_map wire_words xs) other))
-items_others [] (y ∷ ys) same other = absurd same
-items_others (x ∷ xs) [] same other = absurd same
-
-body_others : (written : WireBody) (body : Body) → SameBody IsReceived written body → All IsOtherWord (body_words written) → All IsOtherRight (body_rights body)
-body_others (WireBody.raw bytes) (Body.raw others) same other = All-nil IsOtherRight
-body_others (WireBody.items wires) (Body.items items) same other = items_others wires items same other
-body_others (WireBody.raw bytes) (Body.items items) same other = absurd same
-body_others (WireBody.items wires) (Body.raw bytes) same other = absurd same
-
-receives_others : (header : Header) (written : WireBody) (m : Message) → SameReply IsReceived header.remote_kind header.remote m.reply → SameBody IsReceived written m.body → ReceivesOthers header written → All IsOtherRight (message_rights m)
-receives_others header written m reply body others =
-    All-append IsOtherRight (reply_rights m.reply) (body_rights m.body) (reply_others header m.reply reply others.reply) (body_others written m.body body others.body)
-
-pub receives_change : (task port room : ℕ) (bytes : List ℕ) (old mid : State) → IsLawful old → (r : Receives task port room bytes old mid) → ReceivesOthers r.header r.written → Changes old mid (Some port) None
-receives_change task port room bytes old mid l r others =
-    changes_end old r.taken mid (Some port) None (taken_changes port r.e old r.taken l r.takes)
-    (rights_keep task (in_message port (old.taken port)) r.taken (received_words r.header r.written) (message_rights r.e.message) mid (receives_others r.header r.written r.e.message r.reply r.body others) r.rights)
 
 -- ---- calls that change names and counts
 
@@ -447,6 +379,24 @@ limit_changes old mid p n e = record {
 }
 
 -- ---- something is made under a name
+
+-- what covers two changes covers both
+pub touches_both : (s x t : State) (touched : Touched) → TouchesOnly s x touched → TouchesOnly x t touched → TouchesOnly s t touched
+touches_both s x t touched k y = record {
+  ports = λ p not. let a = k.ports p not in let z = y.ports p not in record {
+    live = z.live ∙ a.live;
+    waiting = z.waiting ∙ a.waiting;
+    limit = z.limit ∙ a.limit;
+    sets = z.sets ∙ a.sets;
+    with_task = λ task. z.with_task task ∙ a.with_task task;
+    in_queue = λ q j. z.in_queue q j ∙ a.in_queue q j;
+  };
+  sets = λ set there not. let a = k.sets set there not in let z = y.sets set (λ none. there (sym a.owner ∙ none)) not in record {
+    owner = z.owner ∙ a.owner;
+    members = λ p. ((λ in_it. (a.members p).0 ((z.members p).0 in_it)), (λ in_it. (z.members p).1 ((a.members p).1 in_it)));
+    waiting = λ p in_it. z.waiting p ((a.members p).1 in_it) ∙ a.waiting p in_it;
+  };
+}
 
 -- from a state that differs in nothing that those see who wait
 pub touches_before : (s x t : State) (touched : Touched) → Keeps s x → TouchesOnly x t touched → TouchesOnly s t touched

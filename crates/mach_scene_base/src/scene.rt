@@ -76,7 +76,6 @@ pub struct PortPlaces {
 /// What stands where in the states of a history.
 ///
 /// It takes some 64 bytes for each change of what stands at a place, and for each place.
-#[derive(Drop)]
 pub struct Scene {
     alloc: Global,
     // How many states were noted.
@@ -89,6 +88,22 @@ pub struct Scene {
     // The number among `ports` of each port by its identity, from the first that was noted.
     first_port: u64,
     queue: Queue,
+}
+
+/// Drops the places and what stood at them. It is written out, so that it is proved here alone, and not in each crate that drops one.
+impl Drop for Scene {
+    fn drop(self) {
+        let Scene {
+            alloc: _,
+            states: _,
+            places: _,
+            now: _,
+            tasks: _,
+            ports: _,
+            first_port: _,
+            queue: _,
+        } = self;
+    }
 }
 
 impl Scene {
@@ -163,7 +178,7 @@ impl Scene {
 
     /// Notes the tasks and their names.
     fn note_tasks(&mut self, state: &State<'_>) -> Result<(), AllocError> {
-        for number in 0..state.follower.tables().spaces.len() {
+        for number in 0..state.follower.tables().tasks_made() {
             if number >= self.tasks.len() {
                 let frame = self.add_place(Spot::Task(number))?;
                 self.tasks.push(TaskPlaces {

@@ -16,7 +16,7 @@ const REQUESTS: usize = 39;
 impl<'a> State<'a> {
     /// Writes all tasks that were ever made, with their names. Linear in them, and in the members of sets.
     pub(crate) fn write_tasks(&self, out: &mut Text) -> Result<(), AllocError> {
-        for number in 0..self.follower.tables().spaces.len() {
+        for number in 0..self.follower.tables().tasks_made() {
             if let Ok(number) = u32::try_from(number) {
                 self.write_task(TaskId::new(number), out)?;
             }

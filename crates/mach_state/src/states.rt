@@ -49,7 +49,7 @@ pub fn name_state(world: &World, task: TaskId, name: Name) -> Option<NameState>
     ensures { (s : State) → Shows world.now s → IsNameSaid s task name result }
 {
     let standing = world.lookup(task, name)?;
-    let notify = match world.requests.names.get(task, name) {
+    let notify = match world.find_on_name(task, name) {
         Some(request) => Some(request.notify),
         None => None,
     };
@@ -61,7 +61,7 @@ pub fn port_state(world: &World, port: PortId) -> Option<PortState>
     ensures { (s : State) → Shows world.now s → IsPortSaid s port result }
 {
     let attributes = world.ports.attributes(port)?;
-    let counts = world.ledger.counts(port)?;
+    let counts = world.counts(port)?;
     Some(PortState {
         holder: attributes.holder,
         set: attributes.set,
@@ -71,8 +71,8 @@ pub fn port_state(world: &World, port: PortId) -> Option<PortState>
         sequence: attributes.sequence,
         send_rights: u64::from(counts.send),
         once_rights: u64::from(counts.send_once) + u64::from(counts.destination),
-        no_senders: world.requests.no_senders.get(port.number()),
-        port_destroyed: world.requests.port_destroyed.get(port.number()),
+        no_senders: world.find_no_senders(port),
+        port_destroyed: world.find_port_destroyed(port),
     })
 }
 

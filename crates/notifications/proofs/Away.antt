@@ -13,12 +13,13 @@ use Rattle.number_map.specs.Maps.{MapView}
 use Rattle.request_table.specs.declared.Request.{Request as NameRequest}
 use Rattle.request_table.specs.Requests.{RequestsView, name_key, key_of}
 use Rattle.copyin_base.specs.Requests.{RequestTablesView, notify_of, rights_kept, rights_went, AreEnded, RequestsAgree}
+use Rattle.copyin_base.specs.Asking.{taken_at}
 use Rattle.copyin_base.proofs.Putting.{get_removed, put_own, put_other}
 use Rattle.copyin_base.proofs.Requesting.{same_key}
 use Rattle.notifications.specs.declared.request.Subject.{Subject}
 use Rattle.notifications.specs.declared.request.Subject.TheVariants.{Receive, Senders, Live, Dead}
 use Rattle.notifications.specs.Requesting.{request_of}
-use Rattle.notifications.specs.Putting.{taken_at, name_taken, taken_away, with_kept}
+use Rattle.notifications.specs.Putting.{name_taken, taken_away, with_kept}
 
 -- ---- requests whose names went
 

@@ -41,10 +41,10 @@ use Rattle.copyin_base.proofs.Agreeing.{live_put, ports_put}
 use Rattle.copyin_base.proofs.Counting.{right_taken}
 use Rattle.copyin_base.proofs.Requesting.{requests_stay}
 use Rattle.copyin_base.proofs.Taking.{Without, take_lying}
-use Rattle.copyin_base.specs.declared.notice.Notice.TheVariants as notice
-use Rattle.copyin_base.specs.declared.message.Carried.{Carried}
-use Rattle.copyin_base.specs.declared.message.Mark.{Mark}
-use Rattle.copyin_base.specs.declared.message.Mark.TheVariants as mark
+use Rattle.copyin_base.specs.declared.Notice.TheVariants as notice
+use Rattle.copyin_base.specs.declared.Carried.{Carried}
+use Rattle.copyin_base.specs.declared.Mark.{Mark}
+use Rattle.copyin_base.specs.declared.Mark.TheVariants as mark
 use Rattle.copyin_base.specs.Posted.{with_notice, with_posted, IsLeft}
 use Rattle.copyin_base.proofs.SendersNoted.{noted_agrees, noted_holders, noted_carriers, noted_slots, noted_requested, noted_none_lost, keeps_senders_refl}
 use Rattle.copyin_base.proofs.Listed.{listed_one, none_listed, listed_later}

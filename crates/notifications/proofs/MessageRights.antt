@@ -26,17 +26,17 @@ use Rattle.rights.specs.Ledger.{LedgerView, IsEntered, counts_of, taken, shifted
 use Rattle.port.specs.Holding.{held}
 use Rattle.port.specs.Ports.{PortView, with_port}
 use Rattle.port.specs.declared.Holder.TheVariants.{Nobody}
-use Rattle.copyin_base.specs.declared.message.Carried.{Carried}
-use Rattle.copyin_base.specs.declared.message.Mark.{Mark}
-use Rattle.copyin_base.specs.declared.message.Mark.TheVariants as mark
-use Rattle.copyin_base.specs.declared.notice.Notice.TheVariants as notice
+use Rattle.copyin_base.specs.declared.Carried.{Carried}
+use Rattle.copyin_base.specs.declared.Mark.{Mark}
+use Rattle.copyin_base.specs.declared.Mark.TheVariants as mark
+use Rattle.copyin_base.specs.declared.Notice.TheVariants as notice
 use Rattle.copyin_base.specs.Changes.{NotesSenderless, NotesSenders, SetsHolder}
 use Rattle.copyin_base.specs.Kept.{Kept}
 use Rattle.copyin_base.specs.Shows.{SlotsSuffice, HoldersAgree, CarriersAgree, CarriesReceive, RequestsStand}
 use Rattle.copyin_base.specs.Worlds.{WorldView, port_at}
 use Rattle.copyin_base.proofs.Putting.{each_put, put_own, put_other}
 use Rattle.copyin_base.proofs.SendersNoted.{counts_own, counts_other, noted_holders, noted_carriers, noted_requested, KeepsSends, sends_taken, sends_shifted, sends_elsewhere, keeps_senders, senders_kept, senders_fallen}
-use Rattle.copyin_base.specs.declared.notice.Notice.TheVariants.{SendOnce}
+use Rattle.copyin_base.specs.declared.Notice.TheVariants.{SendOnce}
 use Rattle.copyin_base.specs.Queued.{notice_kept}
 use Rattle.copyin_base.proofs.Carriers.{IsCarried, put_queue, carriers_held, carriers_queued}
 use Rattle.copyin_base.proofs.Gets.{of_some}

@@ -25,7 +25,7 @@ use Rattle.copyin_base.specs.Worlds.{WorldView, port_at, entry_at, with_space, p
 use Rattle.copyin_base.proofs.Reading.{reads_same, get_read}
 use Rattle.copyin_base.specs.Shows.{Shows, SlotsSuffice, Agrees}
 use Rattle.copyin_base.proofs.Requested.{left_entry, left_other}
-use Rattle.copyin_base.specs.declared.notice.Notice.TheVariants as notice
+use Rattle.copyin_base.specs.declared.Notice.TheVariants as notice
 use Rattle.copyin_base.specs.Changes.{PutsLeft, NotesSenderless, IsSenderless}
 use Rattle.copyin_base.specs.Queued.{notice_kept}
 use Rattle.copyin_base.proofs.Putting.{put_own}

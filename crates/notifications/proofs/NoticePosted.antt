@@ -21,7 +21,7 @@ use Rattle.mach_model.proofs.TurnsMade.{start}
 use Rattle.rights.specs.Ledger.{counts_of, shifted}
 use Rattle.rights.specs.Counts.{no_rights, one_shifted}
 use Rattle.port.specs.Ports.{PortView}
-use Rattle.copyin_base.specs.declared.notice.Notice.{Notice}
+use Rattle.copyin_base.specs.declared.Notice.{Notice}
 use Rattle.copyin_base.specs.Kept.{Kept}
 use Rattle.copyin_base.specs.Requests.{notify_of, RequestsAgree}
 use Rattle.copyin_base.specs.Shows.{SlotsSuffice, Agrees}
@@ -30,7 +30,7 @@ use Rattle.copyin_base.specs.Queued.{notice_kept, notice_of}
 use Rattle.copyin_base.proofs.Agreeing.{live_put}
 use Rattle.copyin_base.proofs.Counting.{once_queued}
 use Rattle.copyin_base.proofs.Lost.{with_message}
-use Rattle.copyin_base.proofs.Notices.{keeps_notice}
+use Rattle.tables_base.proofs.Notices.{keeps_notice}
 use Rattle.copyin_base.proofs.Putting.{put_other}
 use Rattle.copyin_base.proofs.Requesting.{requests_stay}
 use Rattle.copyin.proofs.Sent.{with_entry, once_more, onces_other, ports_longer, appended_agrees}

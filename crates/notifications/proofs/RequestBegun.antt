@@ -30,8 +30,8 @@ use Rattle.name_space.specs.declared.Entry.{Entry}
 use Rattle.name_space.specs.Names.{Names, SpaceView}
 use Rattle.request_table.specs.declared.Request.{Request as NameRequest}
 use Rattle.request_table.specs.Requests.{name_key, key_of}
-use Rattle.copyin_base.specs.declared.message.Carried.{Carried}
-use Rattle.copyin_base.specs.declared.message.Mark.TheVariants as mark
+use Rattle.copyin_base.specs.declared.Carried.{Carried}
+use Rattle.copyin_base.specs.declared.Mark.TheVariants as mark
 use Rattle.copyin_base.specs.Shows.{Agrees, Shows, ReferencesAgree, RequestsStand, target_of, SlotsSuffice}
 use Rattle.copyin_base.specs.Worlds.{WorldView, entry_in, entry_at, put, space_at, space_in, HasTask}
 use Rattle.copyin_base.proofs.Gets.{same_found}
@@ -40,7 +40,7 @@ use Rattle.copyin_base.proofs.Spaces.{space-set_same}
 use Rattle.copyin_base.specs.Requests.{RequestTablesView, notify_of, rights_kept, rights_went, RequestsAgree, AreEnded, left_by, requests_after}
 use Rattle.copyin_base.proofs.Counting.{counts_same}
 use Rattle.copyin_base.proofs.Taking.{Without, take_lying}
-use Rattle.copyin_base.specs.declared.message.Mark.{Mark}
+use Rattle.copyin_base.specs.declared.Mark.{Mark}
 use Rattle.copyin_base.specs.Changes.{with_slots}
 use Rattle.copyin_base.proofs.Requesting.{same_key}
 use Rattle.copyin_base.proofs.Roomier.{room_entry, room_has_task}

@@ -43,12 +43,13 @@ use Rattle.request_table.specs.Requests.{name_key, key_of}
 use Rattle.copyin_base.specs.Serving.{IsRefused, Declines, IsAllowed, Completes}
 use Rattle.copyin_base.specs.Shows.{target_of, Shows, Agrees, SlotsSuffice}
 use Rattle.copyin_base.specs.Worlds.{WorldView, entry_in, entry_at, space_at, HasTask, port_at}
-use Rattle.copyin_base.specs.declared.message.Mark.TheVariants as mark
+use Rattle.copyin_base.specs.declared.Mark.TheVariants as mark
 use Rattle.copyin_base.proofs.Gets.{same_found}
 use Rattle.copyin_base.proofs.Told.{found, names_port, space_there}
 use Rattle.copyin_base.specs.Requests.{notify_of, rights_kept, RequestTablesView}
+use Rattle.copyin_base.specs.Asking.{taken_at}
 use Rattle.copyin_base.proofs.Acting.{refused, refused_later, Leaves-so, done_leaving, makes_none, none_left}
-use Rattle.copyin_base.specs.declared.message.Mark.{Mark}
+use Rattle.copyin_base.specs.declared.Mark.{Mark}
 use Rattle.copyin_base.specs.Stands.{Stands}
 use Rattle.copyin_base.proofs.SendersNoted.{counts_own, KeepsSends}
 use Rattle.copyin_base.proofs.Tied.{stands_is_tied}
@@ -56,7 +57,7 @@ use Rattle.copyin_base.specs.Kept.{Kept}
 use Rattle.copyin_base.specs.Posted.{with_posted}
 use Rattle.copyin_base.proofs.Listed.{none_listed}
 use Rattle.copyin_base.proofs.Requesting.{requests_stay}
-use Rattle.copyin_base.specs.declared.notice.Notice.{Notice}
+use Rattle.copyin_base.specs.declared.Notice.{Notice}
 use Rattle.copyin_base.specs.Wanted.{room_of}
 use Rattle.copyin_base.proofs.Spares.{keeps_names, keeps_space, left_keeps}
 use Rattle.dispositions.specs.Copies.{copied_from}
@@ -76,7 +77,7 @@ use Rattle.notifications.specs.declared.request.Paying.{Paying}
 use Rattle.notifications.specs.declared.request.Subject.{Subject}
 use Rattle.notifications.specs.declared.request.Subject.TheVariants.{Receive, Senders, Live, Dead}
 use Rattle.notifications.specs.declared.request.Variant.{Variant}
-use Rattle.notifications.specs.Putting.{taken_away, mark_for, taken_at, name_taken, IsNotKept, without, CanEnd, Ends, CanPut, Goes, CanRenew, KeepsNew, Puts, TellsDead, CarriesOut}
+use Rattle.notifications.specs.Putting.{taken_away, mark_for, name_taken, IsNotKept, without, CanEnd, Ends, CanPut, Goes, CanRenew, KeepsNew, Puts, TellsDead, CarriesOut}
 use Rattle.notifications.proofs.RightBack.{Back, comes, none_noted, first_noted, full_noted, is_subject_live}
 use Rattle.notifications.proofs.RequestBegun.{Begun, begun_none, begun_some, ready_shows, ready_ledger, pays_ready, none_kept, dead_keeps, tokens_at, copied_at, total_at, held_at, is_legal, is_alive, Paid, paid_world, paid_then, can_copy, lives as paying_lives, requests_changed}
 use Rattle.notifications.specs.declared.request.Asked.{Asked}

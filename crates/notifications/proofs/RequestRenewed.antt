@@ -17,7 +17,7 @@ use Rattle.rights.specs.Ledger.{counts_of}
 use Rattle.name_space.specs.declared.Entry.{Entry}
 use Rattle.copyin_base.specs.Shows.{Shows, Agrees, SlotsSuffice}
 use Rattle.copyin_base.specs.Worlds.{WorldView, HasTask}
-use Rattle.copyin_base.specs.declared.notice.Notice.TheVariants as notice
+use Rattle.copyin_base.specs.declared.Notice.TheVariants as notice
 use Rattle.copyin_base.specs.Posted.{with_notice}
 use Rattle.copyin_base.proofs.Acting.{Leaves-so}
 use Rattle.copyin_base.proofs.SendersNoted.{sends_shifted}

@@ -32,7 +32,7 @@ use Rattle.copyin_base.specs.Changes.{SameButRoom, with_slots, CanPutLeft, PutsL
 use Rattle.copyin_base.specs.Requests.{RequestTablesView, notify_of, rights_kept, rights_went, RequestsAgree}
 use Rattle.copyin_base.specs.Wanted.{room_of}
 use Rattle.copyin_base.specs.Worlds.{WorldView, entry_in, entry_at, space_at, HasTask}
-use Rattle.copyin_base.specs.declared.notice.Notice.TheVariants as notice
+use Rattle.copyin_base.specs.declared.Notice.TheVariants as notice
 use Rattle.copyin_base.specs.Shows.{Agrees, SlotsSuffice, RequestsStand, Shows, HasCount, target_of}
 use Rattle.copyin_base.proofs.Acting.{Leaves-so, done_leaving}
 use Rattle.copyin_base.proofs.Changing.{changed_agrees}

@@ -12,6 +12,7 @@ use Rattle.port.specs.Ports.{IsLive}
 use Rattle.request_table.specs.declared.Request.{Request}
 use Rattle.request_table.specs.Requests.{RequestsView, name_key, key_of}
 use Rattle.copyin_base.specs.Requests.{RequestTablesView}
+use Rattle.copyin_base.specs.Asking.{taken_at}
 use Rattle.copyin_base.specs.Shows.{IsOnName, RequestsStand}
 use Rattle.copyin_base.specs.Worlds.{WorldView, entry_at}
 use Rattle.copyin_base.proofs.Gets.{same_found}
@@ -19,7 +20,7 @@ use Rattle.copyin_base.proofs.Putting.{get_removed, put_own, put_other}
 use Rattle.copyout.proofs.GivenAll.{AreSound}
 use Rattle.notifications.specs.declared.request.Subject.{Subject}
 use Rattle.notifications.specs.declared.request.Subject.TheVariants.{Receive, Senders, Live, Dead}
-use Rattle.notifications.specs.Putting.{taken_at, name_taken, taken_away, with_kept}
+use Rattle.notifications.specs.Putting.{name_taken, taken_away, with_kept}
 
 was_there : {V : Type 0} (m : map.FinMap nat_cmp V) (k key : ℕ) (o : Option V) → map.get (map.remove m k) key ≡ o → (x : V) → o ≡ Some x → map.get m key ≡ Some x
 was_there m k key o is x some = elim (eqb_tells key k) [

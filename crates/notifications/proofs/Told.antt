@@ -4,10 +4,10 @@ use Rattle.std.specs.Prelude.{Contains}
 use Rattle.std.specs.FinMap as map
 use Rattle.std.specs.Ordering.{nat_cmp}
 use Rattle.mach_types.specs.declared.rights.Disposition.TheVariants.{MoveReceive}
-use Rattle.copyin_base.specs.declared.message.Carried.{Carried}
-use Rattle.copyin_base.specs.declared.message.Mark.TheVariants as mark
+use Rattle.copyin_base.specs.declared.Carried.{Carried}
+use Rattle.copyin_base.specs.declared.Mark.TheVariants as mark
 use Rattle.port.specs.Ports.{PortView}
-use Rattle.copyin_base.specs.declared.notice.Notice.{Notice}
+use Rattle.copyin_base.specs.declared.Notice.{Notice}
 use Rattle.copyin_base.specs.Kept.{Kept}
 use Rattle.copyin_base.specs.Queued.{notice_kept}
 use Rattle.copyin_base.specs.Worlds.{WorldView}

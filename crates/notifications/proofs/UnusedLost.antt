@@ -22,7 +22,7 @@ use Rattle.port.specs.Ports.{PortView}
 use Rattle.rights.specs.declared.Counts.{Counts}
 use Rattle.rights.specs.Counts.{one_shifted}
 use Rattle.rights.specs.Ledger.{LedgerView, counts_of, shifted}
-use Rattle.copyin_base.specs.declared.notice.Notice.TheVariants as notice
+use Rattle.copyin_base.specs.declared.Notice.TheVariants as notice
 use Rattle.copyin_base.specs.Kept.{Kept}
 use Rattle.copyin_base.specs.Posted.{with_posted}
 use Rattle.copyin_base.specs.Queued.{notice_kept}

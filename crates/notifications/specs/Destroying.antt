@@ -7,10 +7,10 @@ use Rattle.mach_types.specs.Tokens.{Kind, receive, send, send_once, same_kind}
 use Rattle.port.specs.Holding.{CanHold}
 use Rattle.port.specs.Ports.{PortView}
 use Rattle.rights.specs.Ledger.{IsEntered, counts_of}
-use Rattle.copyin_base.specs.declared.message.Carried.{Carried}
-use Rattle.copyin_base.specs.declared.message.Mark.{Mark}
-use Rattle.copyin_base.specs.declared.message.Mark.TheVariants as mark
-use Rattle.copyin_base.specs.declared.notice.Notice.TheVariants as notice
+use Rattle.copyin_base.specs.declared.Carried.{Carried}
+use Rattle.copyin_base.specs.declared.Mark.{Mark}
+use Rattle.copyin_base.specs.declared.Mark.TheVariants as mark
+use Rattle.copyin_base.specs.declared.Notice.TheVariants as notice
 use Rattle.copyin_base.specs.Kept.{Kept}
 use Rattle.copyin_base.specs.Shows.{SlotsSuffice}
 use Rattle.copyin_base.specs.Worlds.{WorldView, port_at}

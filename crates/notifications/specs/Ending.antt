@@ -8,7 +8,7 @@ use Rattle.name_space.specs.declared.Entry.{Entry}
 use Rattle.name_space.specs.declared.Entry.TheVariants as entry
 use Rattle.name_space.specs.Names.{Names}
 use Rattle.rights.specs.Ledger.{IsEntered, counts_of}
-use Rattle.copyin_base.specs.declared.notice.Notice.TheVariants as notice
+use Rattle.copyin_base.specs.declared.Notice.TheVariants as notice
 use Rattle.copyin_base.specs.Changes.{NotesSenders}
 use Rattle.copyin_base.specs.Posted.{with_posted, IsLeft}
 use Rattle.copyin_base.specs.Requests.{request_left}

@@ -8,11 +8,12 @@ use Rattle.port.specs.Ports.{PortView}
 use Rattle.rights.specs.Ledger.{counts_of}
 use Rattle.request_table.specs.declared.Request.{Request}
 use Rattle.request_table.specs.Requests.{RequestsView, name_key, with_request, without_request}
-use Rattle.copyin_base.specs.declared.message.Mark.{Mark}
-use Rattle.copyin_base.specs.declared.message.Mark.TheVariants as mark
-use Rattle.copyin_base.specs.declared.notice.Notice.TheVariants as notice
+use Rattle.copyin_base.specs.declared.Mark.{Mark}
+use Rattle.copyin_base.specs.declared.Mark.TheVariants as mark
+use Rattle.copyin_base.specs.declared.Notice.TheVariants as notice
 use Rattle.copyin_base.specs.Changes.{PutsLeft}
 use Rattle.copyin_base.specs.Kept.{Kept}
+use Rattle.copyin_base.specs.Asking.{port_taken}
 use Rattle.copyin_base.specs.Requests.{RequestTablesView}
 use Rattle.copyin_base.specs.Worlds.{WorldView, entry_at, port_at}
 use Rattle.mach_types.specs.declared.rights.Disposition.TheVariants.{MoveSendOnce}
@@ -29,14 +30,6 @@ use Rattle.copyin_base.specs.Losing.{CanPost, Posts}
 use Rattle.notifications.specs.Room.{HasPlace}
 
 -- ---- the request that stands there goes
-
-abbrev pub taken_at : MapView ℕ → (port : ℕ) → Option ℕ → MapView ℕ
-taken_at m p (Some notify) = record { map = map.remove m.map p; room = m.room + 1 }
-taken_at m p None = m
-
--- the notify ports without that of a port, if it has one
-abbrev pub port_taken : MapView ℕ → (port : ℕ) → MapView ℕ
-port_taken m p = taken_at m p (map.get m.map p)
 
 abbrev pub name_taken : RequestsView → Option Request → RequestsView
 name_taken v (Some r) = without_request v r

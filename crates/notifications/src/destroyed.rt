@@ -1,7 +1,7 @@
 //! A message is destroyed in a step's own part.
 ghost use Rattle.std.specs.Option.{option_to_list};
 ghost use Rattle.mach_types.specs.Numbers.{kind_sent};
-ghost use Rattle.copyin_base.specs.declared.message.Mark.TheVariants as mark;
+ghost use Rattle.copyin_base.specs.declared.Mark.TheVariants as mark;
 ghost use Rattle.notifications.specs.Destroying.{LosesRight, LosesMark, LosesAll, DestroysMessage, CanLoseRight, CanLoseMark, CanLoseAll, CanDestroy};
 
 use copyin_base::{Carried, Mark, Notice, Queued, World};

@@ -15,7 +15,7 @@ ghost use Rattle.copyin_base.specs.Wanted.{LacksRoomFor, LacksSlots, KeepsSpares
 ghost use Rattle.notifications.specs.Room.{HasNameRoom, with_place, LacksPlace, place_for, made_by, HasPlace, SameButRooms, Readies};
 ghost use Rattle.copyin_base.specs.Worlds.{HasTask, entry_at, port_at};
 ghost use Rattle.copyin_base.specs.Shows.{SlotsSuffice};
-ghost use Rattle.copyin_base.specs.declared.message.Mark.TheVariants as mark_of;
+ghost use Rattle.copyin_base.specs.declared.Mark.TheVariants as mark_of;
 ghost use Rattle.mach_types.specs.declared.rights.Disposition.TheVariants as disposition_of;
 ghost use Rattle.copyin.specs.Copies.{CopiesRight};
 ghost use Rattle.copyin.specs.Planned.{CanCopy};
@@ -23,17 +23,16 @@ ghost use Rattle.copyout.specs.Giving.{GivesMark};
 ghost use Rattle.copyout.specs.Ready.{CanGive};
 ghost use Rattle.copyin_base.specs.Losing.{CanPost};
 ghost use Rattle.notifications.specs.Wanted.{WantsToRequest, LeavesRequest, MakesSlotsFor};
-ghost use Rattle.notifications.specs.Putting.{port_taken, taken_away, mark_for, IsNotKept, with_kept, IsTold, TellsDead, CanPut, Puts, without, CanEnd, Ends, CanRenew, Renews, CanCarryOut, CarriesOut};
+ghost use Rattle.notifications.specs.Putting.{mark_for, IsNotKept, KeepsNew, IsTold, TellsDead, CanPut, Puts, without, CanEnd, Ends, CanRenew, Renews, CanCarryOut, CarriesOut};
 ghost use Rattle.notifications.specs.Requesting.{IsMisasked, variant_number, CanPay, GoesNot, capability_guards, Pays, entry_left, names_left, IsSubject, subject_guards, previous_in, ComesOut, is_made_by, rights_then, LacksSpace, MayRequest};
 
 use copyin::copy_name;
-use copyin_base::{Carried, Code, Mark, Notice, RequestTables, World};
+use copyin_base::{Carried, Code, Mark, Notice, World};
 use copyout::give_right;
 use dispositions::copy_right;
 use mach_types::limits::{MOST_NAMES, MOST_REFERENCES, MOST_RIGHTS};
 use mach_types::{Disposition, KernReturn, Name, PortId, Reply, TaskId};
 use name_space::Entry;
-use number_map::NumberMap;
 use request_table::Request;
 use std::alloc::AllocError;
 use user_refs::UserRefs;
@@ -358,10 +357,10 @@ fn previous_of(world: &World, task: TaskId, name: Name, subject: &Subject) -> Op
     ensures { result ≡ previous_in world.now.requests task name subject.now }
 {
     match subject {
-        Subject::Receive(port) => world.requests.port_destroyed.get(port.number()),
-        Subject::Senders(port) => world.requests.no_senders.get(port.number()),
+        Subject::Receive(port) => world.find_port_destroyed(*port),
+        Subject::Senders(port) => world.find_no_senders(*port),
         Subject::Live(_) | Subject::Dead(_) => {
-            let request = world.requests.names.get(task, name)?;
+            let request = world.find_on_name(task, name)?;
             Some(request.notify)
         }
     }
@@ -405,7 +404,7 @@ fn count_names(world: &World, task: TaskId, paying: &Option<Paying>) -> usize
 fn lacks_rights(world: &World, paying: &Option<Paying>) -> bool
     ensures { MatchBool result (most_rights < rights_then world.now paying.now) (rights_then world.now paying.now ≤ most_rights) }
 {
-    let total = world.ledger.total();
+    let total = world.total_rights();
     is_made(paying) && total == MOST_RIGHTS
 }
 
@@ -444,15 +443,15 @@ fn reserve_name(world: &mut World, task: TaskId, previous: Option<PortId>) -> Re
 }
 
 /// Makes room for a request on the subject; none is kept on a name that is dead.
-fn reserve_request(requests: &mut RequestTables, subject: Subject) -> Result<(), AllocError>
-    ensures ok { OnOk result (requests.new ≡ with_place requests.old subject) }
-    ensures err { OnErr result (requests.new ≡ requests.old) }
-    ensures lacks { OnErr result (LacksPlace requests.old subject) }
+fn reserve_request(world: &mut World, subject: Subject) -> Result<(), AllocError>
+    ensures ok { OnOk result (world.new ≡ record world.old { requests = with_place world.old.requests subject }) }
+    ensures err { OnErr result (world.new ≡ world.old) }
+    ensures lacks { OnErr result (LacksPlace world.old.requests subject) }
 {
     match subject {
-        Subject::Receive(_) => requests.port_destroyed.reserve(1),
-        Subject::Senders(_) => requests.no_senders.reserve(1),
-        Subject::Live(_) => requests.names.reserve(1),
+        Subject::Receive(_) => world.reserve_port_destroyed(),
+        Subject::Senders(_) => world.reserve_no_senders(),
+        Subject::Live(_) => world.reserve_on_name(),
         Subject::Dead(_) => Ok(()),
     }
 }
@@ -482,7 +481,7 @@ fn reserve_place(
     if paying.is_none() {
         return Ok(());
     }
-    match reserve_request(&mut world.requests, subject) {
+    match reserve_request(world, subject) {
         Ok(()) => Ok(()),
         Err(_) => Err(KernReturn::ResourceShortage),
     }
@@ -521,24 +520,15 @@ fn pay(world: &mut World, task: TaskId, paying: &Paying)
     copy_name(world, task, paying.name, Carried { given, mark });
 }
 
-/// Takes a notify port away, if one is kept for the port; its place stays.
-fn take_port(map: &mut NumberMap<PortId>, port: PortId)
-    ensures { map.new ≡ port_taken map.old port }
-{
-    if map.get(port.number()).is_some() {
-        map.release(port.number());
-    }
-}
-
 /// The request on the subject goes, if one stands; its place stays.
-fn take_away(requests: &mut RequestTables, task: TaskId, name: Name, subject: Subject)
-    ensures { requests.new ≡ taken_away requests.old task name subject }
+fn end_request(world: &mut World, task: TaskId, name: Name, subject: Subject)
+    ensures { world.new ≡ without world.old task name subject }
 {
     match subject {
-        Subject::Receive(port) => take_port(&mut requests.port_destroyed, port),
-        Subject::Senders(port) => take_port(&mut requests.no_senders, port),
+        Subject::Receive(port) => world.end_port_destroyed(port),
+        Subject::Senders(port) => world.end_no_senders(port),
         Subject::Live(_) | Subject::Dead(_) => {
-            requests.names.remove(task, name);
+            world.take_on_name(task, name);
         }
     }
 }
@@ -565,15 +555,15 @@ fn give_previous(world: &mut World, task: TaskId, previous: Option<PortId>) -> N
 }
 
 /// Keeps the request, in a place that was made for it.
-fn keep(requests: &mut RequestTables, task: TaskId, name: Name, subject: Subject, notify: PortId)
-    requires none { IsNotKept requests.old task name subject }
-    requires place { HasPlace requests.old subject }
-    ensures { requests.new ≡ with_kept requests.old task name subject notify }
+fn keep(world: &mut World, task: TaskId, name: Name, subject: Subject, notify: PortId)
+    requires none { IsNotKept world.old.requests task name subject }
+    requires place { HasPlace world.old.requests subject }
+    ensures { KeepsNew world.old task name subject notify world.new }
 {
     match subject {
-        Subject::Receive(port) => requests.port_destroyed.insert(port.number(), notify),
-        Subject::Senders(port) => requests.no_senders.insert(port.number(), notify),
-        Subject::Live(port) => requests.names.insert(Request {
+        Subject::Receive(port) => world.keep_port_destroyed(port, notify),
+        Subject::Senders(port) => world.keep_no_senders(port, notify),
+        Subject::Live(port) => world.keep_on_name(Request {
             task,
             name,
             port,
@@ -589,7 +579,7 @@ fn told_at_once(world: &World, port: PortId, sync: u32) -> Option<u32>
     ensures some { IfSome result (λ number. IsTold world.now port sync number) }
     ensures none { IfNone result ((number : ℕ) → ¬ (IsTold world.now port sync number)) }
 {
-    let sends = match world.ledger.counts(port) {
+    let sends = match world.counts(port) {
         Some(counts) => counts.send,
         None => 0,
     };
@@ -624,19 +614,12 @@ fn put(world: &mut World, task: TaskId, name: Name, sync: u32, subject: Subject,
         Subject::Dead(references) => tell_dead(world, task, name, references, notify),
         Subject::Senders(port) => match told_at_once(world, port, sync) {
             Some(number) => world.post(notify, Notice::NoSenders(number)),
-            None => keep(&mut world.requests, task, name, subject, notify),
+            None => keep(world, task, name, subject, notify),
         },
         Subject::Receive(_) | Subject::Live(_) => {
-            keep(&mut world.requests, task, name, subject, notify);
+            keep(world, task, name, subject, notify);
         }
     }
-}
-
-/// The request on the subject goes, if one stands.
-fn end_request(world: &mut World, task: TaskId, name: Name, subject: Subject)
-    ensures { world.new ≡ without world.old task name subject }
-{
-    take_away(&mut world.requests, task, name, subject);
 }
 
 /// Takes the request that stands there away, and gives its right.

@@ -22,7 +22,7 @@ use Rattle.name_space.specs.Names.{SpaceView, IsUsable}
 use Rattle.copyin_base.specs.Serving.{IsRefused}
 use Rattle.copyin_base.specs.Shows.{target_of, Shows}
 use Rattle.copyin_base.specs.Worlds.{WorldView, entry_in, entry_at, space_at}
-use Rattle.copyin_base.specs.declared.message.Mark.TheVariants as mark
+use Rattle.copyin_base.specs.declared.Mark.TheVariants as mark
 use Rattle.copyin_base.proofs.Gets.{same_found}
 use Rattle.copyin_base.proofs.Told.{found}
 use Rattle.dispositions.specs.Copies.{copied_from}

@@ -17,8 +17,8 @@ use Rattle.mach_model.proofs.Moving.{moving}
 use Rattle.mach_model.proofs.Copying.{Copies, CopyRight-copies}
 use Rattle.name_space.specs.declared.Entry.{Entry}
 use Rattle.name_space.specs.Names.{Names, SpaceView}
-use Rattle.copyin_base.specs.declared.message.Carried.{Carried}
-use Rattle.copyin_base.specs.declared.message.Mark.TheVariants as mark
+use Rattle.copyin_base.specs.declared.Carried.{Carried}
+use Rattle.copyin_base.specs.declared.Mark.TheVariants as mark
 use Rattle.copyin_base.specs.Shows.{Agrees, Shows}
 use Rattle.copyin_base.specs.Worlds.{WorldView, entry_in, entry_at, put, space_at, space_in}
 use Rattle.copyin_base.proofs.Gets.{same_found}

@@ -15,8 +15,8 @@ use Rattle.name_space.specs.Entry.{port_named}
 use Rattle.name_space.specs.Names.{SpaceView, IsUsable}
 use Rattle.name_space.specs.Names.{port_at as port_named_at}
 use Rattle.rights.specs.Ledger.{counts_of}
-use Rattle.copyin_base.specs.declared.message.Carried.{Carried}
-use Rattle.copyin_base.specs.declared.message.Mark.TheVariants as mark
+use Rattle.copyin_base.specs.declared.Carried.{Carried}
+use Rattle.copyin_base.specs.declared.Mark.TheVariants as mark
 use Rattle.copyin_base.specs.Worlds.{WorldView, entry_in, port_at, space_at}
 use Rattle.copyin_base.proofs.Gets.{seen, same_found}
 use Rattle.copyout.specs.Giving.{NeedsOwn, NoneLeft, free_names, free_room}

@@ -34,7 +34,7 @@ use Rattle.copyin_base.specs.Changes.{KeepsPlace, SameButRoom, NotesSenders, wit
 use Rattle.copyin_base.specs.Shows.{target_of, Agrees, SlotsSuffice, Shows}
 use Rattle.copyin_base.specs.Stands.{Stands}
 use Rattle.copyin_base.specs.Worlds.{WorldView, space_at, HasTask}
-use Rattle.copyin_base.specs.declared.message.Mark.TheVariants as mark
+use Rattle.copyin_base.specs.declared.Mark.TheVariants as mark
 use Rattle.mach_model.proofs.Midway.{LosesNone}
 use Rattle.copyin_base.proofs.Acting.{Does-so, refused_later, done}
 use Rattle.copyin_base.proofs.Roomier.{room_made, place_kept, room_refl, room_entry, room_shows, slots_show}

@@ -1,6 +1,6 @@
 -- The memory that is made for a right that is handed on: for its name, and for what may come by it.
 use Rattle.std.specs.Prelude.{◌≡◌, ℕ, ◌+◌, ◌≤◌, max, MatchBool}
-use Rattle.copyin_base.specs.declared.message.Mark.TheVariants as mark
+use Rattle.copyin_base.specs.declared.Mark.TheVariants as mark
 use Rattle.copyin_base.specs.Changes.{MakesRoom, KeepsPlace, SameButRoom, with_slots}
 use Rattle.copyin_base.specs.Wanted.{room_of, KeepsSpares}
 use Rattle.copyin_base.specs.Worlds.{WorldView}

@@ -13,7 +13,7 @@ use Rattle.mach_model.specs.NameGuards.{IsDeadName, IsLegalName, IsNoName, IsUnu
 use Rattle.name_space.specs.declared.Entry.{Entry}
 use Rattle.name_space.specs.Entry.{port_named, send_references}
 use Rattle.name_space.specs.Names.{SpaceView}
-use Rattle.copyin_base.specs.declared.message.Mark.TheVariants as mark
+use Rattle.copyin_base.specs.declared.Mark.TheVariants as mark
 use Rattle.copyin_base.specs.Worlds.{WorldView, entry_at, space_at}
 use Rattle.dispositions.specs.Copies.{copied_from}
 use Rattle.copyin.specs.Judging.{made_by_mark}

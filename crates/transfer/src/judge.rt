@@ -254,7 +254,7 @@ impl Going {
     fn lacks_rights(&self, world: &World) -> bool
         ensures { MatchBool result (most_rights < rights_then world.now self.now) (rights_then world.now self.now ≤ most_rights) }
     {
-        let total = world.ledger.total();
+        let total = world.total_rights();
         self.given.makes_right() && total == MOST_RIGHTS
     }
 

@@ -2,7 +2,7 @@ use Rattle.std.proofs.Common.{◌≡◌, ℕ, ◌<◌, ◌++◌, List, Option, s
 use Rattle.std.specs.Option.{option_to_list}
 use Rattle.message_codec.specs.declared.words.PortWord.{PortWord}
 use Rattle.rights.specs.Ledger.{LedgerView, counts_of}
-use Rattle.copyin_base.specs.declared.message.Carried.{Carried}
+use Rattle.copyin_base.specs.declared.Carried.{Carried}
 use Rattle.copyin.specs.Loops.{HoldsRights}
 use Rattle.copyin.specs.Planned.{CanGo, CanHoldAll}
 use Rattle.copyin.specs.Plans.{ChangesWords}

@@ -1,7 +1,7 @@
 use Rattle.std.proofs.Common.{◌≡◌, ◌+◌, ◌≤◌, refl, sym, ap, subst, ◌∙◌}
 use Rattle.mach_types.specs.Numbers.{most_rights}
 use Rattle.rights.specs.Ledger.{LedgerView, IsEntered}
-use Rattle.copyin_base.specs.declared.message.Mark.{Mark}
+use Rattle.copyin_base.specs.declared.Mark.{Mark}
 use Rattle.copyin_base.specs.Worlds.{WorldView}
 use Rattle.copyin.specs.Copies.{ports_copied, ledger_copied, CopiesRight}
 use Rattle.copyin.specs.Judging.{made_by_mark}

@@ -11,9 +11,9 @@ use Rattle.copyin.proofs.carry_out.leave_name.Goals as goal
 pub put_left-requires : goal.put_left-requires
 put_left-requires c =
     let can = c.requires in
-    let kk = same_left c.args.world.now c.args.task c.args.name c.args.carried can c.entry_under.result c.unwrap-entry.result c.copy_right.result c.unwrap-copied.result
-    c.entry_under.ensures.value c.unwrap-entry.ensures c.copy_right.ensures c.unwrap-copied.ensures in
-    let lives : IsForLive c.args.world.now c.unwrap-entry.result = subst (λ (o : Option Entry). IfSome o (λ e. IsForLive c.args.world.now e)) c.unwrap-entry.ensures c.entry_under.ensures.lives in
+    let kk = same_left c.args.world.now c.args.task c.args.name c.args.carried can c.lookup.result c.unwrap-entry.result c.copy_right.result c.unwrap-copied.result
+    c.lookup.ensures.value c.unwrap-entry.ensures c.copy_right.ensures c.unwrap-copied.ensures in
+    let lives : IsForLive c.args.world.now c.unwrap-entry.result = subst (λ (o : Option Entry). IfSome o (λ e. IsForLive c.args.world.now e)) c.unwrap-entry.ensures c.lookup.ensures.lives in
     record {
       space = can.space;
       there = can.there;
@@ -27,13 +27,13 @@ returns-then-makes_right-clause-left c can = stays_put c.args.world.now c.args.t
 
 pub returns-clause-left : goal.returns-clause-left
 returns-clause-left c can =
-    let kk = same_left c.args.world.now c.args.task c.args.name c.args.carried can c.entry_under.result c.unwrap-entry.result c.copy_right.result c.unwrap-copied.result
-    c.entry_under.ensures.value c.unwrap-entry.ensures c.copy_right.ensures c.unwrap-copied.ensures in
+    let kk = same_left c.args.world.now c.args.task c.args.name c.args.carried can c.lookup.result c.unwrap-entry.result c.copy_right.result c.unwrap-copied.result
+    c.lookup.ensures.value c.unwrap-entry.ensures c.copy_right.ensures c.unwrap-copied.ensures in
     subst (λ (left : Option Entry). PutsLeft c.args.world.now c.args.task c.args.name left c.put_left.new.self) (ap (λ (k : Copied). k.left) kk) c.put_left.ensures
 
 pub returns-clause-mark : goal.returns-clause-mark
 returns-clause-mark c =
     let can = c.requires in
-    let kk = same_left c.args.world.now c.args.task c.args.name c.args.carried can c.entry_under.result c.unwrap-entry.result c.copy_right.result c.unwrap-copied.result
-    c.entry_under.ensures.value c.unwrap-entry.ensures c.copy_right.ensures c.unwrap-copied.ensures in
+    let kk = same_left c.args.world.now c.args.task c.args.name c.args.carried can c.lookup.result c.unwrap-entry.result c.copy_right.result c.unwrap-copied.result
+    c.lookup.ensures.value c.unwrap-entry.ensures c.copy_right.ensures c.unwrap-copied.ensures in
     ap (λ (k : Copied). k.mark) kk ∙ sym can.mark_is

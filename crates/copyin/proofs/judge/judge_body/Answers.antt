@@ -3,7 +3,7 @@ use Rattle.std.proofs.lemmas.List.{take_all}
 use Rattle.std.proofs.lemmas.Result.{err_from_is_err_and}
 use Rattle.message_codec.specs.declared.words.PortWord.{PortWord}
 use Rattle.copyin.specs.Judging.{CopiesBody}
-use Rattle.copyin_base.specs.declared.message.Carried.{Carried}
+use Rattle.copyin_base.specs.declared.Carried.{Carried}
 use Rattle.copyin.proofs.Judging.{IsJudged, judged-none, judged-more, judged-bad}
 use Rattle.copyin.proofs.judge.judge_body.Goals as goal
 

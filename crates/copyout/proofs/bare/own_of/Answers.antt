@@ -1,6 +1,6 @@
 use Rattle.std.proofs.Common.{[], Option, sym, subst}
 use Rattle.std.specs.Option.{option_to_list}
-use Rattle.copyin_base.specs.declared.message.Carried.{Carried}
+use Rattle.copyin_base.specs.declared.Carried.{Carried}
 use Rattle.copyout.specs.Bare.{own_names}
 use Rattle.copyout.specs.Room.{Needs}
 use Rattle.copyout.proofs.Delivered.{one_needs, own_of}

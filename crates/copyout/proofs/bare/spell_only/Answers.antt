@@ -1,6 +1,6 @@
 use Rattle.std.proofs.Common.{◌∙◌, ap, sym, subst, Option}
 use Rattle.std.specs.Option.{option_to_list}
-use Rattle.copyin_base.specs.declared.message.Carried.{Carried}
+use Rattle.copyin_base.specs.declared.Carried.{Carried}
 use Rattle.copyout.specs.Giving.{GivesAll}
 use Rattle.copyout.specs.Takes.{reply_word}
 use Rattle.copyout.proofs.Delivered.{answers_only, lone_only, gives_one}

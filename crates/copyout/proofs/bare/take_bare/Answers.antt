@@ -1,6 +1,6 @@
 use Rattle.std.proofs.Common.{◌≡◌, ◌∙◌, Bool, List, ap, refl, sym, subst}
 use Rattle.std.specs.Prelude.{MatchBool}
-use Rattle.copyin_base.specs.declared.message.Carried.{Carried}
+use Rattle.copyin_base.specs.declared.Carried.{Carried}
 use Rattle.copyin_base.specs.Changes.{NotesSenderless}
 use Rattle.copyin_base.specs.Kept.{Kept, IsMessageOf}
 use Rattle.copyout.specs.Bare.{IsBare}

@@ -1,6 +1,6 @@
 use Rattle.std.proofs.Common.{◌≡◌, ℕ, ◌+◌, ◌++◌, [], ◌∷◌, List, length, drop, refl, sym, ap, subst, ◌∙◌, arith, append_assoc, length-append}
 use Rattle.std.proofs.lemmas.List.{append-nil}
-use Rattle.copyin_base.specs.declared.message.Carried.{Carried}
+use Rattle.copyin_base.specs.declared.Carried.{Carried}
 use Rattle.copyout.specs.Giving.{GivesAll}
 use Rattle.copyout.specs.Ready.{CanGive}
 use Rattle.copyout.proofs.PortsGiven.{can_give_one, can_give_rest, next_item, no_item}

@@ -23,7 +23,7 @@ take_name-requires c =
     (can_take c.args.world.now c.args.task (kind_sent c.args.given) c.args.port r (λ not_once. c.in-None.ensures.none r.space r.there))
 
 pub returns-in-Some : goal.returns-in-Some
-returns-in-Some c = gives-added c.args.world.now c.add_send.new.world c.drop_pegged.new.world c.args.task (kind_sent c.args.given) c.args.port c.in-Some.named.name c.in-Some.named.entry
+returns-in-Some c = gives-added c.args.world.now c.add_send.new.self c.drop_pegged.new.world c.args.task (kind_sent c.args.given) c.args.port c.in-Some.named.name c.in-Some.named.entry
     c.requires.sent c.in-Some.ensures.found c.drop_pegged.ensures
 
 pub returns-in-None : goal.returns-in-None

@@ -6,7 +6,7 @@ use Rattle.message_codec.specs.declared.header.Header.{Header}
 use Rattle.message_codec.specs.declared.spans.Span.{Span}
 use Rattle.message_codec.specs.Received.{IsLaidOut, header_text, received_body}
 use Rattle.message_codec.specs.Spans.{word_count}
-use Rattle.copyin_base.specs.declared.message.Carried.{Carried}
+use Rattle.copyin_base.specs.declared.Carried.{Carried}
 use Rattle.copyin_base.specs.Carrying.{spans_held}
 use Rattle.copyin_base.specs.Kept.{Kept}
 use Rattle.copyout.specs.Giving.{GivesAll}

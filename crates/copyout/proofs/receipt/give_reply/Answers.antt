@@ -1,5 +1,5 @@
 use Rattle.std.proofs.Common.{◌≡◌, ℕ, [], ◌∷◌, Option, List, sym, refl, subst}
-use Rattle.copyin_base.specs.declared.message.Carried.{Carried}
+use Rattle.copyin_base.specs.declared.Carried.{Carried}
 use Rattle.std.specs.Option.{option_to_list}
 use Rattle.copyout.specs.Giving.{GivesAll}
 use Rattle.copyout.specs.Takes.{reply_word}

@@ -1,6 +1,6 @@
 use Rattle.std.proofs.Common.{◌≡◌, ◌∷◌, ◌+◌, ◌<◌, ℕ, List, [], ◌++◌, take, drop, arith, sym, ap, subst, ◌∙◌, refl, add-zero, append_assoc}
 use Rattle.std.proofs.lemmas.List.{take_more}
-use Rattle.copyin_base.specs.declared.message.Carried.{Carried}
+use Rattle.copyin_base.specs.declared.Carried.{Carried}
 use Rattle.std.specs.Option.{option_to_list}
 use Rattle.copyout.specs.Room.{Needs, Marks}
 use Rattle.copyout.proofs.PortsGiven.{next_item, no_item}

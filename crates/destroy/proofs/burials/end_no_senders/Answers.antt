@@ -1,7 +1,7 @@
 use Rattle.std.proofs.Common.{◌≡◌, sym, ap, subst, ◌∙◌, None}
 use Rattle.std.specs.FinMap as map
 use Rattle.copyin_base.specs.Requests.{notify_of}
-use Rattle.copyin_base.specs.declared.notice.Notice.TheVariants.{SendOnce}
+use Rattle.copyin_base.specs.declared.Notice.TheVariants.{SendOnce}
 use Rattle.copyin_base.specs.Losing.{CanPost}
 use Rattle.copyin_base.specs.Worlds.{WorldView}
 use Rattle.destroy.specs.Paying.{LivesIn, Pays, PaysMany}

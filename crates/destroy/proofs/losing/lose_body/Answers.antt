@@ -1,5 +1,5 @@
 use Rattle.std.proofs.Common.{◌≡◌, ◌+◌, List, [], ◌∷◌, drop, subst, ◌∙◌}
-use Rattle.copyin_base.specs.declared.message.Carried.{Carried}
+use Rattle.copyin_base.specs.declared.Carried.{Carried}
 use Rattle.destroy.specs.Losing.{LosesTo}
 use Rattle.destroy.proofs.LoseRights.{next_item, no_item, can_next, loses_one}
 use Rattle.destroy.proofs.BurySteps.{loses_spaces}

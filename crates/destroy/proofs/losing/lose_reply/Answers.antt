@@ -1,6 +1,6 @@
 use Rattle.std.proofs.Common.{[], sym, subst, Option}
 use Rattle.std.specs.Option.{option_to_list}
-use Rattle.copyin_base.specs.declared.message.Carried.{Carried}
+use Rattle.copyin_base.specs.declared.Carried.{Carried}
 use Rattle.destroy.specs.Losing.{LosesTo, IsLosing}
 use Rattle.destroy.proofs.LoseRights.{can_first, loses_single}
 use Rattle.destroy.proofs.BurySteps.{loses_spaces}

@@ -1,6 +1,6 @@
 use Rattle.std.proofs.Common.{◌≡◌, [], List, Option, sym, ap, subst, ◌∙◌}
 use Rattle.std.specs.Option.{option_to_list}
-use Rattle.copyin_base.specs.declared.message.Carried.{Carried}
+use Rattle.copyin_base.specs.declared.Carried.{Carried}
 use Rattle.copyin_base.specs.Kept.{Kept}
 use Rattle.copyin_base.specs.Queued.{kept_in, notice_kept}
 use Rattle.destroy.specs.Losing.{LosesTo, IsLosing, carried_in}

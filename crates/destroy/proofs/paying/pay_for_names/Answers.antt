@@ -1,7 +1,7 @@
 use Rattle.std.proofs.Common.{refl, ap, ◌∙◌}
 use Rattle.copyin_base.specs.Worlds.{WorldView}
 use Rattle.destroy.proofs.PayTurns.{pays_first, can_pay, pays_more, pays_last}
-use Rattle.copyin_base.specs.declared.notice.Notice.TheVariants.{PortDeleted}
+use Rattle.copyin_base.specs.declared.Notice.TheVariants.{PortDeleted}
 use Rattle.destroy.proofs.RequestEnds.{lives_or_not}
 use Rattle.destroy.proofs.Rooms.{pays_spaces}
 use Rattle.destroy.proofs.paying.pay_for_names.Goals as goal

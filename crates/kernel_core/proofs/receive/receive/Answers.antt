@@ -1,4 +1,5 @@
-use Rattle.std.proofs.Common.{refl}
+use Rattle.std.proofs.Common.{ℕ, Option, refl, sym, ap, ◌∙◌}
+use Rattle.std.specs.Option.{option_and_then}
 use Rattle.std.proofs.lemmas.Result.{err_from_is_err_and}
 use Rattle.copyin_base.proofs.Spares.{keeps_same}
 use Rattle.kernel_core.proofs.Keeping.{refused_spares}
@@ -6,7 +7,9 @@ use Rattle.kernel_core.proofs.InTurn.{named_turns}
 use Rattle.kernel_core.proofs.Named.{known_named}
 use Rattle.kernel_core.proofs.Receiving.{named_declined, named_stays, named_received}
 use Rattle.kernel_core.proofs.Sparing.{not_short_named, named_spares}
-use Rattle.kernel_core.proofs.Taking.{completes}
+use Rattle.kernel_change.specs.Changing.{by_receipt}
+use Rattle.kernel_core.specs.InTurn.{source_of}
+use Rattle.kernel_core.proofs.Taking.{completes, told_of_source}
 use Rattle.kernel_core.proofs.receive.receive.Goals as goal
 
 pub take-requires-clause-known : goal.take-requires-clause-known
@@ -67,3 +70,10 @@ pub returns-in_err-reply-clause-turns : goal.returns-in_err-reply-clause-turns
 returns-in_err-reply-clause-turns c =
     let p = err_from_is_err_and c.from_residual-in_err-reply.result c.from_residual-in_err-reply.ensures.1 in
     rw p.1 c.in_err-reply.ensures.err.0
+
+pub returns-clause-tells : goal.returns-clause-tells
+returns-clause-tells c =
+    c.tell_message.ensures
+    ∙ told_of_source c.args.world.now c.requires.stands c.args.task c.in_ok-waited.field-0.waited c.args.buffer.room c.args.buffer.large c.in_ok-waited.field-0.ready c.in_ok-reply.reply c.take.new.world
+    c.in_ok-waited.ensures.first c.in_ok-waited.ensures.ready c.in_ok-reply.ensures.ok c.args.told.now c.take.new.told c.requires.nothing c.in_ok-reply.ensures.tells
+    ∙ ap (λ (o : Option ℕ). by_receipt c.args.world.now c.args.task c.args.buffer.large o c.in_ok-reply.reply) (sym (ap (option_and_then (source_of c.args.world.now)) c.in_ok-waited.ensures.found))

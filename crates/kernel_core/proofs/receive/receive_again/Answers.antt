@@ -1,11 +1,11 @@
-use Rattle.std.proofs.Common.{refl}
+use Rattle.std.proofs.Common.{refl, ◌∙◌}
 use Rattle.std.proofs.lemmas.Result.{err_from_is_err_and}
 use Rattle.copyin_base.proofs.Spares.{keeps_same}
 use Rattle.kernel_core.proofs.Keeping.{refused_spares}
 use Rattle.kernel_core.proofs.InTurn.{again_turns}
 use Rattle.kernel_core.proofs.Receiving.{again_received}
 use Rattle.kernel_core.proofs.Sparing.{not_short_again, again_spares}
-use Rattle.kernel_core.proofs.Taking.{completes}
+use Rattle.kernel_core.proofs.Taking.{completes, told_of_source}
 use Rattle.kernel_core.proofs.receive.receive_again.Goals as goal
 
 pub returns-in_err-judge_again-clause-wanted : goal.returns-in_err-judge_again-clause-wanted
@@ -51,3 +51,9 @@ pub returns-in_err-reply-clause-turns : goal.returns-in_err-reply-clause-turns
 returns-in_err-reply-clause-turns c =
     let p = err_from_is_err_and c.from_residual-in_err-reply.result c.from_residual-in_err-reply.ensures.1 in
     rw p.1 c.in_err-reply.ensures.err.0
+
+pub returns-clause-tells : goal.returns-clause-tells
+returns-clause-tells c =
+    c.tell_message.ensures
+    ∙ told_of_source c.args.world.now c.requires.stands c.args.task c.args.waited c.args.buffer.room c.args.buffer.large c.ready-ready.result c.in_ok-reply.reply c.take.new.world
+    c.ready-ready.ensures.first c.ready-ready.ensures.ready c.in_ok-reply.ensures.ok c.args.told.now c.take.new.told c.requires.nothing c.in_ok-reply.ensures.tells

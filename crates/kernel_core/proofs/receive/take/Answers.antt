@@ -1,6 +1,7 @@
-use Rattle.std.proofs.Common.{◌≡◌, sym, subst}
-use Rattle.std.specs.Prelude.{MatchBool}
+use Rattle.std.proofs.Common.{◌≡◌, ℕ, Option, Some, sym, ap, subst, ◌∙◌}
+use Rattle.std.specs.Prelude.{MatchBool, if◌then◌else◌}
 use Rattle.copyin_base.specs.Worlds.{WorldView}
+use Rattle.kernel_change.specs.Changing.{by_too_long}
 use Rattle.notifications.specs.Destroying.{DestroysMessage, CanDestroy}
 use Rattle.kernel_core.proofs.Receiving.{message_finds, message_waits, receipt_empty, receipt_message, message_destroyable, large_ended, stays_for_names, stays_for_memory}
 use Rattle.kernel_core.proofs.Freed.{message_unused}
@@ -57,14 +58,14 @@ returns-in-Err-TooLarge-clause-ok c =
     let x = rw c.in-Err-TooLarge.field-0-is at c.in-Err-TooLarge.ensures.err in
     let new = c.lose_or_keep.new.world in
     large_ended c.args.world.now c.args.task c.requires.there c.args.origin.waited c.requires.may c.args.buffer.room c.in-Some.port (ready_one c.args.world.now c.args.origin.waited c.args.origin.ready c.in-Some.port c.in-Some.is c.requires.ready).from x.1 x.2 c.args.origin.ready c.in-Some.is c.args.buffer.large c.in-Err-TooLarge.length x.3.0 x.3.1 new
-    (subst (λ (v : WorldView). MatchBool c.args.buffer.large (new ≡ v) (DestroysMessage v c.in-Some.port new)) x.0 c.lose_or_keep.ensures)
+    (subst (λ (v : WorldView). MatchBool c.args.buffer.large (new ≡ v) (DestroysMessage v c.in-Some.port new)) x.0 c.lose_or_keep.ensures.ends)
 
 pub returns-in-Err-TooLarge-clause-spares : goal.returns-in-Err-TooLarge-clause-spares
 returns-in-Err-TooLarge-clause-spares c =
     let x = rw c.in-Err-TooLarge.field-0-is at c.in-Err-TooLarge.ensures.err in
     let new = c.lose_or_keep.new.world in
     large_freed c.args.world.now new c.args.buffer.large c.in-Some.port c.in-Err-TooLarge.length c.requires.stands.shown.slots
-    (subst (λ (v : WorldView). MatchBool c.args.buffer.large (new ≡ v) (DestroysMessage v c.in-Some.port new)) x.0 c.lose_or_keep.ensures)
+    (subst (λ (v : WorldView). MatchBool c.args.buffer.large (new ≡ v) (DestroysMessage v c.in-Some.port new)) x.0 c.lose_or_keep.ensures.ends)
 
 pub returns-in_default-clause-turns : goal.returns-in_default-clause-turns
 returns-in_default-clause-turns c = empty_in_turn c.args.world.now c.args.origin.waited c.args.origin.ready c.requires.first c.args.buffer.large c.args.origin.waited c.in_default.is
@@ -81,4 +82,10 @@ returns-in-Err-TooLarge-clause-turns c =
     let new = c.lose_or_keep.new.world in
     large_in_turn c.args.world.now c.args.origin.waited c.args.origin.ready c.requires.first c.in-Some.port c.in-Some.is (ready_one c.args.world.now c.args.origin.waited c.args.origin.ready c.in-Some.port c.in-Some.is c.requires.ready)
     c.args.buffer.large c.in-Err-TooLarge.length new
-    (subst (λ (v : WorldView). MatchBool c.args.buffer.large (new ≡ v) (DestroysMessage v c.in-Some.port new)) x.0 c.lose_or_keep.ensures)
+    (subst (λ (v : WorldView). MatchBool c.args.buffer.large (new ≡ v) (DestroysMessage v c.in-Some.port new)) x.0 c.lose_or_keep.ensures.ends)
+
+pub returns-in-Err-TooLarge-clause-tells : goal.returns-in-Err-TooLarge-clause-tells
+returns-in-Err-TooLarge-clause-tells c =
+    let x = rw c.in-Err-TooLarge.field-0-is at c.in-Err-TooLarge.ensures.err in
+    let large = c.args.buffer.large in
+    c.lose_or_keep.ensures.tells ∙ ap (λ (v : WorldView). if large then c.args.told.now else by_too_long v (Some c.in-Some.port)) x.0 ∙ ap (λ (o : Option ℕ). if large then c.args.told.now else by_too_long c.args.world.now o) (sym c.in-Some.is)

@@ -1,4 +1,5 @@
 use Rattle.copyin_base.proofs.Tied.{stands_is_tied}
+use Rattle.kernel_core.proofs.Carrying.{still_tells}
 use Rattle.kernel_core.proofs.Sending.{still_plan, still_tied, still_none_lost, sends_text, has_slot}
 use Rattle.kernel_core.proofs.send.carry_out.Goals as goal
 
@@ -27,4 +28,4 @@ returns-clause-ok c = λ task bytes p. sends_text c.args.world.now c.reserve_slo
     c.in-Ok.ensures.ok c.count_slots.ensures p.is_plan (λ q. c.commit.ensures task p.parsed p.text.written bytes q)
 
 pub returns-clause-tells : goal.returns-clause-tells
-returns-clause-tells c = (c.plain_destination.result, c.plain_destination.ensures, c.by_send.ensures)
+returns-clause-tells c = still_tells c.args.world.now c.reserve_slots.new.self _ c.args.plan c.tell_sent.new.told c.in-Ok.ensures.ok c.tell_sent.ensures

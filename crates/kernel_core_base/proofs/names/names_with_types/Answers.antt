@@ -15,4 +15,4 @@ none_listed requests task names none =
     ap (λ (es : List (ℕ × Entry)). list_map (λ n. (n, type_found requests task n (map.get names n))) (list_map (λ e. e.0) es)) (none_there (map.entries names) (sym (map.len-entries names) ∙ none))
 
 pub returns-then-is_empty-clause-ok : goal.returns-then-is_empty-clause-ok
-returns-then-is_empty-clause-ok c = c.new-entries.ensures.items ∙ sym (none_listed c.args.requests.now c.args.task c.args.space.now.names (c.is_empty.ensures.0 c.if-is_empty.true))
+returns-then-is_empty-clause-ok c = c.new-entries.ensures.items ∙ sym (none_listed c.args.world.now.requests c.args.task c.args.space.now.names (c.is_empty.ensures.0 c.if-is_empty.true))

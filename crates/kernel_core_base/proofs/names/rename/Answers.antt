@@ -1,8 +1,6 @@
 use Rattle.std.proofs.Common.{refl, sym, ap, subst, ◌∙◌}
 use Rattle.mach_types.specs.declared.calls.Event.{Event}
-use Rattle.std.specs.FinMap as map
 use Rattle.port_set.specs.Sets.{IsThere}
-use Rattle.request_table.specs.Requests.{name_key}
 use Rattle.copyin_base.specs.Changes.{SameButRoom}
 use Rattle.copyin_base.specs.Worlds.{WorldView}
 use Rattle.copyin_base.proofs.Roomier.{place_kept, room_refl}
@@ -26,20 +24,19 @@ move_entry-requires c =
       place = is_kept c.args.world.now c.reserve_name.new.self c.args.task c.args.to m;
     }
 
-pub move_request-requires : goal.move_request-requires
-move_request-requires c =
+pub move_on_name-requires : goal.move_on_name-requires
+move_on_name-requires c =
     let m = c.in_ok-reserve_name.ensures.ok in
     let may = may_still c.args.world.now c.reserve_name.new.self c.args.task c.args.to m c.args.from c.in_ok-entry.entry c.in_ok-entry.ensures.may in
-    ap (λ (w : WorldView). map.get w.requests.names.requests (name_key c.args.task c.args.to)) c.world.view_is
-    ∙ no_request_to c.reserve_name.new.self c.move_entry.new.world c.args.task c.args.from c.args.to c.in_ok-entry.ensures.small c.in_ok-entry.entry may (c.move_entry.ensures c.in_ok-entry.entry may)
+    no_request_to c.reserve_name.new.self c.move_entry.new.self c.args.task c.args.from c.args.to c.in_ok-entry.ensures.small c.in_ok-entry.entry may (c.move_entry.ensures c.in_ok-entry.entry may)
     (stand_still c.args.world.now c.reserve_name.new.self c.args.task c.args.to m c.requires.stands)
 
 pub name_set-requires : goal.name_set-requires
 name_set-requires c = λ set kind.
     let m = c.in_ok-reserve_name.ensures.ok in
     let may = may_still c.args.world.now c.reserve_name.new.self c.args.task c.args.to m c.args.from c.in_ok-entry.entry c.in_ok-entry.ensures.may in
-    subst (λ (w : WorldView). IsThere w.sets set) (sym c.world.view_is)
-    (set_there c.reserve_name.new.self c.move_entry.new.world c.args.task c.args.from c.args.to c.in_ok-entry.ensures.small c.in_ok-entry.entry may (c.move_entry.ensures c.in_ok-entry.entry may)
+    subst (λ (w : WorldView). IsThere w.sets set) (sym c.move_on_name.ensures)
+    (set_there c.reserve_name.new.self c.move_entry.new.self c.args.task c.args.from c.args.to c.in_ok-entry.ensures.small c.in_ok-entry.entry may (c.move_entry.ensures c.in_ok-entry.entry may)
     (stand_still c.args.world.now c.reserve_name.new.self c.args.task c.args.to m c.requires.stands) set kind)
 
 pub returns-clause-serves : goal.returns-clause-serves
@@ -47,15 +44,15 @@ returns-clause-serves c =
     let m = c.in_ok-reserve_name.ensures.ok in
     let may = may_still c.args.world.now c.reserve_name.new.self c.args.task c.args.to m c.args.from c.in_ok-entry.entry c.in_ok-entry.ensures.may in
     let moves = c.move_entry.ensures c.in_ok-entry.entry may in
-    rename_done c.reserve_name.new.self c.move_entry.new.world c.args.task c.args.from c.args.to c.in_ok-entry.ensures.small c.in_ok-entry.entry may moves
+    rename_done c.reserve_name.new.self c.move_entry.new.self c.args.task c.args.from c.args.to c.in_ok-entry.ensures.small c.in_ok-entry.entry may moves
     c.args.world.now (place_kept c.args.world.now c.reserve_name.new.self c.args.task c.args.to m) c.requires.there c.in_ok-entry.ensures.ok c.name_set.new.world
-    (named_from c.reserve_name.new.self c.move_entry.new.world c.args.task c.args.from c.args.to c.in_ok-entry.ensures.small c.in_ok-entry.entry may moves
-    _ c.world.view_is c.move_request.new.requests c.move_request.ensures c.name_set.new.world c.name_set.ensures)
+    (named_from c.reserve_name.new.self c.move_entry.new.self c.args.task c.args.from c.args.to c.in_ok-entry.ensures.small c.in_ok-entry.entry may moves
+    c.move_on_name.new.self c.move_on_name.ensures c.name_set.new.world c.name_set.ensures)
 
 pub returns-clause-spares : goal.returns-clause-spares
 returns-clause-spares c =
     let m = c.in_ok-reserve_name.ensures.ok in
     let may = may_still c.args.world.now c.reserve_name.new.self c.args.task c.args.to m c.args.from c.in_ok-entry.entry c.in_ok-entry.ensures.may in
     keeps_trans c.args.world.now c.reserve_name.new.self c.name_set.new.world (place_keeps c.args.world.now c.reserve_name.new.self c.args.task c.args.to m)
-    (moved_keeps c.reserve_name.new.self c.name_set.new.world c.args.task c.move_entry.new.world c.args.from c.args.to c.in_ok-entry.entry (c.move_entry.ensures c.in_ok-entry.entry may)
-    (ap (λ (w : WorldView). w.spaces) c.name_set.ensures ∙ ap (λ (w : WorldView). w.spaces) c.world.view_is) (ap (λ (w : WorldView). w.ports) c.name_set.ensures ∙ ap (λ (w : WorldView). w.ports) c.world.view_is))
+    (moved_keeps c.reserve_name.new.self c.name_set.new.world c.args.task c.move_entry.new.self c.args.from c.args.to c.in_ok-entry.entry (c.move_entry.ensures c.in_ok-entry.entry may)
+    (ap (λ (w : WorldView). w.spaces) c.name_set.ensures ∙ ap (λ (w : WorldView). w.spaces) c.move_on_name.ensures) (ap (λ (w : WorldView). w.ports) c.name_set.ensures ∙ ap (λ (w : WorldView). w.ports) c.move_on_name.ensures))

@@ -1,7 +1,6 @@
-use Rattle.std.proofs.Common.{subst, ℤ}
+use Rattle.std.proofs.Common.{subst, ℕ, ℤ}
 use Rattle.std.proofs.Math.Facts.{to_z-of_z}
 use Rattle.mach_types.specs.declared.calls.Event.{Event}
-use Rattle.copyin_base.specs.Worlds.{WorldView}
 use Rattle.copyin_base.proofs.Exiting.{exits}
 use Rattle.kernel_core_base.specs.References.{IsChange, CanChange, CannotChange}
 use Rattle.kernel_core_base.proofs.ReferencesJudged.{modify_refused, can_modify, modifies}
@@ -16,20 +15,20 @@ returns-in_err-right-clause-serves c =
 pub returns-in_err-due-clause-serves : goal.returns-in_err-due-clause-serves
 returns-in_err-due-clause-serves c =
     let by = subst (λ (z : ℤ). IsChange c.change_of.result z) (to_z-of_z c.ranges.delta) c.change_of.ensures in
-    let cannot = subst (λ (w : WorldView). CannotChange w.ledger.total c.in_ok-right.right c.in_ok-right.entry c.change_of.result c.in_err-due.field-0.0) c.world.view_is c.in_err-due.ensures.err in
+    let cannot = subst (λ (total : ℕ). CannotChange total c.in_ok-right.right c.in_ok-right.entry c.change_of.result c.in_err-due.field-0.0) c.total_rights.ensures c.in_err-due.ensures.err in
     exits c.args.world.now (Event.ModRefs c.args.task c.args.name c.args.right c.args.delta) c.from_residual-in_err-due.result c.in_err-due.field-0.0 c.from_residual-in_err-due.ensures.1 c.requires.there
     (modify_refused c.args.world.now c.args.task c.args.name c.args.right c.args.delta c.in_ok-right.right c.in_ok-right.entry c.in_ok-right.ensures.ok c.change_of.result by c.in_err-due.field-0.0 cannot)
 
 pub carry_out-requires-clause-can : goal.carry_out-requires-clause-can
 carry_out-requires-clause-can c =
     let by = subst (λ (z : ℤ). IsChange c.change_of.result z) (to_z-of_z c.ranges.delta) c.change_of.ensures in
-    let can = subst (λ (w : WorldView). CanChange w.ledger.total c.in_ok-right.right c.in_ok-right.entry c.change_of.result c.in_ok-due.due) c.world.view_is c.in_ok-due.ensures.ok in
+    let can = subst (λ (total : ℕ). CanChange total c.in_ok-right.right c.in_ok-right.entry c.change_of.result c.in_ok-due.due) c.total_rights.ensures c.in_ok-due.ensures.ok in
     can_modify c.args.world.now c.requires.stands c.args.task c.args.name c.args.right c.args.delta c.in_ok-right.right c.in_ok-right.entry c.change_of.result c.in_ok-due.due c.in_ok-right.ensures.ok by can
 
 pub returns-clause-serves : goal.returns-clause-serves
 returns-clause-serves c =
     let by = subst (λ (z : ℤ). IsChange c.change_of.result z) (to_z-of_z c.ranges.delta) c.change_of.ensures in
-    let can = subst (λ (w : WorldView). CanChange w.ledger.total c.in_ok-right.right c.in_ok-right.entry c.change_of.result c.in_ok-due.due) c.world.view_is c.in_ok-due.ensures.ok in
+    let can = subst (λ (total : ℕ). CanChange total c.in_ok-right.right c.in_ok-right.entry c.change_of.result c.in_ok-due.due) c.total_rights.ensures c.in_ok-due.ensures.ok in
     modifies c.args.world.now c.requires.stands c.args.task c.args.name c.args.right c.args.delta c.in_ok-right.right c.in_ok-right.entry c.change_of.result c.in_ok-due.due c.carry_out.new.world
     c.requires.there c.in_ok-right.ensures.ok by can c.carry_out.ensures
 

@@ -9,12 +9,12 @@ put_left-requires c = can_leave c.args.world.now c.requires.stands c.args.task c
 
 pub take_sends-requires-clause-entered : goal.take_sends-requires-clause-entered
 take_sends-requires-clause-entered c = still_entered c.args.world.now c.requires.stands c.args.task c.args.name c.args.loss c.requires.can c.lose_receive.new.self c.lose_receive.ensures
-    c.put_left.new.self _ c.left_sending-left.result c.put_left.ensures c.world.view_is
+    c.put_left.new.self c.left_sending-left.result c.put_left.ensures
 
 pub take_sends-requires-clause-there : goal.take_sends-requires-clause-there
 take_sends-requires-clause-there c = still_enough c.args.world.now c.requires.stands c.args.task c.args.name c.args.loss c.requires.can c.lose_receive.new.self c.lose_receive.ensures
-    c.put_left.new.self _ c.left_sending-left.result c.put_left.ensures c.world.view_is
+    c.put_left.new.self c.left_sending-left.result c.put_left.ensures
 
 pub returns : goal.returns
-returns c = receive_taken c.args.world.now c.lose_receive.new.self c.put_left.new.self _ c.args.task c.args.name c.args.loss c.left_sending-left.result c.take_sends.new.ledger
-    c.lose_receive.ensures c.put_left.ensures c.left_sending-left.ensures c.world.view_is c.take_sends.ensures
+returns c = receive_taken c.args.world.now c.lose_receive.new.self c.put_left.new.self c.take_sends.new.world c.args.task c.args.name c.args.loss c.left_sending-left.result
+    c.lose_receive.ensures c.put_left.ensures c.left_sending-left.ensures c.take_sends.ensures

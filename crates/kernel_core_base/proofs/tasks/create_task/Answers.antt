@@ -1,17 +1,17 @@
-use Rattle.std.proofs.Common.{◌≡◌, ◌<◌, sym, ap, ◌∙◌, arith, length}
+use Rattle.std.proofs.Common.{◌<◌, arith, length}
 use Rattle.mach_types.specs.Numbers.{most_tasks}
-use Rattle.copyin_base.specs.Reading.{live_in}
-use Rattle.copyin_base.specs.Worlds.{WorldView}
-use Rattle.copyin_base.proofs.Reading.{length_read}
 use Rattle.kernel_core_base.proofs.TaskCreated.{task_created}
 use Rattle.kernel_core_base.proofs.tasks.create_task.Goals as goal
 
-pub returns-clause-serves : goal.returns-clause-serves
-returns-clause-serves c =
-    let view : length c.world.inside.spaces.items ≡ length c.args.world.now.spaces = sym (length_read (live_in c.world.inside.ports) c.world.inside.spaces.items) ∙ ap (λ (w : WorldView). length w.spaces) c.world.view_is in
-    let whole = c.world.inside.spaces.ok.0 in
-    let number = c.len-number.ensures in
+pub create_task-requires : goal.create_task-requires
+create_task-requires c =
+    let number = c.tasks_made-number.ensures in
     let below = c.if-number-ge-MOST_TASKS.false in
-    let few : length c.args.world.now.spaces < most_tasks = omega (arith, view, whole, number, below) in
-    let told = c.new.ensures in
-    task_created c.args.world.now c.new.result c.push_task.new.world few (omega (arith, view, whole, number, told)) c.in_ok-push_task.ensures.ok
+    omega (arith, number, below)
+
+pub returns-in-Ok-clause-serves : goal.returns-in-Ok-clause-serves
+returns-in-Ok-clause-serves c =
+    let number = c.tasks_made-number.ensures in
+    let below = c.if-number-ge-MOST_TASKS.false in
+    let few : length c.args.world.now.spaces < most_tasks = omega (arith, number, below) in
+    task_created c.args.world.now c.in-Ok.task c.create_task.new.self few c.in-Ok.ensures.ok.0 c.in-Ok.ensures.ok.1

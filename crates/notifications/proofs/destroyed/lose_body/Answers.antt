@@ -1,6 +1,6 @@
 use Rattle.std.proofs.Common.{refl, sym, subst, ◌∙◌, arith, List}
 use Rattle.mach_types.specs.Numbers.{kind_sent}
-use Rattle.copyin_base.specs.declared.message.Carried.{Carried}
+use Rattle.copyin_base.specs.declared.Carried.{Carried}
 use Rattle.notifications.specs.Destroying.{LosesMark, LosesAll}
 use Rattle.std.proofs.lemmas.List.{take_all}
 use Rattle.notifications.proofs.MessageRights.{can_next, lost_next, none_past}

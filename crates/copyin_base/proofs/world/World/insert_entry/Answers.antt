@@ -4,7 +4,7 @@ use Rattle.name_space.specs.Entry.{port_of}
 use Rattle.name_space.specs.declared.Entry.{Entry}
 use Rattle.name_space.specs.Names.{SpaceView, HasPlace, HasNoOther}
 use Rattle.port.specs.Ports.{PortsView, IsLive}
-use Rattle.copyin_base.specs.Kept.{Kept}
+use Rattle.tables_base.specs.Kept.{Kept}
 use Rattle.copyin_base.specs.Reading.{live_in, read_names}
 use Rattle.copyin_base.proofs.Gets.{of_some}
 use Rattle.copyin_base.proofs.Reading.{unused_read, len_read, place_read, no_other_kept, put_reads}

@@ -1,7 +1,7 @@
 use Rattle.std.proofs.Common.{◌≡◌, ◌<◌, Some, subst, arith}
 use Rattle.std.specs.FinMap as map
-use Rattle.copyin_base.specs.Kept.{Kept}
-use Rattle.copyin_base.specs.Queued.{notice_kept}
+use Rattle.tables_base.specs.Kept.{Kept}
+use Rattle.tables_base.specs.Queued.{notice_kept}
 use Rattle.copyin_base.specs.Worlds.{WorldView, port_at}
 use Rattle.copyin_base.proofs.Lost.{with_message, posted_given, posted_written}
 use Rattle.copyin_base.proofs.Told.{port_got}

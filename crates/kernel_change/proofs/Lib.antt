@@ -1,0 +1,4 @@
+-- What proves the functions of this crate.
+mod NamesAsked
+mod MovedRights
+mod ReceivedNames

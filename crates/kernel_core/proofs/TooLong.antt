@@ -1,0 +1,143 @@
+-- What is covered once a message was destroyed as too long: the queue of its port, and that of the port that its right to answer with tells.
+use Rattle.std.proofs.Common.{◌≡◌, ℕ, ◌+◌, ◌≤◌, List, [], ◌∷◌, ◌++◌, Option, Some, None, refl, sym, ap, subst, ◌∙◌, arith, true, false, inl, inr}
+use Rattle.std.specs.Prelude.{◌≢◌, ◌==◌, if◌then◌else◌, Contains, slice_get}
+use Rattle.std.specs.Option.{option_and_then, option_to_list}
+use Rattle.std.proofs.lemmas.Bool.{ne_eqb}
+use Rattle.mach_types.specs.declared.calls.Waited.{Waited}
+use Rattle.mach_types.specs.declared.rights.Disposition.{Disposition}
+use Rattle.mach_types.specs.declared.rights.Disposition.TheVariants.{MoveReceive, MoveSend, MoveSendOnce, CopySend, MakeSend, MakeSendOnce}
+use Rattle.mach_types.specs.declared.touched.Touched.{Touched}
+use Rattle.mach_types.specs.Touching.{Covers}
+use Rattle.mach_types.specs.Bodies.{message_rights}
+use Rattle.mach_types.specs.Messages.{Entry}
+use Rattle.mach_types.specs.Messages.{Mark as MachineMark}
+use Rattle.mach_types.specs.Numbers.{kind_sent}
+use Rattle.mach_types.specs.Tokens.{Kind, receive, send, send_once, same_kind, token}
+use Rattle.mach_model.specs.State.{State, queue}
+use Rattle.mach_model.specs.Carried.{rights_count}
+use Rattle.mach_model.specs.Notices.{Owed}
+use Rattle.mach_model.specs.Receive.{IsFront, DestroysFront}
+use Rattle.mach_laws.proofs.Requesting.{OwesNone}
+use Rattle.mach_laws.proofs.TooLong.{CarriesNone, first_left, destroyed_changes, destroyed_owing_none, destroyed_owing_one}
+use Rattle.mach_laws.proofs.Touching.{Changes, changes_end, touches, touches_both}
+use Rattle.port.specs.Ports.{PortView}
+use Rattle.copyin_base.specs.declared.Carried.{Carried}
+use Rattle.copyin_base.specs.declared.Mark.{Mark}
+use Rattle.copyin_base.specs.declared.Mark.TheVariants as mark
+use Rattle.copyin_base.specs.Kept.{Kept, Keeps, mark_of}
+use Rattle.copyin_base.specs.Posted.{with_notice, with_posted}
+use Rattle.copyin_base.specs.Serving.{ShowsMid}
+use Rattle.copyin_base.specs.Shows.{Agrees, Shows}
+use Rattle.copyin_base.specs.Worlds.{WorldView, port_at}
+use Rattle.copyin_base.proofs.KeptEntries.{rights_of, message_kept}
+use Rattle.copyin_base.proofs.Told.{port_there}
+use Rattle.copyout.proofs.Fronts.{shown_empty, shown_front, shown_is_front}
+use Rattle.kernel_change.specs.Changing.{set_of, with_set, named_two, touched_by, front_at, by_answer, by_destroying, by_front}
+use Rattle.kernel_core.proofs.Covered.{OwnTouches, none_some, one_some, set_is}
+use Rattle.kernel_core.proofs.Freed.{front_same}
+
+none_counted : (k kind : Kind) → same_kind k kind ≡ false → (q : ℕ) (x : MachineMark) → rights_count k q ((kind, x) ∷ []) ≡ 0
+none_counted k kind other q x = grind arith
+
+not_received : (given : Disposition) → given ≢ MoveReceive → kind_sent given ≢ receive
+not_received MoveReceive not e = not refl
+not_received MoveSend not e = cc
+not_received CopySend not e = cc
+not_received MakeSend not e = cc
+not_received MoveSendOnce not e = cc
+not_received MakeSendOnce not e = cc
+
+module _ (now : ℕ) (old w : WorldView) (s mid : State) (owed : Owed) (sh : Shows old s) (shown : ShowsMid now old w mid owed) where
+  -- the set that a port is in
+  is_member : (q : ℕ) → OwesNone q owed → (p set : ℕ) → Contains (mid.sets_of p) set → set_of w p ≡ Some set
+  is_member q (inl none) p set = set_is w mid (subst (λ (o : Owed). Agrees w (with_posted now mid o)) none shown.agrees) p (shown.lawful.no_sets p) set
+  is_member q (inr one) p set =
+      set_is w (with_notice now mid (token send_once q one.place, one.notice)) (subst (λ (o : Owed). Agrees w (with_posted now mid o)) one.is shown.agrees) p (shown.lawful.no_sets p) set
+
+  -- the queue of one port has changed, and a notice may come to another
+  covered : (a b : ℕ) (touched : Touched) → ((p : ℕ) → Some a ≡ Some p → Covers touched (Waited.Port p)) → ((p : ℕ) → Some b ≡ Some p → Covers touched (Waited.Port p)) →
+      ((p set : ℕ) → Some a ≡ Some p → set_of w p ≡ Some set → Covers touched (Waited.Set set)) → ((p set : ℕ) → Some b ≡ Some p → set_of w p ≡ Some set → Covers touched (Waited.Set set)) →
+      Changes s mid (Some a) None → OwesNone b owed → OwnTouches s mid owed touched
+  covered a b touched at_a at_b set_a set_b c owes = go owes
+    where
+      was : (p set : ℕ) → Contains (s.sets_of p) set → set_of w p ≡ Some set
+      was p set in_it = is_member b owes p set (subst (λ (xs : List ℕ). Contains xs set) (sym (c.sets p)) in_it)
+
+      go : OwesNone b owed → OwnTouches s mid owed touched
+      go (inl none) = inr (inl (
+        none,
+        λ t k.
+            touches s t (Some a) None touched (changes_end s mid t (Some a) None c k) at_a (λ p e. absurd (none_some p e)) (λ p set e in_it. set_a p set e (was p set in_it)),
+      ))
+      go (inr one) = inr (inr (
+        b,
+        one,
+        λ t k.
+            touches_both s mid t touched (touches s mid (Some a) None touched c at_a (λ p e. absurd (none_some p e)) (λ p set e in_it. set_a p set e (was p set in_it)))
+            (touches mid t (Some b) None touched k at_b (λ p e. absurd (none_some p e)) (λ p set e in_it. set_b p set e (is_member b owes p set in_it))),
+      ))
+
+  module _ (p : ℕ) (e : Entry) (lives : s.live_port p ≡ true) (front : IsFront s p e) (d : DestroysFront p e s mid owed) where
+    -- nobody is told
+    untold : CarriesNone receive e → CarriesNone send_once e → OwnTouches s mid owed (with_set w (Some p))
+    untold none silent =
+        covered p p (with_set w (Some p)) at_p at_p set_p set_p (destroyed_changes p e s mid owed sh.lawful lives d none) (inl (destroyed_owing_none p e s mid owed sh.lawful lives d silent))
+      where
+        at_p : (q : ℕ) → Some p ≡ Some q → Covers (with_set w (Some p)) (Waited.Port q)
+        at_p q is = (0, omega arith, ap (λ (n : ℕ). Some (Waited.Port n)) (one_some p q is))
+
+        set_p : (q set : ℕ) → Some p ≡ Some q → set_of w q ≡ Some set → Covers (with_set w (Some p)) (Waited.Set set)
+        set_p q set is in_it = let here : set_of w p ≡ Some set = ap (set_of w) (one_some p q is) ∙ in_it in rw here (1, omega arith, refl)
+
+    -- this port is told, unless it is dead
+    told : (q : ℕ) → CarriesNone receive e → ((r : ℕ) → r ≢ q → rights_count send_once r (message_rights e.message) ≡ 0) → rights_count send_once q (message_rights e.message) ≤ 1 → OwnTouches s mid owed (named_two w p q)
+    told q none others most =
+        covered p q (named_two w p q)
+        (λ r is. (0, omega arith, ap (λ (n : ℕ). Some (Waited.Port n)) (one_some p r is)))
+        (λ r is. (2, omega arith, ap (λ (n : ℕ). Some (Waited.Port n)) (one_some q r is)))
+        (λ r set is in_it. let here : set_of w p ≡ Some set = ap (set_of w) (one_some p r is) ∙ in_it in rw here (1, omega arith, refl))
+        (λ r set is in_it. let here : set_of w q ≡ Some set = ap (set_of w) (one_some q r is) ∙ in_it in rw here (3, omega arith, refl))
+        (destroyed_changes p e s mid owed sh.lawful lives d none) (destroyed_owing_one p e s mid owed sh.lawful lives d q others most)
+
+    answered : (kind : Kind) (one : Mark) → kind ≢ receive → message_rights e.message ≡ (kind, mark_of one) ∷ [] → OwnTouches s mid owed (touched_by w (by_answer p kind one))
+    answered receive one not are = absurd (not refl)
+    answered send one not are =
+        untold (λ q. ap (rights_count receive q) are ∙ none_counted receive send refl q (mark_of one)) (λ q. ap (rights_count send_once q) are ∙ none_counted send_once send refl q (mark_of one))
+    answered send_once mark.Null not are = untold (λ q. ap (rights_count receive q) are) (λ q. ap (rights_count send_once q) are)
+    answered send_once mark.Dead not are = untold (λ q. ap (rights_count receive q) are) (λ q. ap (rights_count send_once q) are)
+    answered send_once (mark.Port q) not are =
+        told q (λ r. ap (rights_count receive r) are) (λ r other. ap (rights_count send_once r) are ∙ (let differs = ne_eqb q r (λ e. other (sym e)) in rw differs refl))
+        (let many = ap (rights_count send_once q) are in rw many one_or_none)
+      where
+        one_or_none : (if q == q then 1 else 0) + 0 ≤ 1
+        one_or_none = grind arith
+
+    destroyed : (reply : Option Carried) (rights : List Carried) → ((c : Carried) → reply ≡ Some c → c.given ≢ MoveReceive) → message_rights e.message ≡ rights_of (option_to_list reply ++ rights) →
+        OwnTouches s mid owed (touched_by w (by_destroying p reply rights))
+    destroyed None [] sent are = untold (λ q. ap (rights_count receive q) are) (λ q. ap (rights_count send_once q) are)
+    destroyed (Some c) [] sent are = answered (kind_sent c.given) c.mark (not_received c.given (sent c refl)) are
+    destroyed None (x ∷ xs) sent are = inl refl
+    destroyed (Some c) (x ∷ xs) sent are = inl refl
+
+    pub too_long_own : OwnTouches s mid owed (touched_by w (by_front p (front_at old p)))
+    too_long_own = go v.0.queue refl
+      where
+        v : (x : PortView Kept) × (port_at old p ≡ Some x)
+        v = port_there old s sh.agrees p lives
+
+        at_front : (ms : List Kept) → v.0.queue ≡ ms → front_at old p ≡ slice_get ms 0
+        at_front ms is = ap (option_and_then (λ (x : PortView Kept). slice_get x.queue 0)) v.1 ∙ ap (λ (xs : List Kept). slice_get xs 0) is
+
+        no_first : (x : Entry) → None ≡ Some x → ⊥
+        no_first x is = cc
+
+        go : (ms : List Kept) → v.0.queue ≡ ms → OwnTouches s mid owed (touched_by w (by_front p (front_at old p)))
+        go [] is =
+            let none : queue s p ≡ [] = shown_empty old s sh.agrees p v.0 v.1 is in
+            let first : slice_get (queue s p) 0 ≡ Some e = first_left (s.log p) (s.taken p) e front in
+            absurd (no_first e (sym (ap (λ (xs : List Entry). slice_get xs 0) none) ∙ first))
+        go (m ∷ ms) is =
+            let f = shown_front old s sh.agrees p v.0 v.1 m ms is in
+            let same = front_same s p f.first e (shown_is_front old s sh.agrees p v.0 v.1 m ms is) front in
+            let keeps : Keeps p m e.message = subst (λ (x : Entry). Keeps p m x.message) same f.keeps in
+            subst (λ (o : Option Kept). OwnTouches s mid owed (touched_by w (by_front p o))) (sym (at_front (m ∷ ms) is)) (destroyed m.reply m.rights keeps.reply_sent (message_kept p m e.message keeps))

@@ -1,0 +1,4 @@
+pub mod Carrying
+pub mod Envelope
+pub mod Kept
+pub mod Queued
