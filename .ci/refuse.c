@@ -1,14 +1,14 @@
-// Refuses growths of memory, and threads; it is loaded before the C library.
+// Refuses growths of memory, threads and reads; it is loaded before the C library.
 //
 // The environment asks for it: request number REFUSE_AT, from 1, is answered by NULL; thread number REFUSE_THREAD, from
-// 1, isn't started; the file REFUSE_COUNT gets how many requests there were.
+// 1, isn't started; the file REFUSE_COUNT gets how many requests there were; each read takes REFUSE_BEYOND bytes at most;
+// the end of a file is answered by the error REFUSE_END, a number.
 //
-// The program itself asks for it by a request for a block that no memory holds, as growth_tests does.
+// The program itself asks for it by a request for a block that no memory holds, as kernel_tests does.
 // Its size is n more than
 //   1 * 2^60   the next request is refused exactly where n requests or more were counted; it isn't counted itself
 //   2 * 2^60   the count begins again, and of what comes only request number n is refused; none where n is 0
-//   3 * 2^60   of what comes thread number n isn't started; each is where n is 0
-//   4 * 2^60   the count begins again, and of what comes request number n and all later ones are refused
+//   3 * 2^60   the count begins again, and of what comes request number n and all later ones are refused
 // and that request is answered by NULL, and counted nowhere.
 #define _GNU_SOURCE
 #include <dlfcn.h>
@@ -17,11 +17,11 @@
 #include <stdatomic.h>
 #include <stdio.h>
 #include <stdlib.h>
+#include <unistd.h>
 
 static atomic_long asked;             // requests of the whole process
 static atomic_long counted;           // requests since the program last said what to refuse
 static atomic_long only, from;        // which of these are refused: 0 for none
-static atomic_long thread_left;       // how many threads more, up to the one that isn't started
 static atomic_int probe;              // what becomes of the next request: 1 given, 2 refused
 static int told;
 
@@ -38,9 +38,6 @@ static int hears(size_t size) {
         from = 0;
         return 1;
     case 3:
-        thread_left = n;
-        return 1;
-    case 4:
         counted = 0;
         only = 0;
         from = n;
@@ -93,9 +90,22 @@ int pthread_create(pthread_t *thread, const pthread_attr_t *attributes, void *(*
     static atomic_long started;
     const char *at = getenv("REFUSE_THREAD");
     long number = atomic_fetch_add(&started, 1) + 1;
-    if ((at != NULL && atol(at) == number) || (thread_left > 0 && --thread_left == 0))
+    if (at != NULL && atol(at) == number)
         return EAGAIN;
     return next(thread, attributes, start, with);
+}
+
+ssize_t read(int file, void *into, size_t count) {
+    ssize_t (*next)(int, void *, size_t) = (ssize_t (*)(int, void *, size_t))dlsym(RTLD_NEXT, "read");
+    const char *most = getenv("REFUSE_BEYOND"), *error = getenv("REFUSE_END");
+    if (most != NULL && (size_t)atol(most) < count)
+        count = (size_t)atol(most);
+    ssize_t done = next(file, into, count);
+    if (done == 0 && count != 0 && error != NULL) {
+        errno = atoi(error);
+        return -1;
+    }
+    return done;
 }
 
 __attribute__((destructor)) static void tell(void) {

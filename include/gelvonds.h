@@ -250,14 +250,22 @@ gelvonds_code gelvonds_port_identity(gelvonds *kernel, gelvonds_task task, gelvo
  * it. None before the first call, after the kernel's refusals, after calls that only ask, a receive that found nothing
  * or a message that is too long and stays, gelvonds_task_create, gelvonds_port_rename, gelvonds_port_set_mscount and
  * gelvonds_port_set_seqno. None too where only send rights, dead names and their references went
- * (gelvonds_port_deallocate, gelvonds_port_destroy, gelvonds_port_mod_refs), and where a right that is no receive right
- * went to another task (gelvonds_port_insert_right, gelvonds_port_extract_right).
+ * (gelvonds_port_deallocate, gelvonds_port_destroy, gelvonds_port_mod_refs, gelvonds_task_terminate), and where a right
+ * that is no receive right went to another task (gelvonds_port_insert_right, gelvonds_port_extract_right).
  * After gelvonds_port_set_qlimit, gelvonds_port_allocate and gelvonds_port_allocate_name the port under the name, if
  * one is. After gelvonds_port_move_member, and where a receive right went to another task, the port with the set that
- * it was in and the one that it is in. A message names its port and the port's set: one that was sent without a receive
- * right, and one that was received with a body of raw bytes. After each other call, and where ports died or notices
- * were sent, it may be any. A code of the library's own comes without a call of the kernel, and leaves what the call
- * before touched. Makes no call, and changes nothing.
+ * it was in and the one that it is in. A message names its port and the port's set. One that was sent with one receive
+ * right names that right's port too, and the set that it was in; so does one with two or three, where with
+ * the sets concerned four places suffice. One that was received names the ports too whose
+ * receive rights came with it: one or two, or three if its own port is in no set. A message that was destroyed as too
+ * long, and whose body carried no right, names its port and the port's set; the port that its reply right tells is named
+ * too, with its set. gelvonds_port_request_notification names the port that the notice goes to. A lost send-once right
+ * names its port, and so does a receive right that was destroyed, where nothing was queued at its port and no request was
+ * on it or on a name of it; a port's set is named with it. A destroyed set names itself and its members, if they were
+ * three at most and there was memory for their list. After each other call, and where other ports died or other notices
+ * were sent, it may be any. A code of the library's own comes without a call of the kernel, and so does a code for out of
+ * memory where calls are kept and the copies found no room: then it stays what the call before touched. Makes no call,
+ * and changes nothing.
  * GELVONDS_NO_KERNEL: the handle holds no kernel, and nothing is written. */
 gelvonds_code gelvonds_touched(gelvonds *kernel, gelvonds_touched_places *touched);
 

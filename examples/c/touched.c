@@ -85,8 +85,10 @@ static void talk(void) {
     tell("too long, and it stays", receive(server, PORT, 0, true));
     tell("it is received", receive(server, PORT, ROOM, false));
     tell("there is none", receive(server, PORT, ROOM, false));
-    tell("a message with a send right", send(server, PORT, MACH_MSG_TYPE_MAKE_SEND, PORT, MACH_MSG_TYPE_MAKE_SEND));
+    send(server, PORT, MACH_MSG_TYPE_MAKE_SEND, 0, 0);
     tell("too long, and it is destroyed", receive(server, PORT, 0, false));
+    tell("a message with a send right", send(server, PORT, MACH_MSG_TYPE_MAKE_SEND, PORT, MACH_MSG_TYPE_MAKE_SEND));
+    tell("too long with a send right, and it is destroyed", receive(server, PORT, 0, false));
 }
 
 /* Rights are handed to another task and back, and references go. */
@@ -178,9 +180,20 @@ static void end(void) {
     tell("destroy of a set of four", fill_and_destroy(4));
     tell("mod_refs of a set",
          gelvonds_port_mod_refs(&kernel, server, OTHER_SET, MACH_PORT_RIGHT_PORT_SET, -1));
+    gelvonds_port_allocate_name(&kernel, server, MACH_PORT_RIGHT_RECEIVE, PORT);
+    tell("a message with a receive right",
+         send(server, NOTICES, MACH_MSG_TYPE_MAKE_SEND, PORT, MACH_MSG_TYPE_MOVE_RECEIVE));
+    gelvonds_port_allocate_name(&kernel, server, MACH_PORT_RIGHT_RECEIVE, PORT);
+    gelvonds_port_allocate_name(&kernel, server, MACH_PORT_RIGHT_RECEIVE, SPARE);
+    send(server, SPARE, MACH_MSG_TYPE_MAKE_SEND, PORT, MACH_MSG_TYPE_MOVE_RECEIVE);
+    tell("such a message is received", receive(server, SPARE, ROOM, false));
+    send(server, SPARE, MACH_MSG_TYPE_MAKE_SEND, NOTICES, MACH_MSG_TYPE_MAKE_SEND);
+    tell("one with a send right is received", receive(server, SPARE, ROOM, false));
     gelvonds_task_create(&kernel, &idle);
     tell("task_terminate of a task without names", gelvonds_task_terminate(&kernel, idle));
-    tell("task_terminate", gelvonds_task_terminate(&kernel, client));
+    gelvonds_port_insert_right(&kernel, client, SPARE, server, NOTICES, MACH_MSG_TYPE_MAKE_SEND);
+    tell("task_terminate of a task with a send right and a dead name", gelvonds_task_terminate(&kernel, client));
+    tell("task_terminate of a task with receive rights", gelvonds_task_terminate(&kernel, server));
 }
 
 int main(void) {

@@ -1,10 +1,11 @@
 //! Each typed call, and refusals of most of them.
+use crate::messages::{RECEIVED, bytes};
 use crate::parties::{by, client, server};
 use gelvonds::{
-    Bytes, Code, Disposition, ExtractedRight, KernReturn, Kernel, MsgReturn, Name, Notification,
+    Code, Disposition, ExtractedRight, KernReturn, Kernel, MsgReturn, Name, Notification,
     NotificationRequest, Receipt, Right, SendError, TaskId, Waited,
 };
-use std::alloc::{AllocError, Global};
+use std::alloc::Global;
 use std::process::Abort;
 use std::test::*;
 
@@ -12,15 +13,6 @@ use std::test::*;
 const MESSAGE: [u8; 24] = [
     19, 0, 0, 0, 24, 0, 0, 0, 1, 0, 0, 0, 0, 0, 0, 0, 0, 0, 0, 0, 7, 0, 0, 0,
 ];
-
-/// The same, as its receiver gets it.
-const RECEIVED: [u8; 24] = [
-    0, 17, 0, 0, 24, 0, 0, 0, 0, 0, 0, 0, 1, 0, 0, 0, 0, 0, 0, 0, 7, 0, 0, 0,
-];
-
-fn message(alloc: Global) -> Result<Bytes, AllocError> {
-    Ok(Bytes::from_vec(Vec::from_slice(alloc, &MESSAGE)?))
-}
 
 fn make_tasks(rt: &impl Abort, kernel: &mut Kernel) {
     assert!(rt; kernel.create_task() == Ok(server()));
@@ -242,7 +234,7 @@ fn messages(rt: HostRuntime) -> Result<(), Fail> {
 fn messages_go(rt: &impl Abort, alloc: Global, kernel: &mut Kernel) -> Result<(), Fail> {
     give_service(rt, kernel);
     assert!(rt; kernel.set_qlimit(server(), Name::new(1), 1) == Ok(()));
-    assert!(rt; kernel.send(client(), message(alloc)?).is_ok());
+    assert!(rt; kernel.send(client(), bytes(alloc, &MESSAGE)?).is_ok());
     message_comes_back(rt, alloc, kernel)?;
     message_is_received(rt, alloc, kernel)
 }
@@ -250,15 +242,15 @@ fn messages_go(rt: &impl Abort, alloc: Global, kernel: &mut Kernel) -> Result<()
 fn message_comes_back(rt: &impl Abort, alloc: Global, kernel: &mut Kernel) -> Result<(), Fail> {
     let full = SendError {
         code: Code::Message(MsgReturn::SendTimedOut),
-        message: message(alloc)?,
+        message: bytes(alloc, &MESSAGE)?,
     };
-    assert!(rt; kernel.send(client(), message(alloc)?) == Err(full));
+    assert!(rt; kernel.send(client(), bytes(alloc, &MESSAGE)?) == Err(full));
     Ok(())
 }
 
 fn message_is_received(rt: &impl Abort, alloc: Global, kernel: &mut Kernel) -> Result<(), Fail> {
     let one = Name::new(1);
-    let received = Receipt::Message(Bytes::from_vec(Vec::from_slice(alloc, &RECEIVED)?));
+    let received = Receipt::Message(bytes(alloc, &RECEIVED)?);
     assert!(rt; kernel.receive(server(), one, 20, true) == Ok(Receipt::TooLarge(24)));
     assert!(rt; kernel.receive(server(), one, 24, false) == Ok(received));
     Ok(())
@@ -276,7 +268,7 @@ fn receive_goes_on(rt: &impl Abort, alloc: Global, kernel: &mut Kernel) -> Resul
     let Some(waited) = finds_nothing(kernel) else {
         return Err(Fail::new("a message that was not sent"));
     };
-    assert!(rt; kernel.send(client(), message(alloc)?).is_ok());
+    assert!(rt; kernel.send(client(), bytes(alloc, &MESSAGE)?).is_ok());
     finds_what_came(rt, kernel, &waited);
     let invalid = Code::Kern(KernReturn::InvalidTask);
     assert!(rt; kernel.receive(TaskId::new(9), Name::new(1), 24, true) == Err(invalid));

@@ -1,8 +1,10 @@
-//! A kernel of the second profile, whose fresh names have a generation: the same exchange by typed calls and by
-//! `run_with`. Names that a caller chooses aren't counted.
+//! A kernel of the second profile, whose fresh names have a generation. Names that a caller chooses aren't counted.
+//!
+//! `tests/profiles/generations.script` has the same exchange as calls.
+use crate::messages::bytes;
 use crate::parties::server;
-use gelvonds::{Bytes, Event, Kernel, Name, Profile, Receipt, Reply, Right, run_with};
-use std::alloc::{AllocError, Global};
+use gelvonds::{Kernel, Name, Profile, Receipt, Right};
+use std::alloc::Global;
 use std::process::Abort;
 use std::test::*;
 
@@ -18,10 +20,6 @@ const MESSAGE: [u8; 24] = [
 const RECEIVED: [u8; 24] = [
     0, 17, 0, 0, 24, 0, 0, 0, 0, 0, 0, 0, 0, 1, 0, 0, 0, 0, 0, 0, 7, 0, 0, 0,
 ];
-
-fn bytes(alloc: Global, message: &[u8; 24]) -> Result<Bytes, AllocError> {
-    Ok(Bytes::from_vec(Vec::from_slice(alloc, message)?))
-}
 
 #[test]
 fn names_by_typed_calls(rt: HostRuntime) -> Result<(), Fail> {
@@ -59,46 +57,4 @@ fn message_goes(rt: &impl Abort, alloc: Global, kernel: &mut Kernel) -> Result<(
     let received = Receipt::Message(bytes(alloc, &RECEIVED)?);
     assert!(rt; kernel.receive(server(), Name::new(PORT), 24, false) == Ok(received));
     Ok(())
-}
-
-#[test]
-fn names_by_a_run(rt: HostRuntime) -> Result<(), Fail> {
-    let (_, replies) = run_with(rt.alloc(), Profile::Two, events(rt.alloc())?)?;
-    assert!(rt; replies.as_slice() == expected(rt.alloc())?.as_slice());
-    Ok(())
-}
-
-fn events(alloc: Global) -> Result<Vec<Event>, AllocError> {
-    let (task, dead) = (server(), Right::DeadName.number());
-    Ok(vec![in alloc;
-        Event::TaskCreate,
-        Event::Allocate(task, Right::Receive.number()),
-        Event::Allocate(task, dead),
-        Event::Deallocate(task, Name::new(512)),
-        Event::Allocate(task, dead),
-        Event::AllocateName(task, dead, Name::new(700)),
-        Event::Deallocate(task, Name::new(513)),
-        Event::Allocate(task, dead),
-        Event::Deallocate(task, Name::new(700)),
-        Event::Allocate(task, dead),
-        Event::Send(task, bytes(alloc, &MESSAGE)?),
-        Event::Receive(task, Name::new(PORT), 24, false),
-    ]?)
-}
-
-fn expected(alloc: Global) -> Result<Vec<Reply>, AllocError> {
-    Ok(vec![in alloc;
-        Reply::Task(server()),
-        Reply::Name(Name::new(PORT)),
-        Reply::Name(Name::new(512)),
-        Reply::Code(0),
-        Reply::Name(Name::new(513)),
-        Reply::Name(Name::new(700)),
-        Reply::Code(0),
-        Reply::Name(Name::new(768)),
-        Reply::Code(0),
-        Reply::Name(Name::new(514)),
-        Reply::Code(0),
-        Reply::Message(bytes(alloc, &RECEIVED)?),
-    ]?)
 }

@@ -1,14 +1,29 @@
-//! Tests of `gelvonds`: its typed calls, a task with no name left, fresh names that have a generation, and messages
-//! that are written, sent, received and read back.
+//! Tests of `gelvonds`: its typed calls, a task with no name left, fresh names that have a generation, and the program of
+//! `docs/EMBEDDING.md`. Tests of its `threads`: the history of one kernel, callers in threads of their own, a kernel that
+//! keeps no entries, message calls, and blocks that run at once.
+//!
+//! They stand in a crate of their own, so that the crates that they test are proved once.
 #![tactic(auto)]
 
 #[cfg(test)]
+mod callers;
+#[cfg(test)]
 mod calls;
+#[cfg(test)]
+mod embedding;
 #[cfg(test)]
 mod full;
 #[cfg(test)]
 mod generations;
 #[cfg(test)]
+mod history;
+#[cfg(test)]
+mod message_calls;
+#[cfg(test)]
+mod messages;
+#[cfg(test)]
 mod parties;
 #[cfg(test)]
-mod random;
+mod unkept;
+#[cfg(test)]
+mod waiters;

@@ -1,14 +1,16 @@
 //! The program `mach_run`: runs scripts of calls of Mach 3 port IPC, and prints the replies or the history.
 //!
-//! `main` reads the words and opens the file; all else is done by [`perform`] of `mach_run_base`, over any
+//! `main` has the words read and opens the file; all else is done by [`perform`] of `mach_run_base`, over any
 //! reader and writers.
 #![tactic(auto)]
 
 ghost use Rattle.mach_run_base.specs.Jobs.{HasKernel};
 
+mod command_line;
+
 use clap::error::ErrorKind;
+use command_line::{Request, read_words};
 use mach_run_base::{Fault, Job, perform, report};
-use mach_run_words::{Request, read_words};
 use std::fs::File;
 use std::io::{BufWriter, Read, Write};
 use std::process::ExitCode;
