@@ -628,15 +628,19 @@ module _ (old w new : WorldView) (event : Event) (reply : Reply) (turns : ℕ) (
   touched_after told ends tells (inl idle) = subst (λ (c : Change). Touches old event reply new (touched_by new c)) (sym idle.told_is) (few_touched told tells idle.idle idle.same)
   touched_after told ends tells (inr is) = ends_touched told ends tells is
 
--- a refusal changes nothing
-pub none_touched : (old new : WorldView) (event : Event) (code : ℕ) → Declines old event code new → Touches old event (Reply.Code code) new (few None None)
-none_touched old new event code d = λ now s sh. (
+-- a refusal changes nothing, whatever it touches
+pub none_touched : (old new : WorldView) (event : Event) (code : ℕ) (touched : Touched) → Declines old event code new → Touches old event (Reply.Code code) new touched
+none_touched old new event code touched d = λ now s sh. (
   s,
   inl (record { declined = record { code = code; failed = refusal_fails s event code (d.refuses s sh); told = refl; same = refl }; refuses = d.refuses s sh }),
   d.shows s sh,
-  touches s s None None (few None None) (changes_none s s None None (keeps_same s s refl)) (λ p e. absurd (none_some p e)) (λ p e. absurd (none_some p e)) (λ p set e. absurd (none_some p e)),
+  touches s s None None touched (changes_none s s None None (keeps_same s s refl)) (λ p e. absurd (none_some p e)) (λ p e. absurd (none_some p e)) (λ p set e. absurd (none_some p e)),
   refused_in_turn old event code s s,
 )
+
+-- by the same tables
+pub still_touches : (old same new : WorldView) (event : Event) (reply : Reply) (touched : Touched) → old ≡ same → Touches old event reply new touched → Touches same event reply new touched
+still_touches old same new event reply touched is touches = subst (λ (w : WorldView). Touches w event reply new touched) is touches
 
 -- what holds however a call is answered
 pub on_ok : {T E : Type 0} (r : Result T E) {P : T → Type 0} → ((x : T) → P x) → IfOk r P

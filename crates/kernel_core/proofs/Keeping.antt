@@ -4,6 +4,7 @@ use Rattle.std.specs.Prelude.{max, OnOk, OnErr}
 use Rattle.std.proofs.lemmas.Bool.Decides.{eqb_tells, leb_tells}
 use Rattle.mach_types.specs.declared.calls.Event.{Event}
 use Rattle.mach_types.specs.declared.calls.Reply.{Reply}
+use Rattle.mach_types.specs.declared.touched.Touched.{Touched}
 use Rattle.mach_types.specs.declared.codes.KernReturn.TheVariants.{InvalidTask, ResourceShortage}
 use Rattle.mach_types.specs.Codes.{kern_number}
 use Rattle.mach_model.specs.State.{State}
@@ -28,6 +29,7 @@ use Rattle.notifications.specs.declared.request.Asked.{Asked}
 use Rattle.notifications.specs.Wanted.{WantsToRequest, LeavesRequest, LeavesSlots as AskedSlots}
 use Rattle.kernel_core.specs.InTurn.{KeepsTurns, told_by}
 use Rattle.kernel_core.specs.Send.{UsesSlot}
+use Rattle.kernel_core.specs.Touching.{RefusalTouchesNone}
 use Rattle.transfer.specs.Room.{MakesSlots}
 use Rattle.kernel_core.specs.Wanted.{memory_code, WantsMemory, Wanted, UsesSlots, LeavesSlots, LeavesSpares, Performs}
 use Rattle.kernel_core.proofs.Taking.{IsNoReceipt, other_turns, other_takes}
@@ -70,6 +72,12 @@ done_wanted w event reply new stands a = record {
       let zero = does_zero 0 stands.state event (memory_code event) d.mid d.owed (subst (λ (r : Reply). Does 0 stands.state event r d.mid d.owed) is d.does) in
       let some = (code_apart event).0 in omega (arith, zero, some));
 }
+
+-- what is done is no refusal
+pub done_refuses_none : (w : WorldView) (event : Event) (reply : Reply) (new : WorldView) (touched : Touched) → Stands w → Completes w event reply new → RefusalTouchesNone reply touched
+done_refuses_none w event reply new touched stands a = λ code is failed. absurd (
+    let d = a.acts 0 stands.state stands.shown in
+    failed (does_zero 0 stands.state event code d.mid d.owed (subst (λ (r : Reply). Does 0 stands.state event r d.mid d.owed) is d.does)))
 
 pub refused_wanted : (w : WorldView) (event : Event) (code : ℕ) → (code ≡ memory_code event → WantsMemory w event) → Wanted w event (Reply.Code code)
 refused_wanted w event code wants = record { wanted = λ is. wants (same_code code (memory_code event) is) }

@@ -1,8 +1,9 @@
 -- What is told of a step while it is done, and what it promises of the ports and sets that it may have changed.
-use Rattle.std.specs.Prelude.{◌≡◌, ℕ, List, Option, Bool, if◌then◌else◌, ◌⊎◌}
+use Rattle.std.specs.Prelude.{◌≡◌, ◌≢◌, ℕ, List, [], ◌∷◌, Option, None, Bool, if◌then◌else◌, ◌⊎◌}
 use Rattle.mach_types.specs.declared.calls.Event.{Event}
 use Rattle.mach_types.specs.declared.calls.Reply.{Reply}
 use Rattle.mach_types.specs.declared.touched.Touched.{Touched}
+use Rattle.mach_types.specs.declared.touched.Touched.TheVariants.{Few}
 use Rattle.mach_model.specs.State.{State}
 use Rattle.mach_model.specs.Machine.{Step}
 use Rattle.mach_laws.specs.Touching.{TouchesOnly}
@@ -64,3 +65,7 @@ pub record EndsIdle (w : WorldView) (told ends : Change) (new : WorldView) : Typ
 abbrev pub Touches : (old : WorldView) → Event → Reply → (new : WorldView) → Touched → Type 0
 Touches old event reply new touched = (now : ℕ) (s : State) → Shows old s →
     (t : State) × Step now s event reply t × Shows new t × TouchesOnly s t touched × TakesByTurn old event reply s t
+
+-- A refusal, which has a code that isn't 0, touches no port and no set.
+abbrev pub RefusalTouchesNone : Reply → Touched → Type 0
+RefusalTouchesNone reply touched = (code : ℕ) → reply ≡ Reply.Code code → code ≢ 0 → touched ≡ Few (None ∷ None ∷ None ∷ None ∷ [])

@@ -30,7 +30,7 @@ ghost use Rattle.kernel_core.specs.InTurn.{StepsInTurn};
 ghost use Rattle.kernel_core.specs.Kernels.{TakesTurns};
 ghost use Rattle.kernel_core.specs.Limits.{HasRoomFor, IsNearLimit};
 ghost use Rattle.kernel_core.specs.MemoryCodes.{TellsMemoryCode};
-ghost use Rattle.kernel_core.specs.Touching.{TellsChange, Touches, EndsIdle};
+ghost use Rattle.kernel_core.specs.Touching.{TellsChange, Touches, EndsIdle, RefusalTouchesNone};
 ghost use Rattle.kernel_core.specs.Wanted.{Wanted, Spares, Performs};
 
 use crate::memory::{has_room_for, tell_memory_code};
@@ -164,6 +164,7 @@ impl Kernel {
         ensures unused { (s : State) → Shows self.new.tables s → self.new.tables.ledger.unused ≡ unused_onces s }
         ensures in_turn { StepsInTurn self.old.tables event.now result self.new.tables }
         ensures touches { Touches self.old.tables event.now result self.new.tables self.new.touched }
+        ensures refused { RefusalTouchesNone result self.new.touched }
     {
         check_slots(&self.world);
         self.change = Change::Nothing;

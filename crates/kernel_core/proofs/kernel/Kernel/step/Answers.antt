@@ -3,14 +3,14 @@ use Rattle.mach_types.specs.declared.calls.Reply.{Reply}
 use Rattle.copyin_base.specs.Serving.{code_number}
 use Rattle.copyin_base.specs.Worlds.{WorldView}
 use Rattle.copyin_base.specs.Shows.{Shows}
-use Rattle.kernel_change.specs.Changing.{few, touched_by}
+use Rattle.kernel_change.specs.Changing.{touched_by}
 use Rattle.kernel_core.specs.InTurn.{StepsInTurn}
 use Rattle.kernel_core.specs.Kernels.{KernelView, TakesTurns}
 use Rattle.kernel_core.specs.Touching.{Touches}
 use Rattle.kernel_core.specs.Wanted.{Wanted, Spares}
-use Rattle.kernel_core.proofs.Changed.{touched_after, none_touched}
+use Rattle.kernel_core.proofs.Changed.{touched_after, none_touched, still_touches}
 use Rattle.kernel_core.proofs.Ending.{acted_spares, declined_spares, is_midway}
-use Rattle.kernel_core.proofs.Keeping.{done_wanted}
+use Rattle.kernel_core.proofs.Keeping.{done_refuses_none, done_wanted}
 use Rattle.kernel_core.proofs.Stepping.{acted, acted_turns, declined, declined_turns, still_stands}
 use Rattle.kernel_core.proofs.Unused.{shown_unused}
 use Rattle.kernel_core.proofs.kernel.Kernel.step.Goals as goal
@@ -77,8 +77,7 @@ returns-in-Err-clause-in_turn c =
 
 pub returns-in-Err-clause-touches : goal.returns-in-Err-clause-touches
 returns-in-Err-clause-touches c =
-    let same : c.self.inside.world ≡ c.args.self.now.tables = ap (λ (k : KernelView). k.tables) c.self.view_is in
-    rw c.number.ensures (subst (λ (w : WorldView). Touches w c.args.event.now (Reply.Code (code_number c.in-Err.code)) c.act.new.world (few None None)) same (none_touched _ _ _ _ c.in-Err.ensures.performs.serves))
+    rw c.number.ensures (still_touches _ _ _ _ _ _ (ap (λ (k : KernelView). k.tables) c.self.view_is) (none_touched _ _ _ _ _ c.in-Err.ensures.performs.serves))
 
 pub returns-in-Ok-clause-touches : goal.returns-in-Ok-clause-touches
 returns-in-Ok-clause-touches c =
@@ -86,3 +85,6 @@ returns-in-Ok-clause-touches c =
     let e = c.end_step-turns.ensures in
     subst (λ (w : WorldView). Touches w c.args.event.now c.in-Ok.reply c.end_step-turns.new.world (touched_by c.end_step-turns.new.world c.end_step-turns.new.told)) same
     (touched_after _ _ _ _ _ _ c.in-Ok.ensures.performs.takes e.settles c.act.new.told c.end_step-turns.new.told c.in-Ok.ensures.tells e.change)
+
+pub returns-in-Ok-clause-refused : goal.returns-in-Ok-clause-refused
+returns-in-Ok-clause-refused c = done_refuses_none _ _ _ _ (touched_by c.end_step-turns.new.world c.end_step-turns.new.told) c.self.invariant c.in-Ok.ensures.performs.serves
