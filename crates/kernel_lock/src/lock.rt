@@ -142,7 +142,7 @@ impl LockedKernel {
     /// happened: the kernel, its history and the pass are as before. Where entries aren't kept the history has no
     /// growth, and each call is recorded. No call is where the history has 2^63 of them. Waits for nobody.
     ///
-    /// A call that was made leaves in the pass which ports and sets it may have changed ([`Pass::touched`]).
+    /// A recorded call leaves in the pass what [`Kernel::touched`] then returns ([`Pass::touched`]).
     pub fn step_locked(&mut self, board: &Board, pass: &mut Pass, event: Event) -> Reply
         requires { (self.old.table ≡ board.now) × (pass.old.table ≡ board.now) }
         ensures tied { (self.new.table ≡ board.now) × (pass.new.table ≡ board.now) }
@@ -154,6 +154,7 @@ impl LockedKernel {
         ensures recorded { self.old.keeps ≡ false → length self.old.log < 2 ^ 63 → result ≢ AnyReply.NoRecord }
         ensures full { 2 ^ 63 ≤ length self.old.log → result ≡ AnyReply.NoRecord }
         ensures touches { result ≢ AnyReply.NoRecord → Touches self.old.kernel.tables event result self.new.kernel.tables pass.new.touched }
+        ensures left { result ≢ AnyReply.NoRecord → pass.new.touched ≡ self.new.kernel.touched }
     {
         if self.events >= MOST_CALLS {
             return Reply::NoRecord;
@@ -311,6 +312,7 @@ impl<'a> Held<'a> {
         ensures recorded { self.old.kernel.keeps ≡ false → length self.old.kernel.log < 2 ^ 63 → result ≢ AnyReply.NoRecord }
         ensures full { 2 ^ 63 ≤ length self.old.kernel.log → result ≡ AnyReply.NoRecord }
         ensures touches { result ≢ AnyReply.NoRecord → Touches self.old.kernel.kernel.tables event result self.new.kernel.kernel.tables pass.new.touched }
+        ensures left { result ≢ AnyReply.NoRecord → pass.new.touched ≡ self.new.kernel.kernel.touched }
     {
         self.kernel.step_locked(board, pass, event)
     }
@@ -474,8 +476,8 @@ impl Shared {
 }
 
 impl Pass {
-    /// Returns which ports and sets the last call of this pass that was recorded may have changed, as
-    /// [`Kernel::touched`] told of its step. None before the first. Constant time.
+    /// Returns which ports and sets the last recorded call of this pass may have changed: what
+    /// [`Kernel::touched`] returned right after its step. None before the first recorded call. Constant time.
     pub fn touched(&self) -> Touched
         ensures { result ≡ self.now.touched }
     {

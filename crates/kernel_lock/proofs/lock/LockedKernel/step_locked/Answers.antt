@@ -134,3 +134,6 @@ pub returns-clause-touches : goal.returns-clause-touches
 returns-clause-touches c = λ made.
     subst (λ (x : WorldView × Reply × Touched). Touches x.0 c.args.event x.1 c.step-reply.new.self.tables x.2)
     (λ i. (ap (λ x. x.kernel.tables) c.self.view_is i, sym c.add.ensures.reply i, sym c.touched-pass-inside.ensures i)) c.step-reply.ensures.touches
+
+pub returns-clause-left : goal.returns-clause-left
+returns-clause-left c = λ made. c.touched-pass-inside.ensures
