@@ -34,13 +34,15 @@ use Rattle.copyin_base.specs.Serving.{ShowsMid}
 use Rattle.copyin_base.specs.Shows.{Agrees, Shows}
 use Rattle.copyin_base.specs.Worlds.{WorldView}
 use Rattle.copyin_base.proofs.KeptEntries.{rights_of, body_kept}
+use Rattle.copyin.specs.declared.judge.Plan.{Plan}
 use Rattle.copyin.specs.Judging.{CopiesName, CopiesWord, PassesAs}
 use Rattle.copyin.proofs.Copying.{pairs, body_pairs}
 use Rattle.copyin.proofs.Planning.{message, third, copied, none_receives}
 use Rattle.kernel_change.specs.declared.change.Change.{Change}
 use Rattle.kernel_change.specs.declared.change.Change.TheVariants as change
 use Rattle.kernel_change.specs.Changing.{by_taking, by_taking_along, by_taking_two, by_taking_three, is_in_no_other, named_along, named_given, named_two_left, receives_of, set_of, touched_by}
-use Rattle.kernel_core.specs.Touching.{SendsAlong}
+use Rattle.kernel_core.specs.Send.{PlansText}
+use Rattle.kernel_core.specs.Touching.{TellsAlong}
 use Rattle.kernel_core.proofs.Covered.{OwnTouches, none_some, one_some, set_is}
 
 -- ---- the words of a body, and the rights that they become
@@ -211,12 +213,11 @@ module _ (now : ℕ) (old w : WorldView) (s mid : State) (owed : Owed) (sh : Sho
   law : owed ≡ [] → MidLawful mid []
   law none = subst (MidLawful mid) none shown.lawful
 
-  pub along_own : (task : ℕ) (bytes : List ℕ) (told : Change) → Sends now task bytes s mid → owed ≡ [] → SendsAlong old task bytes told → OwnTouches s mid owed (touched_by w told)
-  along_own task bytes told x none q = elim (taking_covers old w q.plan.port (receives_of q.plan.message.rights)) [
-    | inl every ↦ inl (ap (touched_by w) q.tells ∙ every)
+  pub along_own : (task : ℕ) (bytes : List ℕ) (plan : Plan) (told : Change) → Sends now task bytes s mid → owed ≡ [] → PlansText old task bytes plan → TellsAlong old plan told → OwnTouches s mid owed (touched_by w told)
+  along_own task bytes plan told x none p tells = elim (taking_covers old w plan.port (receives_of plan.message.rights)) [
+    | inl every ↦ inl (ap (touched_by w) tells ∙ every)
     | inr covers ↦ (
-        let ports : List ℕ = receives_of q.plan.message.rights in
-        let p = q.planned in
+        let ports : List ℕ = receives_of plan.message.rights in
         let j = p.is_plan.plans.judged in
         let y : Sends now task bytes s _ = record {
           header = p.text.header;
@@ -228,24 +229,24 @@ module _ (now : ℕ) (old w : WorldView) (s mid : State) (owed : Owed) (sh : Sho
           rest = refl;
         } in
         let same = sends_alike now task bytes s mid _ sh.lawful x y in
-        let to : x.m.destination ≡ q.plan.port = same.0 ∙ sym p.is_plan.port in
+        let to : x.m.destination ≡ plan.port = same.0 ∙ sym p.is_plan.port in
         let one : y.m ≡ x.m = sends_one now task bytes s mid _ x y in
         let moved = none_receives old s sh task bytes p.parsed p.text j in
         let rights : body_rights x.m.body ≡ rights_of j.rights = ap (λ (m : Message). body_rights m.body) (sym one) ∙ body_kept p.text.written j.rights (third old s sh task bytes p.parsed p.text j).given in
         let words : machine_words x.written ≡ pairs (body_words p.text.written) = ap machine_words same.2 ∙ sym (body_pairs p.text.written) in
-        let among : All (IsAmong ports) j.rights = subst (All (IsAmong ports)) (ap (λ (m : Kept). m.rights) p.is_plan.message) (all_among ports q.plan.message.rights (λ r in_it. in_it)) in
+        let among : All (IsAmong ports) j.rights = subst (All (IsAmong ports)) (ap (λ (m : Kept). m.rights) p.is_plan.message) (all_among ports plan.message.rights (λ r in_it. in_it)) in
         let zip : AllZip (TakesAlong (Contains ports)) (pairs (body_words p.text.written)) (rights_of j.rights) = along_words ports j.second (body_words p.text.written) j.rights j.last j.copies_body among in
         let body : AllZip (TakesAlong (Contains ports)) (machine_words x.written) (body_rights x.m.body) =
         subst (λ (rs : List (Kind × MachineMark)). AllZip (TakesAlong (Contains ports)) (machine_words x.written) rs) (sym rights) (subst (λ (ws : List (ℕ × ℕ)). AllZip (TakesAlong (Contains ports)) ws (rights_of j.rights)) (sym words) zip) in
         let along : GoesAlong (Contains ports) x.header x.written x.m =
         record { destination = subst (λ (h : Header). h.remote_kind ≢ 16) (sym same.1) moved.remote; reply = subst (λ (h : Header). h.local_kind ≢ 16) (sym same.1) moved.local; body = body } in
-        let touched : Touched = touched_by w (by_taking old q.plan.port ports) in
-        subst (λ (c : Touched). OwnTouches s mid owed c) (sym (ap (touched_by w) q.tells))
+        let touched : Touched = touched_by w (by_taking old plan.port ports) in
+        subst (λ (c : Touched). OwnTouches s mid owed c) (sym (ap (touched_by w) tells))
         (inr (inl (
           none,
           λ t k.
               along_touches (Contains ports) now task bytes s mid x along t k touched (subst (λ (o : ℕ). Covers touched (Waited.Port o)) (sym to) covers.port)
-              (λ set in_it. covers.own set (set_is w mid (agree none) q.plan.port ((law none).no_sets q.plan.port) set (subst (λ (o : ℕ). Contains (mid.sets_of o) set) to in_it)))
+              (λ set in_it. covers.own set (set_is w mid (agree none) plan.port ((law none).no_sets plan.port) set (subst (λ (o : ℕ). Contains (mid.sets_of o) set) to in_it)))
               (λ r in_it. (covers.others r in_it).0)
               (λ r set in_it was. (covers.others r in_it).1 set (set_is old s sh.agrees r (sh.lawful.no_sets r) set was)),
         ))))

@@ -1,5 +1,5 @@
 -- A plan is carried out: the send is done, or is refused for want of memory, which it may want.
-use Rattle.std.proofs.Common.{◌≡◌, ℕ, List, [], ◌∷◌, ◌∙◌, false, Some, None, Result, Ok, Err, IfOk, IfErr, OnOk, sym, subst, inl, inr}
+use Rattle.std.proofs.Common.{◌≡◌, ℕ, List, [], ◌∷◌, ◌∙◌, false, Result, Ok, Err, IfOk, IfErr, OnOk, sym, subst}
 use Rattle.std.specs.Prelude.{◌≢◌}
 use Rattle.mach_types.specs.declared.calls.Event.{Event}
 use Rattle.mach_types.specs.declared.codes.MsgReturn.{MsgReturn}
@@ -38,10 +38,8 @@ module _ {A : Type 0} (w new : WorldView) (task : ℕ) (bytes : List ℕ) (plan 
 
 -- Where it went is told of the bytes.
 pub goes : {A : Type 0} (w : WorldView) (task : ℕ) (bytes : List ℕ) (plan : Plan) → PlansText w task bytes plan → (told : Change) (r : Result A MsgReturn) → OnOk r (TellsPlan w plan told) → OnOk r (TellsSend w task bytes told)
-goes w task bytes plan p told (Ok v) (inl (None, g, is)) = inl (None, tt, is)
-goes w task bytes plan p told (Ok v) (inl (Some port, g, is)) = inl (Some port, record { plan = plan; planned = p; goes = g }, is)
-goes w task bytes plan p told (Ok v) (inr tells) = inr (record { plan = plan; planned = p; tells = tells })
-goes w task bytes plan p told (Err code) g = tt
+goes w task bytes plan p told (Ok v) tells = record { plan = plan; planned = p; tells = tells }
+goes w task bytes plan p told (Err code) tells = tt
 
 -- More slots tell nothing else.
 pub still_tells : (w x : WorldView) (n : ℕ) (plan : Plan) (told : Change) → x ≡ with_slots w n → TellsPlan x plan told → TellsPlan w plan told

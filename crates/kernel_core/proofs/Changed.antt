@@ -56,16 +56,17 @@ use Rattle.copyin_base.specs.Worlds.{WorldView, entry_at, port_at, IsIdle}
 use Rattle.copyin_base.specs.Serving.{ShowsMid}
 use Rattle.message_codec.specs.Words.{body_words}
 use Rattle.mach_types.specs.Bodies.{body_words as machine_words}
+use Rattle.copyin.specs.declared.judge.Plan.{Plan}
 use Rattle.copyin.proofs.Copying.{pairs, body_pairs}
 use Rattle.copyin.proofs.Planning.{message, third, copied, none_receives}
 use Rattle.destroy.specs.Stages.{SettlesIn}
 use Rattle.kernel_change.specs.declared.change.Change.TheVariants as change
 use Rattle.kernel_change.specs.declared.change.Change.{Change}
-use Rattle.kernel_change.specs.Changing.{ByDisbanding, ByEnding, ByLosingAll, ByReferences, DiesAlone, EndsAs, HasSends, by_handing, by_losing_all, by_losing_one, by_making, by_moving, by_paying, by_receipt, by_request, by_send, by_too_long, disbanded, few, is_send, left_by, made_last, moved_from, named_left, set_of, touched_by, with_set}
+use Rattle.kernel_change.specs.Changing.{ByDisbanding, ByEnding, ByLosingAll, ByReferences, DiesAlone, EndsAs, HasSends, by_handing, by_losing_all, by_losing_one, by_making, by_moving, by_paying, by_receipt, by_request, by_too_long, disbanded, few, is_send, left_by, made_last, moved_from, named_left, set_of, touched_by, with_set}
 use Rattle.kernel_core.specs.InTurn.{source, TakesByTurn, CompletesInTurn}
 use Rattle.kernel_core.specs.Receive.{taken_by, TakesOne}
-use Rattle.kernel_core.specs.Send.{MovesNoReceive, SendsTo, TellsSent}
-use Rattle.kernel_core.specs.Touching.{TellsChange, Touches, EndsIdle}
+use Rattle.kernel_core.specs.Send.{MovesNoReceive, PlansText}
+use Rattle.kernel_core.specs.Touching.{TellsChange, TellsPlan, Touches, EndsIdle}
 use Rattle.kernel_core.proofs.Along.{along_own}
 use Rattle.kernel_core.proofs.Alone.{none_kept, is_lone}
 use Rattle.kernel_core.proofs.Covered.{OwnTouches, touches_all, none_some, one_some, kept_all, set_is, under, covers_port, covers_set, queue_changed, limit_changed}
@@ -151,9 +152,8 @@ module _ (now : ℕ) (old w : WorldView) (s mid : State) (owed : Owed) (sh : Sho
   law : owed ≡ [] → MidLawful mid []
   law none = subst (MidLawful mid) none shown.lawful
 
-  message_sent : (task port : ℕ) (bytes : List ℕ) → Sends now task bytes s mid → owed ≡ [] → SendsTo old task bytes port → OwnTouches s mid owed (with_set w (Some port))
-  message_sent task port bytes x none q =
-      let p = q.planned in
+  message_sent : (task : ℕ) (bytes : List ℕ) (plan : Plan) → Sends now task bytes s mid → owed ≡ [] → PlansText old task bytes plan → MovesNoReceive plan.words.body.items → OwnTouches s mid owed (with_set w (Some plan.port))
+  message_sent task bytes plan x none p goes =
       let j = p.is_plan.plans.judged in
       let y : Sends now task bytes s _ = record {
         header = p.text.header;
@@ -165,16 +165,16 @@ module _ (now : ℕ) (old w : WorldView) (s mid : State) (owed : Owed) (sh : Sho
         rest = refl;
       } in
       let same = sends_alike now task bytes s mid _ sh.lawful x y in
-      let to : x.m.destination ≡ port = same.0 ∙ sym p.is_plan.port ∙ q.goes.0 in
+      let to : x.m.destination ≡ plan.port = same.0 ∙ sym p.is_plan.port in
       let moved = none_receives old s sh task bytes p.parsed p.text j in
-      let body : All IsOtherWord (machine_words p.text.written) = subst (All IsOtherWord) (body_pairs p.text.written) (others_in (body_words p.text.written) (subst MovesNoReceive p.is_plan.words.body q.goes.1)) in
+      let body : All IsOtherWord (machine_words p.text.written) = subst (All IsOtherWord) (body_pairs p.text.written) (others_in (body_words p.text.written) (subst MovesNoReceive p.is_plan.words.body goes)) in
       let others : SendsOthers x.header x.written =
       subst (λ (h : Header). SendsOthers h x.written) (sym same.1) (subst (λ (v : WireBody). SendsOthers p.text.header v) (sym same.2) (record { destination = moved.remote; reply = moved.local; body = body })) in
-      queue_changed w mid (agree none) s owed port (law none) (subst (λ (o : ℕ). Changes s mid (Some o) None) to (sends_change now task bytes s mid x others)) none
+      queue_changed w mid (agree none) s owed plan.port (law none) (subst (λ (o : ℕ). Changes s mid (Some o) None) to (sends_change now task bytes s mid x others)) none
 
-  sent_own : (task : ℕ) (bytes : List ℕ) (sent : Option ℕ) → Sends now task bytes s mid → owed ≡ [] → TellsSent old task bytes sent → OwnTouches s mid owed (touched_by w (by_send sent))
-  sent_own task bytes None x none tells = inl refl
-  sent_own task bytes (Some port) x none tells = message_sent task port bytes x none tells
+  sent_own : (task : ℕ) (bytes : List ℕ) (plan : Plan) (told : Change) → Sends now task bytes s mid → owed ≡ [] → PlansText old task bytes plan → TellsPlan old plan told → OwnTouches s mid owed (touched_by w told)
+  sent_own task bytes plan told x none p (inl (goes, is)) = subst (λ (c : Change). OwnTouches s mid owed (touched_by w c)) (sym is) (message_sent task bytes plan x none p goes)
+  sent_own task bytes plan told x none p (inr along) = along_own now old w s mid owed sh shown task bytes plan told x none p along
 
   -- ---- references
 
@@ -508,8 +508,7 @@ module _ (now : ℕ) (old w : WorldView) (s mid : State) (owed : Owed) (sh : Sho
   own (Event.Allocate task right) (Reply.Name name) told turn d tells = as_told tells (made_own task right name (gives task name s) (gives_keeps task name s) (gives-lawful task name s sh.lawful) d.1 d.2)
   own (Event.AllocateName task right name) (Reply.Name to) told turn d tells =
       as_told tells (made_own task right to s (keeps_same s s refl) sh.lawful (subst (λ (n : ℕ). Makes task right n s mid) (sym d.0) d.1) d.2)
-  own (Event.Send task bytes) (Reply.Code code) told turn d (inl (sent, tells, is)) = as_told is (sent_own task bytes sent d.1 d.2 tells)
-  own (Event.Send task bytes) (Reply.Code code) told turn d (inr along) = along_own now old w s mid owed sh shown task bytes told d.1 d.2 along
+  own (Event.Send task bytes) (Reply.Code code) told turn d tells = sent_own task bytes tells.plan told d.1 d.2 tells.planned tells.tells
   own (Event.Receive task name room large) reply told turn (waited, waits, receipt) tells = as_told tells (receipt_own task waited room large (source old (Event.Receive task name room large)) reply (λ one. turn (named_takes task name room large reply ∙ one)) receipt)
   own (Event.ReceiveAgain task waited room large) reply told turn receipt tells =
       as_told tells (receipt_own task waited room large (source old (Event.ReceiveAgain task waited room large)) reply (λ one. turn (again_takes task waited room large reply ∙ one)) receipt)

@@ -21,12 +21,13 @@ use Rattle.copyin_base.specs.declared.Mark.TheVariants as mark
 use Rattle.copyin_base.specs.Kept.{Kept}
 use Rattle.copyin_base.specs.Shows.{Shows, target_of}
 use Rattle.copyin_base.specs.Worlds.{WorldView, entry_at}
+use Rattle.copyin.specs.declared.judge.Plan.{Plan}
 use Rattle.kernel_change.specs.declared.change.Change.TheVariants as change
 use Rattle.kernel_change.specs.declared.change.Change.{Change}
-use Rattle.kernel_change.specs.Changing.{ByLosingAll, ByReferences, by_answer, by_body, by_destroying, by_front, by_handing, by_items, by_losing_all, by_losing_one, by_making, by_message, by_moving, by_paying, by_receipt, by_received, by_request, by_send, by_taking, by_taking_two, by_taking_three, by_taking_along, by_too_long, disbanded, front_at, gives_none, gives_one, left_by, moved_from, port_under, receives_of, set_of}
+use Rattle.kernel_change.specs.Changing.{ByLosingAll, ByReferences, by_answer, by_body, by_destroying, by_front, by_handing, by_items, by_losing_all, by_losing_one, by_making, by_message, by_moving, by_paying, by_receipt, by_received, by_request, by_taking, by_taking_two, by_taking_three, by_taking_along, by_too_long, disbanded, front_at, gives_none, gives_one, left_by, moved_from, port_under, receives_of, set_of}
 use Rattle.kernel_change.specs.Received.{body_names, received_by}
 use Rattle.kernel_core.specs.InTurn.{source}
-use Rattle.kernel_core.specs.Touching.{TellsChange}
+use Rattle.kernel_core.specs.Touching.{TellsChange, TellsPlan}
 
 abbrev NotLost : Change → Type 0
 NotLost (change.Lost p) = ⊥
@@ -83,10 +84,6 @@ not_receipt w task large from (Reply.Message bytes) = not_message task bytes
 not_receipt w task large from (Reply.Empty waited) = tt
 not_receipt w task large from (Reply.TooLarge n) = not_either large change.Nothing (by_too_long w from) tt (not_too_long w from)
 not_receipt w task large from reply = tt
-
-not_sent : (sent : Option ℕ) → NotLost (by_send sent)
-not_sent (Some port) = tt
-not_sent None = tt
 
 not_along : (to port : ℕ) (o : Option ℕ) → NotLost (by_taking_along to port o)
 not_along to port (Some set) = tt
@@ -211,6 +208,10 @@ module _ (now : ℕ) (old : WorldView) (s mid : State) (owed : Owed) (sh : Shows
         | inr (target, found, r) ↦ removed_lost task name right target found r tells
       ]
 
+  sent_lost : (plan : Plan) → TellsPlan old plan told → Loses
+  sent_lost plan (inl (goes, is)) = absurd (never (change.Queue plan.port) is tt)
+  sent_lost plan (inr is) = let ports = receives_of plan.message.rights in absurd (never (by_taking old plan.port ports) is (not_taking old plan.port ports))
+
   pub own_lost : (event : Event) (reply : Reply) → Does now s event reply mid owed → TellsChange old event reply told → Loses
   own_lost (Event.Destroy task name) (Reply.Code code) d tells = destroyed_lost task name d.1 tells
   own_lost (Event.ModRefs task name right delta) (Reply.Code code) d tells = modified_lost task name right delta d.1 tells
@@ -235,8 +236,7 @@ module _ (now : ℕ) (old : WorldView) (s mid : State) (owed : Owed) (sh : Shows
   own_lost (Event.InsertRight task name from poly number) reply d tells = absurd (never (by_handing old from poly number) tells (not_handing old from poly number))
   own_lost (Event.ExtractRight task name number to) reply d tells = absurd (never (by_handing old task name number) tells (not_handing old task name number))
   own_lost (Event.RequestNotification task name variant sync notify number) reply d tells = absurd (never (by_request old task notify number) tells (not_request old task notify number))
-  own_lost (Event.Send task bytes) reply d (inl (sent, tells, is)) = absurd (never (by_send sent) is (not_sent sent))
-  own_lost (Event.Send task bytes) reply d (inr along) = let ports = receives_of along.plan.message.rights in absurd (never (by_taking old along.plan.port ports) along.tells (not_taking old along.plan.port ports))
+  own_lost (Event.Send task bytes) reply d tells = sent_lost tells.plan tells.tells
   own_lost (Event.Receive task name room large) reply d tells =
       let from = source old (Event.Receive task name room large) in absurd (never (by_receipt old task large from reply) tells (not_receipt old task large from reply))
   own_lost (Event.ReceiveAgain task waited room large) reply d tells =

@@ -1,5 +1,5 @@
 -- What sending does to the tables.
-use Rattle.std.specs.Prelude.{◌≡◌, ◌≢◌, ℕ, ◌+◌, ◌≤◌, List, Option, Some, None, All, max}
+use Rattle.std.specs.Prelude.{◌≡◌, ◌≢◌, ℕ, ◌+◌, ◌≤◌, List, All, max}
 use Rattle.message_codec.specs.declared.text.Parsed.{Parsed}
 use Rattle.message_codec.specs.declared.words.PortWord.{PortWord}
 use Rattle.message_codec.specs.Parses.{Parses}
@@ -29,22 +29,6 @@ pub record SendsText (old : WorldView) (task : ℕ) (bytes : List ℕ) (new : Wo
 -- No receive right goes by one of these words.
 abbrev pub MovesNoReceive : List PortWord → Type 0
 MovesNoReceive words = All (λ (w : PortWord). w.disposition ≢ 16) words
-
--- What is told of where the plan's message goes: its port, where its body carries no receive right.
-abbrev pub GoesTo : Plan → (to : Option ℕ) → Type 0
-GoesTo plan (Some port) = (plan.port ≡ port) × MovesNoReceive plan.words.body.items
-GoesTo plan None = Unit {0}
-
--- The bytes are a message to this port, and its body carries no receive right.
-pub record SendsTo (w : WorldView) (task : ℕ) (bytes : List ℕ) (port : ℕ) : Type 0 where
-  pub plan : Plan
-  pub planned : PlansText w task bytes plan
-  pub goes : GoesTo plan (Some port)
-
--- What is told of where they went.
-abbrev pub TellsSent : WorldView → (task : ℕ) → (bytes : List ℕ) → (sent : Option ℕ) → Type 0
-TellsSent w task bytes (Some port) = SendsTo w task bytes port
-TellsSent w task bytes None = Unit {0}
 
 -- A spare slot is used; slots are made only where fewer are spare than that one and those of the send-once rights that no queued message
 -- goes by then. There is as much room for names as before.

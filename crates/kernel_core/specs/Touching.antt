@@ -10,30 +10,27 @@ use Rattle.mach_laws.specs.Touching.{TouchesOnly}
 use Rattle.copyin_base.specs.Shows.{Shows}
 use Rattle.copyin_base.specs.Worlds.{WorldView, IsIdle}
 use Rattle.kernel_change.specs.declared.change.Change.{Change}
-use Rattle.kernel_change.specs.Changing.{receives_of, by_send, by_taking, by_message, by_too_long, by_receipt, Changes}
+use Rattle.kernel_change.specs.declared.change.Change.TheVariants.{Queue}
+use Rattle.kernel_change.specs.Changing.{receives_of, by_taking, by_message, by_too_long, by_receipt, Changes}
 use Rattle.copyin.specs.declared.judge.Plan.{Plan}
 use Rattle.kernel_core.specs.InTurn.{source, TakesByTurn}
-use Rattle.kernel_core.specs.Send.{GoesTo, PlansText, TellsSent}
+use Rattle.kernel_core.specs.Send.{MovesNoReceive, PlansText}
 
 -- ---- what is told
 
--- Of the message of a plan the port is told whose receive right goes along, where it is one.
+-- Of the message of a plan its port is told, and each port whose receive right goes along.
 abbrev pub TellsAlong : WorldView → Plan → (told : Change) → Type 0
 TellsAlong w plan told = told ≡ by_taking w plan.port (receives_of plan.message.rights)
 
--- Of the message of a plan its port is told, where no receive right goes along, and else what goes along.
+-- Where no receive right goes along, its port alone is told.
 abbrev pub TellsPlan : WorldView → Plan → (told : Change) → Type 0
-TellsPlan w plan told = ((sent : Option ℕ) × GoesTo plan sent × (told ≡ by_send sent)) ⊎ TellsAlong w plan told
+TellsPlan w plan told = MovesNoReceive plan.words.body.items × (told ≡ Queue plan.port) ⊎ TellsAlong w plan told
 
--- What goes along with the message is told.
-pub record SendsAlong (w : WorldView) (task : ℕ) (bytes : List ℕ) (told : Change) : Type 0 where
+-- The same of the bytes that the plan sends.
+pub record TellsSend (w : WorldView) (task : ℕ) (bytes : List ℕ) (told : Change) : Type 0 where
   pub plan : Plan
   pub planned : PlansText w task bytes plan
-  pub tells : TellsAlong w plan told
-
--- A port is told that the message went to, where no receive right went along, and else what went along.
-abbrev pub TellsSend : WorldView → (task : ℕ) → (bytes : List ℕ) → (told : Change) → Type 0
-TellsSend w task bytes told = ((sent : Option ℕ) × TellsSent w task bytes sent × (told ≡ by_send sent)) ⊎ SendsAlong w task bytes told
+  pub tells : TellsPlan w plan told
 
 -- where a receipt is answered so: a message that is destroyed as too long is told of, and one that is received
 abbrev pub by_length : WorldView → (large : Bool) → (from : Option ℕ) → Reply → (told : Change) → Change

@@ -30,8 +30,7 @@ use std::alloc::Global;
 /// - those of its rights and of the message as a whole, as [`copyin::check`];
 /// - `MACH_SEND_NO_BUFFER`: memory was refused for the slots that it wants.
 ///
-/// In `told` it leaves that the queue of the port changed that the message went to, and whose receive right went along,
-/// where that is one.
+/// In `told` it leaves the port that the message went to, and the ports whose receive rights went along.
 ///
 /// Linear in the message, except for what [`copyin::check`] says of each right.
 #[inline(always)]
@@ -227,9 +226,9 @@ fn send_any(
     }
 }
 
-/// Makes the slots that the plan wants, and sends its message, whose body may move receive rights. In `told` it
-/// leaves the port that it goes to, and a port whose receive right goes along. `MACH_SEND_NO_BUFFER` where memory was refused for the
-/// slots; the tables are then as before.
+/// Makes the slots that the plan wants, and sends its message, whose body may move receive rights. In `told` it leaves
+/// the port that it goes to, and the ports whose receive rights go along. `MACH_SEND_NO_BUFFER` where memory was refused
+/// for the slots; the tables are then as before.
 #[inline(always)]
 fn carry_out(world: &mut World, plan: Plan, moves: bool, told: &mut Change) -> Result<(), MsgReturn>
     requires stands { Stands world.old }

@@ -1,5 +1,5 @@
-use Rattle.std.proofs.Common.{Some, refl, inl}
+use Rattle.std.proofs.Common.{refl, inl}
 use Rattle.kernel_core.proofs.send.tell_sent.Goals as goal
 
 pub returns-else-moves : goal.returns-else-moves
-returns-else-moves c = inl (Some c.args.plan.now.port, (refl, c.requires c.if-moves.false), refl)
+returns-else-moves c = inl (c.requires c.if-moves.false, refl)
