@@ -10,16 +10,16 @@ use Rattle.name_space.specs.Names.{Names, SpaceView, IsNextName}
 use Rattle.copyin_base.specs.Stands.{Stands}
 use Rattle.copyin_base.specs.Worlds.{WorldView, entry_at, entry_in, space_at}
 use Rattle.copyin_base.proofs.Tied.{stands_tied}
-use Rattle.kernel_change.specs.Changing.{is_send, HasSends}
+use Rattle.kernel_change.specs.Changing.{is_send_or_dead, HasSendsAlone}
 
 -- Those below this one do.
 pub record AreSends (names : Names) (below : ℕ) : Type 0 where
-  pub only : (name : ℕ) (e : Entry) → name < below → map.get names name ≡ Some e → is_send e ≡ true
+  pub only : (name : ℕ) (e : Entry) → name < below → map.get names name ≡ Some e → is_send_or_dead e ≡ true
 
 none_some : {A : Type 0} (x : A) → None ≡ Some x → ⊥
 none_some x e = cc
 
-not_sent : (e : Entry) → is_send e ≡ false → is_send e ≡ true → ⊥
+not_sent : (e : Entry) → is_send_or_dead e ≡ false → is_send_or_dead e ≡ true → ⊥
 not_sent e other sends = let f : true ≡ false = sym sends ∙ other in cc
 
 same_entry : (a b : Entry) → Some a ≡ Some b → a ≡ b
@@ -39,7 +39,7 @@ module _ (w : WorldView) (task : ℕ) (space : SpaceView) (there : space_at w ta
   at_name name = ap (λ (o : Option SpaceView). entry_in o name) there
 
   module _ (name : ℕ) (next : IsNextName space.names from name) (e : Entry) (found : map.get space.names name ≡ Some e) where
-    pub one_sent : is_send e ≡ true → (after : ℕ) → after ≡ name + 1 → AreSends space.names after
+    pub one_sent : is_send_or_dead e ≡ true → (after : ℕ) → after ≡ name + 1 → AreSends space.names after
     one_sent sends after is = record {
       only = λ n x less at. elim (cases_lt n from) [
         | inl h ↦ asked.only n x h at
@@ -48,12 +48,12 @@ module _ (w : WorldView) (task : ℕ) (space : SpaceView) (there : space_at w ta
           | inr g ↦
               let same : n ≡ name = omega (arith, g, less, is) in
               let entry : e ≡ x = same_entry e x (sym found ∙ subst (λ (k : ℕ). map.get space.names k ≡ Some x) same at) in
-              subst (λ (y : Entry). is_send y ≡ true) entry sends
+              subst (λ (y : Entry). is_send_or_dead y ≡ true) entry sends
         ]
       ];
     }
 
-    pub one_other : is_send e ≡ false → HasSends w task → ⊥
+    pub one_other : is_send_or_dead e ≡ false → HasSendsAlone w task → ⊥
     one_other other sends = not_sent e other (sends.only name e (at_name name ∙ found))
 
     not_dead : Stands w → name ≢ dead_word
@@ -69,7 +69,7 @@ module _ (w : WorldView) (task : ℕ) (space : SpaceView) (there : space_at w ta
     pub less_to_come : (after : ℕ) → after ≡ name + 1 → after < 2 ^ 32 → 2 ^ 32 - after < 2 ^ 32 - from
     less_to_come after is small = let before = next.from in omega (arith, is, small, before)
 
-  pub all_sent : ((name : ℕ) → from ≤ name → map.get space.names name ≡ None) → HasSends w task
+  pub all_sent : ((name : ℕ) → from ≤ name → map.get space.names name ≡ None) → HasSendsAlone w task
   all_sent none = record {
     only = λ name e at. let found : map.get space.names name ≡ Some e = sym (at_name name) ∙ at in elim (cases_lt name from) [
       | inl h ↦ asked.only name e h found

@@ -27,7 +27,7 @@ use Rattle.kernel_change.specs.declared.received.Received.{Received}
 use Rattle.kernel_change.specs.declared.received.Received.TheVariants as received
 use Rattle.kernel_change.specs.Received.{body_names, received_by}
 use Rattle.kernel_change.specs.declared.change.Change.{Change}
-use Rattle.kernel_change.specs.declared.change.Change.TheVariants.{Nothing, Made, PortNamed, Queue, Queues, Along, AlongFrom, AlongTwo, AlongTwoFrom, AlongThree, QueueNamed, Given, GivenTwo, GivenThree, Left, Disbanded, DisbandedTwo, DisbandedThree, Lost, Any}
+use Rattle.kernel_change.specs.declared.change.Change.TheVariants.{Nothing, Made, PortNamed, Queue, Queues, Along, AlongFrom, AlongTwo, AlongTwoFrom, AlongThree, QueueNamed, ReceivedOne, ReceivedTwo, ReceivedThree, Left, Disbanded, DisbandedTwo, DisbandedThree, Lost, Any}
 
 -- ---- what it is
 
@@ -60,9 +60,9 @@ abbrev pub named_along : WorldView → (to port : ℕ) → (left : Option ℕ) �
 named_along w to port left = Few (Some (Waited.Port to) ∷ option_map Waited.Set (set_of w to) ∷ Some (Waited.Port port) ∷ option_map Waited.Set left ∷ [])
 
 -- a port with its set, and two others, where they are there, which are in no set
-abbrev pub named_given : WorldView → Option ℕ → (a b : Option ℕ) → Touched
-named_given w (Some p) a b = Few (Some (Waited.Port p) ∷ option_map Waited.Set (set_of w p) ∷ option_map Waited.Port a ∷ option_map Waited.Port b ∷ [])
-named_given w None a b = few None None
+abbrev pub named_received : WorldView → Option ℕ → (a b : Option ℕ) → Touched
+named_received w (Some p) a b = Few (Some (Waited.Port p) ∷ option_map Waited.Set (set_of w p) ∷ option_map Waited.Port a ∷ option_map Waited.Port b ∷ [])
+named_received w None a b = few None None
 
 -- a port, and three others: of one in a set there is no place for all
 abbrev pub named_three : WorldView → Option ℕ → (a b c : Option ℕ) → Touched
@@ -90,13 +90,13 @@ touched_by w (Queue port) = with_set w (Some port)
 touched_by w (Queues a b) = named_two w a b
 touched_by w (Along to port) = named_along w to port None
 touched_by w (AlongFrom to port left) = named_along w to port (Some left)
-touched_by w (AlongTwo to a b) = named_given w (Some to) (Some a) (Some b)
+touched_by w (AlongTwo to a b) = named_received w (Some to) (Some a) (Some b)
 touched_by w (AlongTwoFrom to a b left) = named_two_left w to a b left
 touched_by w (AlongThree to a b c) = named_three w (Some to) (Some a) (Some b) (Some c)
 touched_by w (QueueNamed task name) = with_set w (port_under w task name)
-touched_by w (Given task name a) = named_given w (port_under w task name) (port_under w task a) None
-touched_by w (GivenTwo task name a b) = named_given w (port_under w task name) (port_under w task a) (port_under w task b)
-touched_by w (GivenThree task name a b c) = named_three w (port_under w task name) (port_under w task a) (port_under w task b) (port_under w task c)
+touched_by w (ReceivedOne task name a) = named_received w (port_under w task name) (port_under w task a) None
+touched_by w (ReceivedTwo task name a b) = named_received w (port_under w task name) (port_under w task a) (port_under w task b)
+touched_by w (ReceivedThree task name a b c) = named_three w (port_under w task name) (port_under w task a) (port_under w task b) (port_under w task c)
 touched_by w (Left port set) = named_left w port set
 touched_by w (Disbanded set) = few (Some (Waited.Set set)) None
 touched_by w (DisbandedTwo set a b) = Few (Some (Waited.Set set) ∷ Some (Waited.Port a) ∷ Some (Waited.Port b) ∷ None ∷ [])
@@ -110,6 +110,7 @@ touched_by w Any = All
 abbrev pub receives_of : List Carried → List ℕ
 receives_of cs = filter_map receive_of cs
 
+-- as the code keeps them: three at most
 abbrev pub moved_by : List ℕ → Moved
 moved_by [] = moved.Nothing
 moved_by (a ∷ []) = moved.One a
@@ -128,9 +129,9 @@ gives_one bytes = length bytes == 32 && not (word_at bytes 0 % 2 ^ 8 == 16)
 -- the receive rights come under these names
 abbrev pub by_received : (task name : ℕ) → Received → Change
 by_received task name received.Nothing = QueueNamed task name
-by_received task name (received.One a) = Given task name a
-by_received task name (received.Two a b) = GivenTwo task name a b
-by_received task name (received.Three a b c) = GivenThree task name a b c
+by_received task name (received.One a) = ReceivedOne task name a
+by_received task name (received.Two a b) = ReceivedTwo task name a b
+by_received task name (received.Three a b c) = ReceivedThree task name a b c
 by_received task name received.Several = Any
 
 -- by all items of the body, where the reply right is no receive right
@@ -141,12 +142,13 @@ by_body task bytes =
 -- The right of a body of one goes by the first word of the body, and its name is the second.
 abbrev pub by_items : (task : ℕ) → List ℕ → Change
 by_items task bytes =
-    if gives_one bytes then (if word_at bytes 24 % 2 ^ 8 == 16 then Given task (word_at bytes 12) (word_at bytes 28) else QueueNamed task (word_at bytes 12)) else by_body task bytes
+    if gives_one bytes then (if word_at bytes 24 % 2 ^ 8 == 16 then ReceivedOne task (word_at bytes 12) (word_at bytes 28) else QueueNamed task (word_at bytes 12)) else by_body task bytes
 
+-- The message was received by the task: its port is the one under the name in its fourth word.
 abbrev pub by_message : (task : ℕ) → List ℕ → Change
 by_message task bytes = if gives_none bytes then QueueNamed task (word_at bytes 12) else by_items task bytes
 
--- The message of this port is destroyed, which has this right to answer with, and these of its body: an unused send-once right tells its port. Any where the
+-- The message of this port is destroyed, which has this reply right, and these rights in its body: the port of a send-once right gets a notice. Any where the
 -- body carries rights.
 abbrev pub by_answer : (port : ℕ) → Kind → Mark → Change
 by_answer port send_once (mark.Port q) = Queues port q
@@ -161,6 +163,7 @@ by_destroying port reply (c ∷ cs) = Any
 abbrev pub front_at : WorldView → (port : ℕ) → Option Kept
 front_at w port = option_and_then (λ (v : PortView Kept). slice_get v.queue 0) (port_at w port)
 
+-- this message of the port is destroyed, if there is one
 abbrev pub by_front : (port : ℕ) → Option Kept → Change
 by_front port None = Any
 by_front port (Some m) = by_destroying port m.reply m.rights
@@ -180,16 +183,12 @@ by_receipt w task large from reply = Any
 abbrev pub by_making : (right : ℕ) → Change
 by_making right = if right == 1 then Made else Nothing
 
-abbrev pub by_send : Option ℕ → Change
-by_send (Some port) = Queue port
-by_send None = Any
-
 -- a message to the port takes along the receive right of another, which was in this set, if it was in one
 abbrev pub by_taking_along : (to port : ℕ) → (left : Option ℕ) → Change
 by_taking_along to port (Some left) = AlongFrom to port left
 by_taking_along to port None = Along to port
 
--- the same of two others, one of which was in a set, or both in the same: of two sets more there is no place for all
+-- the same of two others, which were in one set at most; for a second set there is no place
 abbrev pub by_taking_two : (to a b : ℕ) → (left other : Option ℕ) → Change
 by_taking_two to a b None None = AlongTwo to a b
 by_taking_two to a b None (Some set) = AlongTwoFrom to a b set
@@ -253,18 +252,18 @@ abbrev pub ByReferences : WorldView → (task name right : ℕ) → (told : Chan
 ByReferences w task name right told = MatchBool (right == 0 || right == 4) (told ≡ Nothing) (ByLosingAll w (entry_at w task name) told)
 
 -- a send right, or a dead name
-abbrev pub is_send : Entry → Bool
-is_send (entry.Send port references) = true
-is_send (entry.DeadName references) = true
-is_send e = false
+abbrev pub is_send_or_dead : Entry → Bool
+is_send_or_dead (entry.Send port references) = true
+is_send_or_dead (entry.DeadName references) = true
+is_send_or_dead e = false
 
 -- The task's names stand for send rights and dead names alone.
-pub record HasSends (w : WorldView) (task : ℕ) : Type 0 where
-  pub only : (name : ℕ) (e : Entry) → entry_at w task name ≡ Some e → is_send e ≡ true
+pub record HasSendsAlone (w : WorldView) (task : ℕ) : Type 0 where
+  pub only : (name : ℕ) (e : Entry) → entry_at w task name ≡ Some e → is_send_or_dead e ≡ true
 
 -- A task ends: one that has no other rights and no sets changes nothing.
 abbrev pub ByEnding : WorldView → (task : ℕ) → (told : Change) → Type 0
-ByEnding w task told = HasSends w task × (told ≡ Nothing) ⊎ ¬ (HasSends w task) × (told ≡ Any)
+ByEnding w task told = HasSendsAlone w task × (told ≡ Nothing) ⊎ ¬ (HasSendsAlone w task) × (told ≡ Any)
 
 -- a port goes to another set or place, from this set, if it is in one
 abbrev pub left_by : (port : ℕ) → Option ℕ → Change
@@ -293,33 +292,33 @@ by_paying e = Any
 abbrev pub by_request : WorldView → (task name number : ℕ) → Change
 by_request w task name number = if name == 0 then Nothing else (if number == 16 then Any else by_paying (entry_at w task name))
 
--- what the call changes, by the tables before it and by its reply; what isn't determined so stands in `Changes`
-abbrev pub change_of : WorldView → Event → Reply → Change
-change_of w Event.TaskCreate reply = Nothing
-change_of w (Event.GetRefs task name right) reply = Nothing
-change_of w (Event.NameType task name) reply = Nothing
-change_of w (Event.Names task) reply = Nothing
-change_of w (Event.Rename task from to) reply = Nothing
-change_of w (Event.ReceiveStatus task name) reply = Nothing
-change_of w (Event.SetStatus task name) reply = Nothing
-change_of w (Event.SetMscount task name n) reply = Nothing
-change_of w (Event.SetSeqno task name n) reply = Nothing
-change_of w (Event.SetQlimit task name n) reply = PortNamed task name
-change_of w (Event.Allocate task right) reply = by_making right
-change_of w (Event.AllocateName task right name) reply = by_making right
-change_of w (Event.Deallocate task name) reply = by_losing_one (entry_at w task name)
-change_of w (Event.MoveMember task member after) reply = by_moving w task member
-change_of w (Event.InsertRight task name from poly number) reply = by_handing w from poly number
-change_of w (Event.ExtractRight task name number to) reply = by_handing w task name number
-change_of w (Event.RequestNotification task name variant sync notify number) reply = by_request w task notify number
-change_of w event reply = Any
+-- what the call changes, by the tables before it; what isn't determined so stands in `Changes`
+abbrev pub change_of : WorldView → Event → Change
+change_of w Event.TaskCreate = Nothing
+change_of w (Event.GetRefs task name right) = Nothing
+change_of w (Event.NameType task name) = Nothing
+change_of w (Event.Names task) = Nothing
+change_of w (Event.Rename task from to) = Nothing
+change_of w (Event.ReceiveStatus task name) = Nothing
+change_of w (Event.SetStatus task name) = Nothing
+change_of w (Event.SetMscount task name n) = Nothing
+change_of w (Event.SetSeqno task name n) = Nothing
+change_of w (Event.SetQlimit task name n) = PortNamed task name
+change_of w (Event.Allocate task right) = by_making right
+change_of w (Event.AllocateName task right name) = by_making right
+change_of w (Event.Deallocate task name) = by_losing_one (entry_at w task name)
+change_of w (Event.MoveMember task member after) = by_moving w task member
+change_of w (Event.InsertRight task name from poly number) = by_handing w from poly number
+change_of w (Event.ExtractRight task name number to) = by_handing w task name number
+change_of w (Event.RequestNotification task name variant sync notify number) = by_request w task notify number
+change_of w event = Any
 
 -- what each call but a send and a receive changes
-abbrev pub Changes : WorldView → Event → Reply → (told : Change) → Type 0
-Changes w (Event.Destroy task name) reply told = ByLosingAll w (entry_at w task name) told
-Changes w (Event.ModRefs task name right delta) reply told = ByReferences w task name right told
-Changes w (Event.TaskTerminate task) reply told = ByEnding w task told
-Changes w event reply told = told ≡ change_of w event reply
+abbrev pub Changes : WorldView → Event → (told : Change) → Type 0
+Changes w (Event.Destroy task name) told = ByLosingAll w (entry_at w task name) told
+Changes w (Event.ModRefs task name right delta) told = ByReferences w task name right told
+Changes w (Event.TaskTerminate task) told = ByEnding w task told
+Changes w event told = told ≡ change_of w event
 
 -- ---- which it is, where the end of the step had something to do
 

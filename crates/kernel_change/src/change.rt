@@ -7,7 +7,7 @@ ghost use Rattle.copyin_base.specs.Worlds.{entry_at, HasTask};
 ghost use Rattle.mach_types.specs.Numbers.{kind_sent};
 ghost use Rattle.mach_types.specs.declared.calls.Waited.TheVariants as waited;
 ghost use Rattle.mach_types.specs.declared.touched.Touched.TheVariants.{Few};
-ghost use Rattle.kernel_change.specs.Changing.{few, named_left, port_under, set_of as set_at, with_set as touched_with_set, touched_by, named_given, named_three, gives_none, gives_one, named_two, named_along, by_taking_along as change_by_taking_along, by_taking_two as change_by_taking_two, by_taking as change_by_taking, receives_of, named_two_left, by_message, by_items, by_body, by_answer as change_by_answer, by_destroying, by_too_long as change_by_too_long, made_last, by_making as change_by_making, by_send as change_by_send, by_losing_one as change_by_losing_one, disbanded, ByDisbanding, ByLosingAll, ByReferences, is_send as entry_is_send, HasSends, ByEnding, IsUnasked, DiesAlone, EndsAs, left_by as change_left_by, by_moving as change_by_moving, by_handing as change_by_handing, by_paying as change_by_paying, by_request as change_by_request};
+ghost use Rattle.kernel_change.specs.Changing.{few, named_left, port_under, set_of as set_at, with_set as touched_with_set, touched_by, named_received, named_three, gives_none, gives_one, named_two, named_along, by_taking_along as change_by_taking_along, by_taking_two as change_by_taking_two, by_taking as change_by_taking, receives_of, named_two_left, by_message, by_items, by_body, by_answer as change_by_answer, by_destroying, by_too_long as change_by_too_long, made_last, by_making as change_by_making, by_losing_one as change_by_losing_one, disbanded, ByDisbanding, ByLosingAll, ByReferences, is_send_or_dead as entry_is_send_or_dead, HasSendsAlone, ByEnding, IsUnasked, DiesAlone, EndsAs, left_by as change_left_by, by_moving as change_by_moving, by_handing as change_by_handing, by_paying as change_by_paying, by_request as change_by_request};
 
 use crate::moved::Moved;
 use crate::received::Received;
@@ -44,11 +44,11 @@ pub enum Change {
     /// The queue of the port under this name of the task, and so that of its set.
     QueueNamed(TaskId, Name),
     /// The same, and the place of the receive right under the last name.
-    Given(TaskId, Name, Name),
+    ReceivedOne(TaskId, Name, Name),
     /// The same of the receive rights under the last two names.
-    GivenTwo(TaskId, Name, Name, Name),
+    ReceivedTwo(TaskId, Name, Name, Name),
     /// The same of the receive rights under the last three.
-    GivenThree(TaskId, Name, Name, Name, Name),
+    ReceivedThree(TaskId, Name, Name, Name, Name),
     /// Of this port that it left this set, for another place or another set.
     Left(PortId, SetId),
     /// Of this set that it was destroyed; it had no members.
@@ -132,7 +132,7 @@ impl Change {
         requires stands { Stands world.now }
         ensures { ByEnding world.now task result }
     {
-        if has_sends(world, task) {
+        if has_sends_alone(world, task) {
             Change::Nothing
         } else {
             Change::Any
@@ -208,8 +208,8 @@ impl Change {
         }
     }
 
-    /// The message in front of this port is about to be destroyed: the right to answer with tells its port, if it is a
-    /// send-once right. Any port and any set, where the body carries rights. Constant time.
+    /// The message in front of this port is about to be destroyed: the port of its reply right gets a notice, if that is
+    /// a send-once right. Any port and any set, where the body carries rights. Constant time.
     #[inline(never)]
     pub fn by_too_long(world: &World, port: PortId) -> Change
         ensures { result ≡ change_by_too_long world.now (Some port) }
@@ -217,17 +217,6 @@ impl Change {
         match world.ports.front(port) {
             Some(queued) if queued.count_rights() == 0 => by_answering(port, queued.reply()),
             _ => Change::Any,
-        }
-    }
-
-    /// What a send changed: the queue of the port that it tells, if it tells one. Constant time.
-    #[inline(always)]
-    pub fn by_send(sent: Option<PortId>) -> Change
-        ensures { result ≡ change_by_send sent }
-    {
-        match sent {
-            Some(port) => Change::Queue(port),
-            None => Change::Any,
         }
     }
 
@@ -268,10 +257,10 @@ impl Change {
             Change::AlongTwoFrom(to, a, b, left) => name_two_left(world, to, a, b, left),
             Change::AlongThree(to, a, b, c) => name_three(world, to, (Some(a), Some(b), Some(c))),
             Change::QueueNamed(task, name) => name_with_set(world, named_port(world, task, name)),
-            Change::Given(task, name, a) => name_given(world, task, name, a),
-            Change::GivenTwo(task, name, a, b) => name_given_two(world, task, name, a, b),
-            Change::GivenThree(task, name, a, b, c) => {
-                name_given_three(world, task, name, (a, b, c))
+            Change::ReceivedOne(task, name, a) => name_received_one(world, task, name, a),
+            Change::ReceivedTwo(task, name, a, b) => name_received_two(world, task, name, a, b),
+            Change::ReceivedThree(task, name, a, b, c) => {
+                name_received_three(world, task, name, (a, b, c))
             }
             Change::Made => name_last(world),
             Change::Left(port, set) => name_left(world, port, set),
@@ -376,8 +365,8 @@ fn name_two_left(world: &World, to: PortId, a: PortId, b: PortId, left: SetId) -
 }
 
 /// The port under the name, and its set, and the port under the other.
-fn name_given(world: &World, task: TaskId, name: Name, a: Name) -> Touched
-    ensures { result ≡ named_given world.now (port_under world.now task name) (port_under world.now task a) None }
+fn name_received_one(world: &World, task: TaskId, name: Name, a: Name) -> Touched
+    ensures { result ≡ named_received world.now (port_under world.now task name) (port_under world.now task a) None }
 {
     name_received(
         world,
@@ -388,8 +377,8 @@ fn name_given(world: &World, task: TaskId, name: Name, a: Name) -> Touched
 }
 
 /// The port under the name, and its set, and the ports under the two others.
-fn name_given_two(world: &World, task: TaskId, name: Name, a: Name, b: Name) -> Touched
-    ensures { result ≡ named_given world.now (port_under world.now task name) (port_under world.now task a) (port_under world.now task b) }
+fn name_received_two(world: &World, task: TaskId, name: Name, a: Name, b: Name) -> Touched
+    ensures { result ≡ named_received world.now (port_under world.now task name) (port_under world.now task a) (port_under world.now task b) }
 {
     name_received(
         world,
@@ -406,7 +395,7 @@ fn name_received(
     a: Option<PortId>,
     b: Option<PortId>,
 ) -> Touched
-    ensures { result ≡ named_given world.now port a b }
+    ensures { result ≡ named_received world.now port a b }
 {
     let Some(port) = port else {
         return name_both(None, None);
@@ -420,7 +409,12 @@ fn name_received(
 }
 
 /// The port under the name, and the ports under the three others.
-fn name_given_three(world: &World, task: TaskId, name: Name, given: (Name, Name, Name)) -> Touched
+fn name_received_three(
+    world: &World,
+    task: TaskId,
+    name: Name,
+    given: (Name, Name, Name),
+) -> Touched
     ensures { result ≡ named_three world.now (port_under world.now task name) (port_under world.now task given.0) (port_under world.now task given.1) (port_under world.now task given.2) }
 {
     let Some(port) = named_port(world, task, name) else {
@@ -530,16 +524,16 @@ fn by_removing(world: &World, alloc: Global, task: TaskId, name: Name) -> Change
 }
 
 /// Whether the task's names stand for send rights and dead names alone.
-fn has_sends(world: &World, task: TaskId) -> bool
+fn has_sends_alone(world: &World, task: TaskId) -> bool
     requires there { HasTask world.now task }
     requires stands { Stands world.now }
-    ensures { IsTrue result ↔ HasSends world.now task }
+    ensures { IsTrue result ↔ HasSendsAlone world.now task }
 {
     let space = world.space(task);
     let mut from = Name::null();
     while let Some(name) = space.next_name(from) {
         match space.lookup(name) {
-            Some(entry) if is_send(&entry) => from = Name::new(name.number() + 1),
+            Some(entry) if is_send_or_dead(&entry) => from = Name::new(name.number() + 1),
             _ => return false,
         }
     }
@@ -547,8 +541,8 @@ fn has_sends(world: &World, task: TaskId) -> bool
 }
 
 /// Whether this is a send right, or a dead name.
-fn is_send(entry: &Entry) -> bool
-    ensures { result ≡ entry_is_send entry.now }
+fn is_send_or_dead(entry: &Entry) -> bool
+    ensures { result ≡ entry_is_send_or_dead entry.now }
 {
     matches!(entry, Entry::Send(..) | Entry::DeadName(_))
 }
@@ -631,7 +625,7 @@ fn by_taking_two(
     }
 }
 
-/// The port's message is destroyed, which has this right to answer with, and no other.
+/// The port's message is destroyed, which has this reply right, and no other right.
 fn by_answering(port: PortId, reply: Option<Carried>) -> Change
     ensures { result ≡ by_destroying port reply [] }
 {
@@ -675,7 +669,7 @@ fn tell_items(task: TaskId, bytes: &[u8], told: &mut Change)
     }
     let name = Name::new(read_word(bytes, 12));
     if read_word(bytes, 24) % 256 == 16 {
-        *told = Change::Given(task, name, Name::new(read_word(bytes, 28)));
+        *told = Change::ReceivedOne(task, name, Name::new(read_word(bytes, 28)));
     } else {
         *told = Change::QueueNamed(task, name);
     }
@@ -695,9 +689,9 @@ fn tell_body(task: TaskId, bytes: &[u8], told: &mut Change)
     let (_, body) = bytes.split_at(24);
     *told = match Received::by(body) {
         Received::Nothing => Change::QueueNamed(task, name),
-        Received::One(a) => Change::Given(task, name, a),
-        Received::Two(a, b) => Change::GivenTwo(task, name, a, b),
-        Received::Three(a, b, c) => Change::GivenThree(task, name, a, b, c),
+        Received::One(a) => Change::ReceivedOne(task, name, a),
+        Received::Two(a, b) => Change::ReceivedTwo(task, name, a, b),
+        Received::Three(a, b, c) => Change::ReceivedThree(task, name, a, b, c),
         Received::Several => Change::Any,
     };
 }

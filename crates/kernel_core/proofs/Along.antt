@@ -40,9 +40,9 @@ use Rattle.copyin.proofs.Copying.{pairs, body_pairs}
 use Rattle.copyin.proofs.Planning.{message, third, copied, none_receives}
 use Rattle.kernel_change.specs.declared.change.Change.{Change}
 use Rattle.kernel_change.specs.declared.change.Change.TheVariants as change
-use Rattle.kernel_change.specs.Changing.{by_taking, by_taking_along, by_taking_two, by_taking_three, is_in_no_other, named_along, named_given, named_two_left, receives_of, set_of, touched_by}
+use Rattle.kernel_change.specs.Changing.{by_taking, by_taking_along, by_taking_two, by_taking_three, is_in_no_other, named_along, named_received, named_two_left, receives_of, set_of, touched_by}
 use Rattle.kernel_core.specs.Send.{PlansText}
-use Rattle.kernel_core.specs.Touching.{TellsAlong}
+use Rattle.kernel_core.specs.Telling.{TellsAlong}
 use Rattle.kernel_core.proofs.Covered.{OwnTouches, none_some, one_some, set_is}
 
 -- ---- the words of a body, and the rights that they become
@@ -171,7 +171,7 @@ module _ (old w : WorldView) (to : ℕ) where
   two_covers a b None None is too = inr (record {
     port = (0, omega arith, refl);
     own = λ set e. rw e (1, omega arith, refl);
-    others = for_more (CoversLeft old (named_given w (Some to) (Some a) (Some b))) a (b ∷ []) (none_left old (named_given w (Some to) (Some a) (Some b)) a (2, omega arith, refl) is) (for_one (CoversLeft old (named_given w (Some to) (Some a) (Some b))) b (none_left old (named_given w (Some to) (Some a) (Some b)) b (3, omega arith, refl) too));
+    others = for_more (CoversLeft old (named_received w (Some to) (Some a) (Some b))) a (b ∷ []) (none_left old (named_received w (Some to) (Some a) (Some b)) a (2, omega arith, refl) is) (for_one (CoversLeft old (named_received w (Some to) (Some a) (Some b))) b (none_left old (named_received w (Some to) (Some a) (Some b)) b (3, omega arith, refl) too));
   })
   two_covers a b None (Some set) is too = left_covers a b set (λ touched covers left. none_left old touched a covers is) (λ touched covers left. one_left old touched b set covers left too)
   two_covers a b (Some set) None is too = left_covers a b set (λ touched covers left. one_left old touched a set covers left is) (λ touched covers left. none_left old touched b covers too)

@@ -19,7 +19,7 @@ use Rattle.copyin.specs.Planned.{IsPlan}
 use Rattle.copyin.specs.Wanted.{WantsToSend}
 use Rattle.kernel_change.specs.declared.change.Change.{Change}
 use Rattle.kernel_core.specs.Send.{MovesNoReceive, PlansText, SendsText}
-use Rattle.kernel_core.specs.Touching.{TellsPlan, TellsSend}
+use Rattle.kernel_core.specs.Telling.{TellsPlan, TellsSend}
 use Rattle.kernel_core.proofs.Sending.{no_memory}
 use Rattle.kernel_core.proofs.Wanting.{plans_wants}
 

@@ -62,11 +62,12 @@ use Rattle.copyin.proofs.Planning.{message, third, copied, none_receives}
 use Rattle.destroy.specs.Stages.{SettlesIn}
 use Rattle.kernel_change.specs.declared.change.Change.TheVariants as change
 use Rattle.kernel_change.specs.declared.change.Change.{Change}
-use Rattle.kernel_change.specs.Changing.{ByDisbanding, ByEnding, ByLosingAll, ByReferences, DiesAlone, EndsAs, HasSends, by_handing, by_losing_all, by_losing_one, by_making, by_moving, by_paying, by_receipt, by_request, by_too_long, disbanded, few, is_send, left_by, made_last, moved_from, named_left, set_of, touched_by, with_set}
+use Rattle.kernel_change.specs.Changing.{ByDisbanding, ByEnding, ByLosingAll, ByReferences, DiesAlone, EndsAs, HasSendsAlone, by_handing, by_losing_all, by_losing_one, by_making, by_moving, by_paying, by_receipt, by_request, by_too_long, disbanded, few, is_send_or_dead, left_by, made_last, moved_from, named_left, set_of, touched_by, with_set}
 use Rattle.kernel_core.specs.InTurn.{source, TakesByTurn, CompletesInTurn}
 use Rattle.kernel_core.specs.Receive.{taken_by, TakesOne}
 use Rattle.kernel_core.specs.Send.{MovesNoReceive, PlansText}
-use Rattle.kernel_core.specs.Touching.{TellsChange, TellsPlan, Touches, EndsIdle}
+use Rattle.kernel_core.specs.Telling.{TellsChange, TellsPlan, EndsIdle}
+use Rattle.kernel_core.specs.Touching.{Touches}
 use Rattle.kernel_core.proofs.Along.{along_own}
 use Rattle.kernel_core.proofs.Alone.{none_kept, is_lone}
 use Rattle.kernel_core.proofs.Covered.{OwnTouches, touches_all, none_some, one_some, kept_all, set_is, under, covers_port, covers_set, queue_changed, limit_changed}
@@ -272,8 +273,8 @@ module _ (now : ℕ) (old w : WorldView) (s mid : State) (owed : Owed) (sh : Sho
       go (Some (named.Set t)) f x = by (subst (λ (n : ℕ). ByDisbanding old n told) (let g : t ≡ set = (let h = f in cc) in g) x)
 
   -- a task ends whose names stand for send rights and dead names alone
-  module _ (task : ℕ) (sends : HasSends old task) where
-    unlike : (name : ℕ) (x : Named) → entry_at old task name ≡ Some x → is_send x ≡ false → ⊥
+  module _ (task : ℕ) (sends : HasSendsAlone old task) where
+    unlike : (name : ℕ) (x : Named) → entry_at old task name ≡ Some x → is_send_or_dead x ≡ false → ⊥
     unlike name x is other = let f : true ≡ false = sym (sends.only name x is) ∙ other in cc
 
     port_unheld : (name p : ℕ) (o : Option Named) → entry_at old task name ≡ o → Some (Target.port p) ≡ option_map target_of o → held s task receive p ≡ 0
@@ -614,9 +615,9 @@ module _ (old w new : WorldView) (event : Event) (reply : Reply) (turns : ℕ) (
   ends_touched (change.AlongTwoFrom to a b set) ends tells is = any_touched ends is
   ends_touched (change.AlongThree to a b c) ends tells is = any_touched ends is
   ends_touched (change.QueueNamed task name) ends tells is = any_touched ends is
-  ends_touched (change.Given task name a) ends tells is = any_touched ends is
-  ends_touched (change.GivenTwo task name a b) ends tells is = any_touched ends is
-  ends_touched (change.GivenThree task name a b c) ends tells is = any_touched ends is
+  ends_touched (change.ReceivedOne task name a) ends tells is = any_touched ends is
+  ends_touched (change.ReceivedTwo task name a b) ends tells is = any_touched ends is
+  ends_touched (change.ReceivedThree task name a b c) ends tells is = any_touched ends is
   ends_touched (change.Left p set) ends tells is = any_touched ends is
   ends_touched (change.Disbanded set) ends tells is = any_touched ends is
   ends_touched (change.DisbandedTwo set a b) ends tells is = any_touched ends is

@@ -25,7 +25,7 @@ use Rattle.mach_laws.proofs.Giving.{ComesUnder, received_sets, receives_touch}
 use Rattle.copyin_base.specs.Shows.{Agrees}
 use Rattle.copyin_base.specs.Worlds.{WorldView}
 use Rattle.kernel_change.specs.declared.change.Change.TheVariants as change
-use Rattle.kernel_change.specs.Changing.{port_under, set_of, with_set, named_given, named_three, touched_by, gives_none, gives_one, by_received, by_body, by_items, by_message}
+use Rattle.kernel_change.specs.Changing.{port_under, set_of, with_set, named_received, named_three, touched_by, gives_none, gives_one, by_received, by_body, by_items, by_message}
 use Rattle.kernel_change.specs.Received.{body_names, received_by}
 use Rattle.kernel_core.proofs.Covered.{OwnTouches, none_some, set_is, under, covers_port}
 use Rattle.kernel_core.proofs.Walked.{few_words, words_named}
@@ -144,9 +144,9 @@ module _ (w : WorldView) (mid : State) (a : Agrees w mid) (s : State) (owed : Ow
       (λ n q (i, below, is) found. absurd (omega (arith, below)))
 
   -- one comes under this name, if any
-  one_comes : (x : ℕ) → All (ComesUnder (x ∷ [])) (received_words r.header r.written) → OwnTouches s mid owed (named_given w (Some port) (port_under w task x) None)
+  one_comes : (x : ℕ) → All (ComesUnder (x ∷ [])) (received_words r.header r.written) → OwnTouches s mid owed (named_received w (Some port) (port_under w task x) None)
   one_comes x all =
-      comes (x ∷ []) all (named_given w (Some port) (port_under w task x) None) (0, omega arith, refl) (λ set e. rw e (1, omega arith, refl))
+      comes (x ∷ []) all (named_received w (Some port) (port_under w task x) None) (0, omega arith, refl) (λ set e. rw e (1, omega arith, refl))
       (λ n q in_it found. let e = ap (port_under w task) (named n in_it) ∙ found in rw e (2, omega arith, refl))
     where
       named : (n : ℕ) → Contains (x ∷ []) n → x ≡ n
@@ -154,9 +154,9 @@ module _ (w : WorldView) (mid : State) (a : Agrees w mid) (s : State) (owed : Ow
       named n (suc i, below, is) = absurd (omega (arith, below))
 
   -- two come under these
-  two_come : (x y : ℕ) → All (ComesUnder (x ∷ y ∷ [])) (received_words r.header r.written) → OwnTouches s mid owed (named_given w (Some port) (port_under w task x) (port_under w task y))
+  two_come : (x y : ℕ) → All (ComesUnder (x ∷ y ∷ [])) (received_words r.header r.written) → OwnTouches s mid owed (named_received w (Some port) (port_under w task x) (port_under w task y))
   two_come x y all =
-      comes (x ∷ y ∷ []) all (named_given w (Some port) (port_under w task x) (port_under w task y)) (0, omega arith, refl) (λ set e. rw e (1, omega arith, refl))
+      comes (x ∷ y ∷ []) all (named_received w (Some port) (port_under w task x) (port_under w task y)) (0, omega arith, refl) (λ set e. rw e (1, omega arith, refl))
       (λ n q in_it found. elim (of_two x y n in_it) [
         | inl h ↦ let e = ap (port_under w task) h ∙ found in rw e (2, omega arith, refl)
         | inr h ↦ let e = ap (port_under w task) h ∙ found in rw e (3, omega arith, refl)
@@ -215,7 +215,7 @@ module _ (w : WorldView) (mid : State) (a : Agrees w mid) (s : State) (owed : Ow
         all_words (word_at bytes 28 ∷ []) r.header r.written (other_reply parts.1)
         (all_under (word_at bytes 28 ∷ []) (StandsIn bytes) (λ x at is. (0, omega arith, sym (at is).1)) (machine_words r.written) stands)
 
-    one_own : (b : Bool) → (word_at bytes 24 % 2 ^ 8 == 16) ≡ b → OwnTouches s mid owed (touched_by w (if b then change.Given task (word_at bytes 12) (word_at bytes 28) else change.QueueNamed task (word_at bytes 12)))
+    one_own : (b : Bool) → (word_at bytes 24 % 2 ^ 8 == 16) ≡ b → OwnTouches s mid owed (touched_by w (if b then change.ReceivedOne task (word_at bytes 12) (word_at bytes 28) else change.QueueNamed task (word_at bytes 12)))
     one_own true is = rw found (one_comes (word_at bytes 28) own)
     one_own false is = rw found (none_comes (other (is_not (word_at bytes 24 % 2 ^ 8) is)))
 
@@ -227,7 +227,7 @@ module _ (w : WorldView) (mid : State) (a : Agrees w mid) (s : State) (owed : Ow
       names_own (body_names (drop 24 bytes)) (all_words (body_names (drop 24 bytes)) r.header r.written other (body_named bytes r.header r.written r.spells))
 
   items_own : (b : Bool) → gives_one bytes ≡ b →
-      OwnTouches s mid owed (touched_by w (if b then (if word_at bytes 24 % 2 ^ 8 == 16 then change.Given task (word_at bytes 12) (word_at bytes 28) else change.QueueNamed task (word_at bytes 12)) else by_body task bytes))
+      OwnTouches s mid owed (touched_by w (if b then (if word_at bytes 24 % 2 ^ 8 == 16 then change.ReceivedOne task (word_at bytes 12) (word_at bytes 28) else change.QueueNamed task (word_at bytes 12)) else by_body task bytes))
   items_own true is = one_own is (word_at bytes 24 % 2 ^ 8 == 16) refl
   items_own false is = body_own (nat_lt (length bytes) 24 || word_at bytes 0 % 2 ^ 8 == 16) refl
 

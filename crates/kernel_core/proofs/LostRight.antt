@@ -27,7 +27,7 @@ use Rattle.kernel_change.specs.declared.change.Change.{Change}
 use Rattle.kernel_change.specs.Changing.{ByLosingAll, ByReferences, by_answer, by_body, by_destroying, by_front, by_handing, by_items, by_losing_all, by_losing_one, by_making, by_message, by_moving, by_paying, by_receipt, by_received, by_request, by_taking, by_taking_two, by_taking_three, by_taking_along, by_too_long, disbanded, front_at, gives_none, gives_one, left_by, moved_from, port_under, receives_of, set_of}
 use Rattle.kernel_change.specs.Received.{body_names, received_by}
 use Rattle.kernel_core.specs.InTurn.{source}
-use Rattle.kernel_core.specs.Touching.{TellsChange, TellsPlan}
+use Rattle.kernel_core.specs.Telling.{TellsChange, TellsPlan}
 
 abbrev NotLost : Change → Type 0
 NotLost (change.Lost p) = ⊥
@@ -76,8 +76,8 @@ not_body task bytes =
 not_message : (task : ℕ) (bytes : List ℕ) → NotLost (by_message task bytes)
 not_message task bytes =
     not_either (gives_none bytes) (change.QueueNamed task (word_at bytes 12)) (by_items task bytes) tt
-    (not_either (gives_one bytes) (if word_at bytes 24 % 2 ^ 8 == 16 then change.Given task (word_at bytes 12) (word_at bytes 28) else change.QueueNamed task (word_at bytes 12)) (by_body task bytes)
-    (not_either (word_at bytes 24 % 2 ^ 8 == 16) (change.Given task (word_at bytes 12) (word_at bytes 28)) (change.QueueNamed task (word_at bytes 12)) tt tt) (not_body task bytes))
+    (not_either (gives_one bytes) (if word_at bytes 24 % 2 ^ 8 == 16 then change.ReceivedOne task (word_at bytes 12) (word_at bytes 28) else change.QueueNamed task (word_at bytes 12)) (by_body task bytes)
+    (not_either (word_at bytes 24 % 2 ^ 8 == 16) (change.ReceivedOne task (word_at bytes 12) (word_at bytes 28)) (change.QueueNamed task (word_at bytes 12)) tt tt) (not_body task bytes))
 
 not_receipt : (w : WorldView) (task : ℕ) (large : Bool) (from : Option ℕ) (reply : Reply) → NotLost (by_receipt w task large from reply)
 not_receipt w task large from (Reply.Message bytes) = not_message task bytes

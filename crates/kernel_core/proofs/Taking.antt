@@ -22,7 +22,7 @@ use Rattle.kernel_change.specs.declared.change.Change.{Change}
 use Rattle.kernel_change.specs.declared.change.Change.TheVariants.{Nothing}
 use Rattle.kernel_change.specs.Changing.{by_too_long, by_receipt}
 use Rattle.kernel_core.specs.InTurn.{IsFirst, source_of, TakesByTurn, KeepsTurns, CompletesInTurn}
-use Rattle.kernel_core.specs.Touching.{by_length, with_message}
+use Rattle.kernel_core.specs.Telling.{by_length, with_message}
 use Rattle.kernel_core.specs.Receive.{HasMessage, NoneWaits, IsReceipt, TakesOne, taken_by}
 
 -- ---- a receipt

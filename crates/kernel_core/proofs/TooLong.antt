@@ -1,4 +1,4 @@
--- What is covered once a message was destroyed as too long: the queue of its port, and that of the port that its right to answer with tells.
+-- What is covered once a message was destroyed as too long: the queue of its port, and that of the port of its reply right.
 use Rattle.std.proofs.Common.{◌≡◌, ℕ, ◌+◌, ◌≤◌, List, [], ◌∷◌, ◌++◌, Option, Some, None, refl, sym, ap, subst, ◌∙◌, arith, true, false, inl, inr}
 use Rattle.std.specs.Prelude.{◌≢◌, ◌==◌, if◌then◌else◌, Contains, slice_get}
 use Rattle.std.specs.Option.{option_and_then, option_to_list}

@@ -8,4 +8,5 @@ pub mod MemoryCodes
 pub mod Limits
 pub mod Bounds
 pub mod Choices
+pub mod Telling
 pub mod Touching

@@ -1,5 +1,5 @@
--- What is told of a step while it is done, and what it promises of the ports and sets that it may have changed.
-use Rattle.std.specs.Prelude.{◌≡◌, ◌≢◌, ℕ, List, [], ◌∷◌, Option, None, Bool, if◌then◌else◌, ◌⊎◌}
+-- What a step promises of the ports and sets that it may have changed.
+use Rattle.std.specs.Prelude.{◌≡◌, ◌≢◌, ℕ, [], ◌∷◌, None}
 use Rattle.mach_types.specs.declared.calls.Event.{Event}
 use Rattle.mach_types.specs.declared.calls.Reply.{Reply}
 use Rattle.mach_types.specs.declared.touched.Touched.{Touched}
@@ -8,54 +8,8 @@ use Rattle.mach_model.specs.State.{State}
 use Rattle.mach_model.specs.Machine.{Step}
 use Rattle.mach_laws.specs.Touching.{TouchesOnly}
 use Rattle.copyin_base.specs.Shows.{Shows}
-use Rattle.copyin_base.specs.Worlds.{WorldView, IsIdle}
-use Rattle.kernel_change.specs.declared.change.Change.{Change}
-use Rattle.kernel_change.specs.declared.change.Change.TheVariants.{Queue}
-use Rattle.kernel_change.specs.Changing.{receives_of, by_taking, by_message, by_too_long, by_receipt, Changes}
-use Rattle.copyin.specs.declared.judge.Plan.{Plan}
-use Rattle.kernel_core.specs.InTurn.{source, TakesByTurn}
-use Rattle.kernel_core.specs.Send.{MovesNoReceive, PlansText}
-
--- ---- what is told
-
--- Of the message of a plan its port is told, and each port whose receive right goes along.
-abbrev pub TellsAlong : WorldView → Plan → (told : Change) → Type 0
-TellsAlong w plan told = told ≡ by_taking w plan.port (receives_of plan.message.rights)
-
--- Where no receive right goes along, its port alone is told.
-abbrev pub TellsPlan : WorldView → Plan → (told : Change) → Type 0
-TellsPlan w plan told = MovesNoReceive plan.words.body.items × (told ≡ Queue plan.port) ⊎ TellsAlong w plan told
-
--- The same of the bytes that the plan sends.
-pub record TellsSend (w : WorldView) (task : ℕ) (bytes : List ℕ) (told : Change) : Type 0 where
-  pub plan : Plan
-  pub planned : PlansText w task bytes plan
-  pub tells : TellsPlan w plan told
-
--- where a receipt is answered so: a message that is destroyed as too long is told of, and one that is received
-abbrev pub by_length : WorldView → (large : Bool) → (from : Option ℕ) → Reply → (told : Change) → Change
-by_length w large from (Reply.TooLarge n) told = if large then told else by_too_long w from
-by_length w large from reply told = told
-
-abbrev pub with_message : (task : ℕ) → Reply → (told : Change) → Change
-with_message task (Reply.Message bytes) told = by_message task bytes
-with_message task reply told = told
-
--- What is told of a call that is answered so: of a send by where it went, of a receive by where it took from, of each other call by the tables before
--- it and by its reply.
-abbrev pub TellsChange : WorldView → Event → Reply → (told : Change) → Type 0
-TellsChange w (Event.Send task bytes) reply told = TellsSend w task bytes told
-TellsChange w (Event.Receive task name room large) reply told = told ≡ by_receipt w task large (source w (Event.Receive task name room large)) reply
-TellsChange w (Event.ReceiveAgain task waited room large) reply told = told ≡ by_receipt w task large (source w (Event.ReceiveAgain task waited room large)) reply
-TellsChange w event reply told = Changes w event reply told
-
--- The end of a step had nothing to do: it left the tables, and what is told.
-pub record EndsIdle (w : WorldView) (told ends : Change) (new : WorldView) : Type 0 where
-  pub idle : IsIdle w
-  pub same : new ≡ w
-  pub told_is : ends ≡ told
-
--- ---- what a step promises of it
+use Rattle.copyin_base.specs.Worlds.{WorldView}
+use Rattle.kernel_core.specs.InTurn.{TakesByTurn}
 
 -- From each state that the tables show before, a step of the machine with this event and reply leads to one that they show after. It changes what is
 -- covered alone, and takes its message by turn.

@@ -30,7 +30,8 @@ ghost use Rattle.kernel_core.specs.InTurn.{StepsInTurn};
 ghost use Rattle.kernel_core.specs.Kernels.{TakesTurns};
 ghost use Rattle.kernel_core.specs.Limits.{HasRoomFor, IsNearLimit};
 ghost use Rattle.kernel_core.specs.MemoryCodes.{TellsMemoryCode};
-ghost use Rattle.kernel_core.specs.Touching.{TellsChange, Touches, EndsIdle, RefusalTouchesNone};
+ghost use Rattle.kernel_core.specs.Telling.{TellsChange, EndsIdle};
+ghost use Rattle.kernel_core.specs.Touching.{Touches, RefusalTouchesNone};
 ghost use Rattle.kernel_core.specs.Wanted.{Wanted, Spares, Performs};
 
 use crate::memory::{has_room_for, tell_memory_code};
@@ -249,15 +250,20 @@ impl Kernel {
     /// Returns which ports and sets the last step may have changed: a queue, a limit, members, or where a
     /// receive right lies. All others are for a task that waits as they were before the step (`specs/Touching`).
     ///
-    /// None before the first step and after a refusal. None, or few, after calls that make or rename something,
-    /// that ask, or that set a limit or a count. So it is after a port went to another set or a right to another
-    /// task, where send rights or dead names lost references, where a send-once right was lost, and where a notice
-    /// was asked for. It is so too after a message was sent that carried one receive right at most, or two or three
-    /// that with the sets concerned fit into the four places. So it is after one was received with two receive rights at most, or with three by a port in no set, or none was there, or one
-    /// was destroyed as too long whose body carried no right. A port that dies with nothing queued, and no request on
-    /// it or on a name of it, is one of few. So is a set that is destroyed with at most three members, if there
-    /// was memory for their list. None after the end of a task whose names stood for send rights and dead names
-    /// alone.
+    /// None before the first step and after a refusal. None or few after:
+    ///
+    /// - a call that makes or renames something, that asks, or that sets a limit or a count;
+    /// - a port that went to another set, or a right that went to another task;
+    /// - references of send rights or dead names that were dropped, or a send-once right that was lost;
+    /// - a request for a notice;
+    /// - a message that was sent with one receive right at most, or with two or three that fit into the four places
+    ///   together with the sets concerned;
+    /// - a message that was received with two receive rights at most, or with three by a port in no set;
+    /// - a receive that found no message;
+    /// - a message that was destroyed as too long, whose body carried no right;
+    /// - a port that died with nothing queued, and no request on it or on a name of it;
+    /// - a set that was destroyed with at most three members, if there was memory for their list;
+    /// - the end of a task whose names stood for send rights and dead names alone.
     ///
     /// `All` after every other call, and where other ports died or notices were sent at the end of the step. Takes no
     /// memory. Constant time, and logarithmic for a name above 65,535.

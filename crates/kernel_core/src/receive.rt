@@ -14,7 +14,7 @@ ghost use Rattle.kernel_change.specs.declared.change.Change.TheVariants.{Nothing
 ghost use Rattle.kernel_change.specs.Changing.{by_receipt, by_too_long};
 ghost use Rattle.kernel_core.specs.InTurn.{IsFirst, source, TakesInTurn, KeepsTurns, CompletesInTurn, told_by};
 ghost use Rattle.kernel_core.specs.Receive.{named_guards, Sources, IsFrom, IsMember, IsAlone, HasMessage, NoneWaits, IsReceipt, StaysFor, waited_at, FreesSlot};
-ghost use Rattle.kernel_core.specs.Touching.{by_length, with_message};
+ghost use Rattle.kernel_core.specs.Telling.{by_length, with_message};
 ghost use Rattle.kernel_core.specs.Wanted.{WantsToTake, WantsMemory, LeavesSpares};
 ghost use Rattle.notifications.specs.Destroying.{CanDestroy, DestroysMessage};
 

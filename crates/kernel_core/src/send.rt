@@ -11,7 +11,7 @@ ghost use Rattle.message_codec.specs.Parses.{Parses};
 ghost use Rattle.message_codec.specs.Plain.{parsed_lone, parsed_plain, parsed_request};
 ghost use Rattle.message_codec.specs.Words.{body_words};
 ghost use Rattle.kernel_core.specs.Send.{MovesNoReceive, PlansText, SendsText, UsesSlot};
-ghost use Rattle.kernel_core.specs.Touching.{TellsPlan, TellsSend};
+ghost use Rattle.kernel_core.specs.Telling.{TellsPlan, TellsSend};
 ghost use Rattle.copyin_base.specs.Worlds.{HasTask};
 
 use copyin::{Plan, check, check_lone, check_plain, check_request, commit};

@@ -2,7 +2,7 @@ use Rattle.std.proofs.Common.{List, ℕ, subst}
 use Rattle.std.proofs.lemmas.Result.{err_from_is_err_and}
 use Rattle.copyin.specs.Wanted.{WantsToSend}
 use Rattle.kernel_core.specs.Send.{SendsText}
-use Rattle.kernel_core.specs.Touching.{TellsSend}
+use Rattle.kernel_core.specs.Telling.{TellsSend}
 use Rattle.kernel_core.proofs.Sending.{send_done, uses_slot}
 use Rattle.kernel_core.proofs.send.send.Goals as goal
 

@@ -1,6 +1,6 @@
 use Rattle.std.specs.Prelude.{◌-◌, ◌^◌}
 use Rattle.kernel_change.proofs.NamesAsked.{AreSends}
-use Rattle.kernel_change.proofs.change.has_sends.Given as goal
+use Rattle.kernel_change.proofs.change.has_sends_alone.Given as goal
 
 -- the names below stand for send rights and dead names
 abbrev pub invariant-loop-name : goal.invariant-loop-name
