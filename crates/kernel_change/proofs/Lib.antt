@@ -1,4 +1,5 @@
 -- What proves the functions of this crate.
 mod NamesAsked
 mod MovedRights
+mod LostRights
 mod ReceivedNames

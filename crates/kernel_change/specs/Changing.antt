@@ -1,8 +1,8 @@
 -- What a step changed of ports and port sets, as the kernel keeps it, and what that is once it is asked for.
-use Rattle.std.specs.Prelude.{◌≡◌, ℕ, ◌⊎◌, ◌-◌, ◌^◌, ◌%◌, ◌||◌, Bool, true, false, List, [], ◌∷◌, length, drop, slice_get, Option, Some, None, is_some, MatchBool, Contains, if◌then◌else◌, ◌==◌, ◌&&◌, not, nat_lt}
+use Rattle.std.specs.Prelude.{◌≡◌, ℕ, ◌⊎◌, ◌-◌, ◌^◌, ◌%◌, ◌||◌, Bool, true, false, List, [], ◌∷◌, ◌++◌, length, drop, slice_get, Option, Some, None, is_some, MatchBool, Contains, if◌then◌else◌, ◌==◌, ◌&&◌, not, nat_lt}
 use Rattle.std.specs.FinMap as map
 use Rattle.std.specs.List.{filter_map}
-use Rattle.std.specs.Option.{option_and_then, option_map}
+use Rattle.std.specs.Option.{option_and_then, option_map, option_to_list}
 use Rattle.mach_types.specs.declared.calls.Event.{Event}
 use Rattle.mach_types.specs.declared.calls.Reply.{Reply}
 use Rattle.mach_types.specs.declared.calls.Waited.{Waited}
@@ -148,16 +148,32 @@ by_items task bytes =
 abbrev pub by_message : (task : ℕ) → List ℕ → Change
 by_message task bytes = if gives_none bytes then QueueNamed task (word_at bytes 12) else by_items task bytes
 
--- The message of this port is destroyed, which has this reply right, and these rights in its body: the port of a send-once right gets a notice. Any where the
--- body carries rights.
-abbrev pub by_answer : (port : ℕ) → Kind → Mark → Change
-by_answer port send_once (mark.Port q) = Queues port q
-by_answer port kind one = Queue port
+-- the port that gets a notice where this right is lost: that of a send-once right
+abbrev pub noticed : Kind → Mark → Option ℕ
+noticed send_once (mark.Port q) = Some q
+noticed kind one = None
 
-abbrev pub by_destroying : (port : ℕ) → (reply : Option Carried) → (rights : List Carried) → Change
-by_destroying port None [] = Queue port
-by_destroying port (Some c) [] = by_answer port (kind_sent c.given) c.mark
-by_destroying port reply (c ∷ cs) = Any
+abbrev pub noticed_of : Carried → Option ℕ
+noticed_of c = noticed (kind_sent c.given) c.mark
+
+-- A message of this port is destroyed. It carries receive rights for the first ports, and send-once rights for the others, which get a notice. There is
+-- place for one of these. Where a receive right is lost, its port dies or is sent away.
+abbrev pub by_losing_with : (port : ℕ) → (receives notices : List ℕ) → Change
+by_losing_with port [] [] = Queue port
+by_losing_with port [] (q ∷ []) = Queues port q
+by_losing_with port [] (q ∷ r ∷ qs) = Any
+by_losing_with port (p ∷ ps) notices = Any
+
+-- the same with one right more: a receive right for this port, or a send-once right for one that gets a notice
+abbrev pub with_right : Change → (receive noticed : Option ℕ) → Change
+with_right told (Some p) o = Any
+with_right told None None = told
+with_right (Queue port) None (Some q) = Queues port q
+with_right told None (Some q) = Any
+
+-- The message carries these rights, its reply right among them.
+abbrev pub by_destroying : (port : ℕ) → (rights : List Carried) → Change
+by_destroying port rights = by_losing_with port (receives_of rights) (filter_map noticed_of rights)
 
 -- the message in front of the port
 abbrev pub front_at : WorldView → (port : ℕ) → Option Kept
@@ -166,7 +182,7 @@ front_at w port = option_and_then (λ (v : PortView Kept). slice_get v.queue 0) 
 -- this message of the port is destroyed, if there is one
 abbrev pub by_front : (port : ℕ) → Option Kept → Change
 by_front port None = Any
-by_front port (Some m) = by_destroying port m.reply m.rights
+by_front port (Some m) = by_destroying port (option_to_list m.reply ++ m.rights)
 
 -- by the tables before, where the message is taken from this port
 abbrev pub by_too_long : WorldView → (from : Option ℕ) → Change

@@ -1,17 +1,18 @@
 //! What a step changed, as it is kept.
-ghost use Rattle.std.specs.Prelude.{◌≡◌, ◌↔◌, [], ◌∷◌, Some, None, IsTrue};
-ghost use Rattle.std.specs.Option.{option_map};
+ghost use Rattle.std.specs.Prelude.{◌≡◌, ◌↔◌, [], ◌∷◌, ◌++◌, Some, None, IsTrue};
+ghost use Rattle.std.specs.Option.{option_map, option_to_list};
 ghost use Rattle.port.specs.Ports.{NoneQueued};
+ghost use Rattle.copyin_base.specs.Kept.{receive_of};
 ghost use Rattle.copyin_base.specs.Stands.{Stands};
 ghost use Rattle.copyin_base.specs.Worlds.{entry_at, HasTask};
 ghost use Rattle.mach_types.specs.Numbers.{kind_sent};
 ghost use Rattle.mach_types.specs.declared.calls.Waited.TheVariants as waited;
 ghost use Rattle.mach_types.specs.declared.touched.Touched.TheVariants.{Few};
-ghost use Rattle.kernel_change.specs.Changing.{few, named_left, port_under, set_of as set_at, with_set as touched_with_set, touched_by, named_received, named_three, gives_none, gives_one, named_two, named_along, by_taking_along as change_by_taking_along, by_taking_two as change_by_taking_two, by_taking as change_by_taking, receives_of, named_two_left, by_message, by_items, by_body, by_answer as change_by_answer, by_destroying, by_too_long as change_by_too_long, made_last, by_making as change_by_making, by_losing_one as change_by_losing_one, disbanded, ByDisbanding, ByLosingAll, ByReferences, is_send_or_dead as entry_is_send_or_dead, HasSendsAlone, ByEnding, IsUnasked, DiesAlone, EndsAs, left_by as change_left_by, by_moving as change_by_moving, by_handing as change_by_handing, by_paying as change_by_paying, by_request as change_by_request};
+ghost use Rattle.kernel_change.specs.Changing.{few, named_left, port_under, set_of as set_at, with_set as touched_with_set, touched_by, named_received, named_three, gives_none, gives_one, named_two, named_along, by_taking_along as change_by_taking_along, by_taking_two as change_by_taking_two, by_taking as change_by_taking, receives_of, named_two_left, by_message, by_items, by_body, by_destroying as change_by_destroying, with_right as change_with_right, noticed, noticed_of, by_too_long as change_by_too_long, made_last, by_making as change_by_making, by_losing_one as change_by_losing_one, disbanded, ByDisbanding, ByLosingAll, ByReferences, is_send_or_dead as entry_is_send_or_dead, HasSendsAlone, ByEnding, IsUnasked, DiesAlone, EndsAs, left_by as change_left_by, by_moving as change_by_moving, by_handing as change_by_handing, by_paying as change_by_paying, by_request as change_by_request};
 
 use crate::moved::Moved;
 use crate::received::Received;
-use copyin_base::{Carried, Mark, World};
+use copyin_base::{Carried, Mark, Queued, World};
 use mach_types::{Name, PortId, SetId, TaskId, Touched, Waited};
 use name_space::Entry;
 use std::alloc::Global;
@@ -208,15 +209,15 @@ impl Change {
         }
     }
 
-    /// The message in front of this port is about to be destroyed: the port of its reply right gets a notice, if that is
-    /// a send-once right. Any port and any set, where the body carries rights. Constant time.
+    /// The message in front of this port is about to be destroyed: the port of a send-once right that it carries gets a
+    /// notice. Any port and any set, where it carries two of these or a receive right. Linear in its rights.
     #[inline(never)]
     pub fn by_too_long(world: &World, port: PortId) -> Change
         ensures { result ≡ change_by_too_long world.now (Some port) }
     {
         match world.ports.front(port) {
-            Some(queued) if queued.count_rights() == 0 => by_answering(port, queued.reply()),
-            _ => Change::Any,
+            Some(queued) => by_destroying(port, queued),
+            None => Change::Any,
         }
     }
 
@@ -625,23 +626,60 @@ fn by_taking_two(
     }
 }
 
-/// The port's message is destroyed, which has this reply right, and no other right.
-fn by_answering(port: PortId, reply: Option<Carried>) -> Change
-    ensures { result ≡ by_destroying port reply [] }
+/// The port's message is destroyed, with its reply right and the rights of its body. Linear in them.
+fn by_destroying(port: PortId, queued: &Queued) -> Change
+    ensures { result ≡ change_by_destroying port (option_to_list queued.now.reply ++ queued.now.rights) }
+{
+    let mut told = by_reply(port, queued.reply());
+    for place in 0..queued.count_rights() {
+        match queued.right_at(place) {
+            Some(carried) => told = with_right(told, &carried),
+            None => {}
+        }
+    }
+    told
+}
+
+/// The same with its reply right alone, if it has one.
+fn by_reply(port: PortId, reply: Option<Carried>) -> Change
+    ensures { result ≡ change_by_destroying port (option_to_list reply) }
 {
     match reply {
-        Some(carried) => by_answer(port, &carried),
+        Some(carried) => with_right(Change::Queue(port), &carried),
         None => Change::Queue(port),
     }
 }
 
-/// The same where it has one.
-fn by_answer(port: PortId, carried: &Carried) -> Change
-    ensures { result ≡ change_by_answer port (kind_sent carried.now.given) carried.now.mark }
+/// The same where the message has this right too.
+fn with_right(told: Change, carried: &Carried) -> Change
+    ensures { result ≡ change_with_right told (receive_of carried.now) (noticed_of carried.now) }
+{
+    if carried.receive_port().is_some() {
+        return Change::Any;
+    }
+    match noticed_port(carried) {
+        Some(noticed) => with_notice(told, noticed),
+        None => told,
+    }
+}
+
+/// The port that gets a notice where the right is lost: that of a send-once right.
+fn noticed_port(carried: &Carried) -> Option<PortId>
+    ensures { result ≡ noticed (kind_sent carried.now.given) carried.now.mark }
 {
     match carried.mark {
-        Mark::Port(told) if carried.given.is_send_once() => Change::Queues(port, told),
-        _ => Change::Queue(port),
+        Mark::Port(port) if carried.given.is_send_once() => Some(port),
+        _ => None,
+    }
+}
+
+/// The same where this port gets a notice too.
+fn with_notice(told: Change, noticed: PortId) -> Change
+    ensures { result ≡ change_with_right told None (Some noticed) }
+{
+    match told {
+        Change::Queue(port) => Change::Queues(port, noticed),
+        _ => Change::Any,
     }
 }
 

@@ -1,11 +1,10 @@
 -- A call of whose change it is told that a receive right was destroyed loses that right, and owes nothing.
-use Rattle.std.proofs.Common.{◌≡◌, ℕ, List, [], ◌∷◌, Option, Some, None, refl, sym, ap, subst, ◌∙◌, true, false, Bool, inl, inr, length, drop}
+use Rattle.std.proofs.Common.{◌≡◌, ℕ, List, [], ◌∷◌, ◌++◌, Option, Some, None, refl, sym, ap, subst, ◌∙◌, true, false, Bool, inl, inr, length, drop}
 use Rattle.std.specs.Prelude.{◌≢◌, ◌^◌, ◌%◌, ◌==◌, ◌||◌, ℤ, nat_lt, not, if◌then◌else◌, MatchBool}
-use Rattle.std.specs.Option.{option_map}
+use Rattle.std.specs.List.{filter_map}
+use Rattle.std.specs.Option.{option_map, option_to_list}
 use Rattle.mach_types.specs.declared.calls.Event.{Event}
 use Rattle.mach_types.specs.declared.calls.Reply.{Reply}
-use Rattle.mach_types.specs.Tokens.{Kind, receive, send, send_once}
-use Rattle.mach_types.specs.Numbers.{kind_sent}
 use Rattle.mach_types.specs.TextGuards.{word_at}
 use Rattle.mach_model.specs.State.{State, Target, lookup}
 use Rattle.mach_model.specs.Acts.{Does}
@@ -15,16 +14,13 @@ use Rattle.mach_laws.proofs.LoneDeath.{LosesRight, none_lost, all_lose, receive_
 use Rattle.mach_laws.proofs.Losing.{modifies_removes}
 use Rattle.name_space.specs.declared.Entry.{Entry as Named}
 use Rattle.name_space.specs.declared.Entry.TheVariants as named
-use Rattle.copyin_base.specs.declared.Carried.{Carried}
-use Rattle.copyin_base.specs.declared.Mark.{Mark}
-use Rattle.copyin_base.specs.declared.Mark.TheVariants as mark
 use Rattle.copyin_base.specs.Kept.{Kept}
 use Rattle.copyin_base.specs.Shows.{Shows, target_of}
 use Rattle.copyin_base.specs.Worlds.{WorldView, entry_at}
 use Rattle.copyin.specs.declared.judge.Plan.{Plan}
 use Rattle.kernel_change.specs.declared.change.Change.TheVariants as change
 use Rattle.kernel_change.specs.declared.change.Change.{Change}
-use Rattle.kernel_change.specs.Changing.{ByLosingAll, ByReferences, by_answer, by_body, by_destroying, by_front, by_handing, by_items, by_losing_all, by_losing_one, by_making, by_message, by_moving, by_paying, by_receipt, by_received, by_request, by_taking, by_taking_two, by_taking_three, by_taking_along, by_too_long, disbanded, front_at, gives_none, gives_one, left_by, moved_from, port_under, receives_of, set_of}
+use Rattle.kernel_change.specs.Changing.{ByLosingAll, ByReferences, by_body, by_front, by_handing, by_items, by_losing_all, by_losing_one, by_losing_with, by_making, by_message, by_moving, by_paying, by_receipt, by_received, by_request, by_taking, by_taking_two, by_taking_three, by_taking_along, by_too_long, disbanded, front_at, gives_none, gives_one, left_by, moved_from, noticed_of, port_under, receives_of, set_of}
 use Rattle.kernel_change.specs.Received.{body_names, received_by}
 use Rattle.kernel_core.specs.InTurn.{source}
 use Rattle.kernel_core.specs.Telling.{TellsChange, TellsPlan}
@@ -40,22 +36,15 @@ not_either false x y f g = g
 not_making : (right : ℕ) → NotLost (by_making right)
 not_making right = not_either (right == 1) change.Made change.Nothing tt tt
 
-not_answer : (port : ℕ) (kind : Kind) (one : Mark) → NotLost (by_answer port kind one)
-not_answer port send_once (mark.Port q) = tt
-not_answer port send_once mark.Null = tt
-not_answer port send_once mark.Dead = tt
-not_answer port send one = tt
-not_answer port receive one = tt
-
-not_destroying : (port : ℕ) (reply : Option Carried) (rights : List Carried) → NotLost (by_destroying port reply rights)
-not_destroying port None [] = tt
-not_destroying port (Some c) [] = not_answer port (kind_sent c.given) c.mark
-not_destroying port None (x ∷ xs) = tt
-not_destroying port (Some c) (x ∷ xs) = tt
+not_losing : (port : ℕ) (receives notices : List ℕ) → NotLost (by_losing_with port receives notices)
+not_losing port [] [] = tt
+not_losing port [] (q ∷ []) = tt
+not_losing port [] (q ∷ r ∷ qs) = tt
+not_losing port (p ∷ ps) notices = tt
 
 not_front : (port : ℕ) (o : Option Kept) → NotLost (by_front port o)
 not_front port None = tt
-not_front port (Some m) = not_destroying port m.reply m.rights
+not_front port (Some m) = let rights = option_to_list m.reply ++ m.rights in not_losing port (receives_of rights) (filter_map noticed_of rights)
 
 not_too_long : (w : WorldView) (from : Option ℕ) → NotLost (by_too_long w from)
 not_too_long w None = tt

@@ -1,5 +1,6 @@
--- What is covered once a message was destroyed as too long: the queue of its port, and that of the port of its reply right.
+-- What is covered once a message was destroyed as too long: the queue of its port, and that of the port of its only send-once right.
 use Rattle.std.proofs.Common.{◌≡◌, ℕ, ◌+◌, ◌≤◌, List, [], ◌∷◌, ◌++◌, Option, Some, None, refl, sym, ap, subst, ◌∙◌, arith, true, false, inl, inr}
+use Rattle.std.specs.List.{filter_map}
 use Rattle.std.specs.Prelude.{◌≢◌, ◌==◌, if◌then◌else◌, Contains, slice_get}
 use Rattle.std.specs.Option.{option_and_then, option_to_list}
 use Rattle.std.proofs.lemmas.Bool.{ne_eqb}
@@ -10,9 +11,8 @@ use Rattle.mach_types.specs.declared.touched.Touched.{Touched}
 use Rattle.mach_types.specs.Touching.{Covers}
 use Rattle.mach_types.specs.Bodies.{message_rights}
 use Rattle.mach_types.specs.Messages.{Entry}
-use Rattle.mach_types.specs.Messages.{Mark as MachineMark}
 use Rattle.mach_types.specs.Numbers.{kind_sent}
-use Rattle.mach_types.specs.Tokens.{Kind, receive, send, send_once, same_kind, token}
+use Rattle.mach_types.specs.Tokens.{Kind, receive, send, send_once, token}
 use Rattle.mach_model.specs.State.{State, queue}
 use Rattle.mach_model.specs.Carried.{rights_count}
 use Rattle.mach_model.specs.Notices.{Owed}
@@ -24,28 +24,66 @@ use Rattle.port.specs.Ports.{PortView}
 use Rattle.copyin_base.specs.declared.Carried.{Carried}
 use Rattle.copyin_base.specs.declared.Mark.{Mark}
 use Rattle.copyin_base.specs.declared.Mark.TheVariants as mark
-use Rattle.copyin_base.specs.Kept.{Kept, Keeps, mark_of}
+use Rattle.copyin_base.specs.Kept.{Kept, Keeps, mark_of, receive_moved, receive_of}
 use Rattle.copyin_base.specs.Posted.{with_notice, with_posted}
 use Rattle.copyin_base.specs.Serving.{ShowsMid}
 use Rattle.copyin_base.specs.Shows.{Agrees, Shows}
 use Rattle.copyin_base.specs.Worlds.{WorldView, port_at}
-use Rattle.copyin_base.proofs.KeptEntries.{rights_of, message_kept}
+use Rattle.copyin_base.proofs.KeptEntries.{right_of, rights_of, message_kept}
 use Rattle.copyin_base.proofs.Told.{port_there}
 use Rattle.copyout.proofs.Fronts.{shown_empty, shown_front, shown_is_front}
-use Rattle.kernel_change.specs.Changing.{set_of, with_set, named_two, touched_by, front_at, by_answer, by_destroying, by_front}
+use Rattle.kernel_change.specs.Changing.{set_of, with_set, named_two, noticed, noticed_of, receives_of, touched_by, front_at, by_destroying, by_front, by_losing_with}
 use Rattle.kernel_core.proofs.Covered.{OwnTouches, none_some, one_some, set_is}
 use Rattle.kernel_core.proofs.Freed.{front_same}
 
-none_counted : (k kind : Kind) → same_kind k kind ≡ false → (q : ℕ) (x : MachineMark) → rights_count k q ((kind, x) ∷ []) ≡ 0
-none_counted k kind other q x = grind arith
+-- ---- the rights of a message, by the ports that they are for
 
-not_received : (given : Disposition) → given ≢ MoveReceive → kind_sent given ≢ receive
-not_received MoveReceive not e = not refl
-not_received MoveSend not e = cc
-not_received CopySend not e = cc
-not_received MakeSend not e = cc
-not_received MoveSendOnce not e = cc
-not_received MakeSendOnce not e = cc
+abbrev times : ℕ → List ℕ → ℕ
+times q [] = 0
+times q (x ∷ xs) = (if x == q then 1 else 0) + times q xs
+
+received : (given : Disposition) (one : Mark) (q : ℕ) → rights_count receive q ((kind_sent given, mark_of one) ∷ []) ≡ times q (option_to_list (receive_moved given one))
+received MoveReceive (mark.Port p) q = refl
+received MoveReceive mark.Null q = refl
+received MoveReceive mark.Dead q = refl
+received MoveSend (mark.Port p) q = refl
+received MoveSend mark.Null q = refl
+received MoveSend mark.Dead q = refl
+received CopySend (mark.Port p) q = refl
+received CopySend mark.Null q = refl
+received CopySend mark.Dead q = refl
+received MakeSend (mark.Port p) q = refl
+received MakeSend mark.Null q = refl
+received MakeSend mark.Dead q = refl
+received MoveSendOnce (mark.Port p) q = refl
+received MoveSendOnce mark.Null q = refl
+received MoveSendOnce mark.Dead q = refl
+received MakeSendOnce (mark.Port p) q = refl
+received MakeSendOnce mark.Null q = refl
+received MakeSendOnce mark.Dead q = refl
+
+notified : (kind : Kind) (one : Mark) (q : ℕ) → rights_count send_once q ((kind, mark_of one) ∷ []) ≡ times q (option_to_list (noticed kind one))
+notified send_once (mark.Port p) q = refl
+notified send_once mark.Null q = refl
+notified send_once mark.Dead q = refl
+notified send (mark.Port p) q = refl
+notified send mark.Null q = refl
+notified send mark.Dead q = refl
+notified receive (mark.Port p) q = refl
+notified receive mark.Null q = refl
+notified receive mark.Dead q = refl
+
+counted : (kind : Kind) (f : Carried → Option ℕ) → ((c : Carried) (q : ℕ) → rights_count kind q (right_of c ∷ []) ≡ times q (option_to_list (f c))) → (cs : List Carried) (q : ℕ) → rights_count kind q (rights_of cs) ≡ times q (filter_map f cs)
+counted kind f one [] q = refl
+counted kind f one (c ∷ cs) q = go (f c) refl (one c q) (counted kind f one cs q)
+  where
+    go : (o : Option ℕ) → f c ≡ o → rights_count kind q (right_of c ∷ []) ≡ times q (option_to_list (f c)) → rights_count kind q (rights_of cs) ≡ times q (filter_map f cs) → rights_count kind q (rights_of (c ∷ cs)) ≡ times q (filter_map f (c ∷ cs))
+    go None is own rest =
+        let a : rights_count kind q (right_of c ∷ []) ≡ 0 = own ∙ ap (λ (o : Option ℕ). times q (option_to_list o)) is in
+        rw is (omega (arith, a, rest))
+    go (Some p) is own rest =
+        let a : rights_count kind q (right_of c ∷ []) ≡ times q (p ∷ []) = own ∙ ap (λ (o : Option ℕ). times q (option_to_list o)) is in
+        rw is (omega (arith, a, rest))
 
 module _ (now : ℕ) (old w : WorldView) (s mid : State) (owed : Owed) (sh : Shows old s) (shown : ShowsMid now old w mid owed) where
   -- the set that a port is in
@@ -99,25 +137,25 @@ module _ (now : ℕ) (old w : WorldView) (s mid : State) (owed : Owed) (sh : Sho
         (λ r set is in_it. let here : set_of w q ≡ Some set = ap (set_of w) (one_some q r is) ∙ in_it in rw here (3, omega arith, refl))
         (destroyed_changes p e s mid owed sh.lawful lives d none) (destroyed_owing_one p e s mid owed sh.lawful lives d q others most)
 
-    answered : (kind : Kind) (one : Mark) → kind ≢ receive → message_rights e.message ≡ (kind, mark_of one) ∷ [] → OwnTouches s mid owed (touched_by w (by_answer p kind one))
-    answered receive one not are = absurd (not refl)
-    answered send one not are =
-        untold (λ q. ap (rights_count receive q) are ∙ none_counted receive send refl q (mark_of one)) (λ q. ap (rights_count send_once q) are ∙ none_counted send_once send refl q (mark_of one))
-    answered send_once mark.Null not are = untold (λ q. ap (rights_count receive q) are) (λ q. ap (rights_count send_once q) are)
-    answered send_once mark.Dead not are = untold (λ q. ap (rights_count receive q) are) (λ q. ap (rights_count send_once q) are)
-    answered send_once (mark.Port q) not are =
-        told q (λ r. ap (rights_count receive r) are) (λ r other. ap (rights_count send_once r) are ∙ (let differs = ne_eqb q r (λ e. other (sym e)) in rw differs refl))
-        (let many = ap (rights_count send_once q) are in rw many one_or_none)
+    destroyed : (cs : List Carried) → message_rights e.message ≡ rights_of cs → OwnTouches s mid owed (touched_by w (by_destroying p cs))
+    destroyed cs are = go (receives_of cs) (filter_map noticed_of cs) refl refl
       where
-        one_or_none : (if q == q then 1 else 0) + 0 ≤ 1
-        one_or_none = grind arith
+        received_at : (q : ℕ) → rights_count receive q (message_rights e.message) ≡ times q (receives_of cs)
+        received_at q = ap (rights_count receive q) are ∙ counted receive receive_of (λ c r. received c.given c.mark r) cs q
 
-    destroyed : (reply : Option Carried) (rights : List Carried) → ((c : Carried) → reply ≡ Some c → c.given ≢ MoveReceive) → message_rights e.message ≡ rights_of (option_to_list reply ++ rights) →
-        OwnTouches s mid owed (touched_by w (by_destroying p reply rights))
-    destroyed None [] sent are = untold (λ q. ap (rights_count receive q) are) (λ q. ap (rights_count send_once q) are)
-    destroyed (Some c) [] sent are = answered (kind_sent c.given) c.mark (not_received c.given (sent c refl)) are
-    destroyed None (x ∷ xs) sent are = inl refl
-    destroyed (Some c) (x ∷ xs) sent are = inl refl
+        noticed_at : (q : ℕ) → rights_count send_once q (message_rights e.message) ≡ times q (filter_map noticed_of cs)
+        noticed_at q = ap (rights_count send_once q) are ∙ counted send_once noticed_of (λ c r. notified (kind_sent c.given) c.mark r) cs q
+
+        one_or_none : (q : ℕ) → (if q == q then 1 else 0) + 0 ≤ 1
+        one_or_none q = grind arith
+
+        go : (rs ns : List ℕ) → receives_of cs ≡ rs → filter_map noticed_of cs ≡ ns → OwnTouches s mid owed (touched_by w (by_losing_with p rs ns))
+        go [] [] r n = untold (λ q. received_at q ∙ ap (times q) r) (λ q. noticed_at q ∙ ap (times q) n)
+        go [] (q ∷ []) r n =
+            told q (λ x. received_at x ∙ ap (times x) r) (λ x other. noticed_at x ∙ ap (times x) n ∙ (let differs = ne_eqb q x (λ e. other (sym e)) in rw differs refl))
+            (let many : rights_count send_once q (message_rights e.message) ≡ (if q == q then 1 else 0) + 0 = noticed_at q ∙ ap (times q) n in rw many (one_or_none q))
+        go [] (q ∷ x ∷ ns) r n = inl refl
+        go (x ∷ rs) ns r n = inl refl
 
     pub too_long_own : OwnTouches s mid owed (touched_by w (by_front p (front_at old p)))
     too_long_own = go v.0.queue refl
@@ -140,4 +178,4 @@ module _ (now : ℕ) (old w : WorldView) (s mid : State) (owed : Owed) (sh : Sho
             let f = shown_front old s sh.agrees p v.0 v.1 m ms is in
             let same = front_same s p f.first e (shown_is_front old s sh.agrees p v.0 v.1 m ms is) front in
             let keeps : Keeps p m e.message = subst (λ (x : Entry). Keeps p m x.message) same f.keeps in
-            subst (λ (o : Option Kept). OwnTouches s mid owed (touched_by w (by_front p o))) (sym (at_front (m ∷ ms) is)) (destroyed m.reply m.rights keeps.reply_sent (message_kept p m e.message keeps))
+            subst (λ (o : Option Kept). OwnTouches s mid owed (touched_by w (by_front p o))) (sym (at_front (m ∷ ms) is)) (destroyed (option_to_list m.reply ++ m.rights) (message_kept p m e.message keeps))

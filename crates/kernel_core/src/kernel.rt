@@ -260,7 +260,7 @@ impl Kernel {
     ///   together with the sets concerned;
     /// - a message that was received with two receive rights at most, or with three by a port in no set;
     /// - a receive that found no message;
-    /// - a message that was destroyed as too long, whose body carried no right;
+    /// - a message that was destroyed as too long, with no receive right and with one send-once right at most;
     /// - a port that died with nothing queued, and no request on it or on a name of it;
     /// - a set that was destroyed with at most three members, if there was memory for their list;
     /// - the end of a task whose names stood for send rights and dead names alone.
