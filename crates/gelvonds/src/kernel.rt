@@ -166,9 +166,9 @@ impl Kernel {
     /// right names that right's port too, and the set that it was in; so does one with two or three, where with
     /// the sets concerned four places suffice. One that was received names the ports too whose
     /// receive rights came with it: one or two, or three if its own port is in no set. A message that was
-    /// destroyed as too long and whose body carried no right names its port and the port's set. The notice for a
-    /// send-once right names its port and the port's set too, where that right was lost by [`Kernel::deallocate`],
-    /// [`Kernel::destroy`] or [`Kernel::mod_refs`], or was such a message's reply right. A receive right that
+    /// destroyed as too long names its port and the port's set, if it carried no receive right and one send-once right at
+    /// most. The notice for a send-once right names its port and the port's set too, where that right was lost by
+    /// [`Kernel::deallocate`], [`Kernel::destroy`] or [`Kernel::mod_refs`], or was in such a message. A receive right that
     /// these calls destroyed names its port and the port's set, where nothing was queued at it and no request was on it
     /// or on a name of it. A set that was destroyed is named with its members, if they were three at most and there was
     /// memory for their list. [`Kernel::request_notification`] names the port of the right that pays, whether it tells at
