@@ -1,2 +1,3 @@
 pub mod BlockLemmas
-pub mod NotifyLemmas
+pub mod CallLemmas
+pub mod KeywordLemmas

@@ -1,25 +1,24 @@
 -- Keywords that are no call's, by the groups in which calls are told apart.
 use Rattle.std.specs.Prelude.{◌≡◌, ℕ, List, codes}
 
--- no keyword of the calls that make rights or hand them on, or of messages
-pub record IsNoRightWord (word : List ℕ) : Type 0 where
-  pub task : codes "task" ≡ word → ⊥
-  pub alloc : codes "alloc" ≡ word → ⊥
-  pub allocname : codes "allocname" ≡ word → ⊥
-  pub insert : codes "insert" ≡ word → ⊥
-  pub extract : codes "extract" ≡ word → ⊥
+-- no keyword of the calls whose arguments no others have, or with less than two or more than three
+pub record IsNoOwnWord (word : List ℕ) : Type 0 where
   pub send : codes "send" ≡ word → ⊥
   pub recv : codes "recv" ≡ word → ⊥
+  pub task : codes "task" ≡ word → ⊥
+  pub insert : codes "insert" ≡ word → ⊥
+  pub extract : codes "extract" ≡ word → ⊥
   pub again : codes "again" ≡ word → ⊥
-
--- no keyword of the calls on names
-pub record IsNoNameWord (word : List ℕ) : Type 0 where
-  pub dealloc : codes "dealloc" ≡ word → ⊥
-  pub destroy : codes "destroy" ≡ word → ⊥
   pub modrefs : codes "modrefs" ≡ word → ⊥
-  pub refs : codes "refs" ≡ word → ⊥
-  pub type_of : codes "type" ≡ word → ⊥
+  pub notify : codes "notify" ≡ word → ⊥
   pub names : codes "names" ≡ word → ⊥
   pub ending : codes "end" ≡ word → ⊥
-  pub notify : codes "notify" ≡ word → ⊥
-  pub rename : codes "rename" ≡ word → ⊥
+
+-- no keyword of the other calls with two arguments
+pub record IsNoPairWord (word : List ℕ) : Type 0 where
+  pub alloc : codes "alloc" ≡ word → ⊥
+  pub dealloc : codes "dealloc" ≡ word → ⊥
+  pub destroy : codes "destroy" ≡ word → ⊥
+  pub type_of : codes "type" ≡ word → ⊥
+  pub status : codes "status" ≡ word → ⊥
+  pub members : codes "members" ≡ word → ⊥

@@ -7,9 +7,9 @@ ghost use Rattle.mach_types.specs.declared.calls.Waited.{Waited as AnyWaited};
 ghost use Rattle.tracer_base.specs.Numbers.{FitsDelta};
 ghost use Rattle.tracer_base.specs.Text.{bytes_text, flag_text, waited_words, FitsWaited};
 ghost use Rattle.tracer_base.specs.Words.{IsRead};
-ghost use Rattle.text_reader.specs.Keywords.{IsNoRightWord, IsNoNameWord};
+ghost use Rattle.text_reader.specs.Keywords.{IsNoOwnWord, IsNoPairWord};
 
-use mach_types::Event;
+use mach_types::{Event, Name, TaskId};
 use std::alloc::Global;
 use tracer_base::{TextFault, Words};
 
@@ -54,81 +54,65 @@ pub(crate) fn read_arguments(
         "send" => read_send(alloc, words),
         "recv" => read_recv(words),
         "task" => Ok(Event::TaskCreate),
-        "alloc" => Ok(Event::Allocate(words.task()?, words.number()?)),
-        "allocname" => Ok(Event::AllocateName(words.task()?, words.number()?, words.name()?)),
         "insert" => read_insert(words),
         "extract" => read_extract(words),
         "again" => read_again(words),
-        _ => read_name_call(keyword, words),
-    }
-}
-
-/// The call on names, or on a port or a port set, of this keyword. Faults are as for [`read_call`].
-fn read_name_call(keyword: &str, words: &mut Words<'_>) -> Result<Event, TextFault>
-    requires { IsNoRightWord keyword.now }
-    ensures word { IfOk result (λ event. call_word event ≡ keyword.now) }
-    ensures arguments { IfOk result (λ event. call_arguments event ++ words.new ≡ words.old) }
-    ensures fits { IfOk result Fits }
-    ensures read { (event : AnyEvent) (behind : List (List ℕ)) → Fits event → call_word event ≡ keyword.now
-        → call_arguments event ++ behind ≡ words.old → IsRead result words.new behind }
-{
-    match keyword {
-        "dealloc" => Ok(Event::Deallocate(words.task()?, words.name()?)),
-        "destroy" => Ok(Event::Destroy(words.task()?, words.name()?)),
         "modrefs" => read_modrefs(words),
-        "refs" => {
-            let (task, name, right) = words.task_name_and_number()?;
-            Ok(Event::GetRefs(task, name, right))
-        }
-        "type" => Ok(Event::NameType(words.task()?, words.name()?)),
+        "notify" => read_notify(words),
         "names" => Ok(Event::Names(words.task()?)),
         "end" => Ok(Event::TaskTerminate(words.task()?)),
-        "notify" => read_notify(words),
-        "rename" => {
-            let (task, old) = words.task_and_name()?;
-            Ok(Event::Rename(task, old, words.name()?))
-        }
-        _ => read_port_call(keyword, words),
+        _ => read_short_call(keyword, words),
     }
 }
 
-/// The call on a port or a port set of this keyword. Faults are as for [`read_call`].
-fn read_port_call(keyword: &str, words: &mut Words<'_>) -> Result<Event, TextFault>
-    requires right { IsNoRightWord keyword.now }
-    requires name { IsNoNameWord keyword.now }
+/// The call of this keyword whose arguments are a task and one or two numbers. Faults are as for [`read_call`].
+fn read_short_call(keyword: &str, words: &mut Words<'_>) -> Result<Event, TextFault>
+    requires { IsNoOwnWord keyword.now }
     ensures word { IfOk result (λ event. call_word event ≡ keyword.now) }
     ensures arguments { IfOk result (λ event. call_arguments event ++ words.new ≡ words.old) }
     ensures fits { IfOk result Fits }
-    ensures read { (event : AnyEvent) (behind : List (List ℕ)) → Fits event → call_word event ≡ keyword.now
-        → call_arguments event ++ behind ≡ words.old → IsRead result words.new behind }
+    ensures each { (event : AnyEvent) (behind : List (List ℕ)) → Fits event → call_word event ≡ keyword.now
+        → call_arguments event ++ behind ≡ words.old → IsOkUnless result TextFault.OutOfMemory }
 {
+    let (task, name) = words.task_and_name()?;
     match keyword {
-        "status" => Ok(Event::ReceiveStatus(words.task()?, words.name()?)),
-        "qlimit" => {
-            let (task, name, limit) = words.task_name_and_number()?;
-            Ok(Event::SetQlimit(task, name, limit))
-        }
-        "mscount" => {
-            let (task, name, count) = words.task_name_and_number()?;
-            Ok(Event::SetMscount(task, name, count))
-        }
-        "seqno" => {
-            let (task, name, sequence) = words.task_name_and_number()?;
-            Ok(Event::SetSeqno(task, name, sequence))
-        }
-        "move" => {
-            let (task, member) = words.task_and_name()?;
-            Ok(Event::MoveMember(task, member, words.name()?))
-        }
-        "insmember" => {
-            let (task, member) = words.task_and_name()?;
-            Ok(Event::InsertMember(task, member, words.name()?))
-        }
-        "exmember" => {
-            let (task, member) = words.task_and_name()?;
-            Ok(Event::ExtractMember(task, member, words.name()?))
-        }
-        "members" => Ok(Event::SetStatus(words.task()?, words.name()?)),
+        "alloc" => Ok(Event::Allocate(task, name.number())),
+        "dealloc" => Ok(Event::Deallocate(task, name)),
+        "destroy" => Ok(Event::Destroy(task, name)),
+        "type" => Ok(Event::NameType(task, name)),
+        "status" => Ok(Event::ReceiveStatus(task, name)),
+        "members" => Ok(Event::SetStatus(task, name)),
+        _ => read_last_argument(keyword, task, name, words),
+    }
+}
+
+/// The call of this keyword whose arguments are the task, the name and one number more. Faults are as for [`read_call`].
+fn read_last_argument(
+    keyword: &str,
+    task: TaskId,
+    name: Name,
+    words: &mut Words<'_>,
+) -> Result<Event, TextFault>
+    requires own { IsNoOwnWord keyword.now }
+    requires pair { IsNoPairWord keyword.now }
+    requires small { (task < 2 ^ 32) × (name < 2 ^ 32) }
+    ensures word { IfOk result (λ event. call_word event ≡ keyword.now) }
+    ensures arguments { IfOk result (λ event. call_arguments event ++ words.new ≡ decimal task ∷ decimal name ∷ words.old) }
+    ensures fits { IfOk result Fits }
+    ensures each { (event : AnyEvent) (behind : List (List ℕ)) → Fits event → call_word event ≡ keyword.now
+        → call_arguments event ++ behind ≡ decimal task ∷ decimal name ∷ words.old → IsOkUnless result TextFault.OutOfMemory }
+{
+    let last = words.number()?;
+    match keyword {
+        "allocname" => Ok(Event::AllocateName(task, name.number(), Name::new(last))),
+        "refs" => Ok(Event::GetRefs(task, name, last)),
+        "rename" => Ok(Event::Rename(task, name, Name::new(last))),
+        "qlimit" => Ok(Event::SetQlimit(task, name, last)),
+        "mscount" => Ok(Event::SetMscount(task, name, last)),
+        "seqno" => Ok(Event::SetSeqno(task, name, last)),
+        "move" => Ok(Event::MoveMember(task, name, Name::new(last))),
+        "insmember" => Ok(Event::InsertMember(task, name, Name::new(last))),
+        "exmember" => Ok(Event::ExtractMember(task, name, Name::new(last))),
         _ => Err(TextFault::Bad),
     }
 }
