@@ -1,3 +1,4 @@
 pub mod BlockLemmas
 pub mod CallLemmas
 pub mod KeywordLemmas
+pub mod NumberReplyLemmas

@@ -1,4 +1,4 @@
--- Keywords that are no call's, by the groups in which calls are told apart.
+-- Keywords that are no call's or reply's, by the groups in which these are told apart.
 use Rattle.std.specs.Prelude.{◌≡◌, ℕ, List, codes}
 
 -- no keyword of the calls whose arguments no others have, or with less than two or more than three
@@ -22,3 +22,15 @@ pub record IsNoPairWord (word : List ℕ) : Type 0 where
   pub type_of : codes "type" ≡ word → ⊥
   pub status : codes "status" ≡ word → ⊥
   pub members : codes "members" ≡ word → ⊥
+
+-- no keyword of a reply but those that answer one decimal number
+pub record IsNoOtherWord (word : List ℕ) : Type 0 where
+  pub code : codes "code" ≡ word → ⊥
+  pub type_of : codes "type" ≡ word → ⊥
+  pub names : codes "names" ≡ word → ⊥
+  pub status : codes "status" ≡ word → ⊥
+  pub members : codes "members" ≡ word → ⊥
+  pub right : codes "right" ≡ word → ⊥
+  pub message : codes "message" ≡ word → ⊥
+  pub empty : codes "empty" ≡ word → ⊥
+  pub norecord : codes "norecord" ≡ word → ⊥

@@ -6,8 +6,9 @@ ghost use Rattle.mach_types.specs.declared.calls.Waited.{Waited as AnyWaited};
 ghost use Rattle.tracer_base.specs.Replies.{typed_name_text, status_words, reply_word, reply_arguments, reply_words, reply_text, FitsReply, FitsStatus, FitsTypedName};
 ghost use Rattle.tracer_base.specs.Text.{waited_words, FitsWaited};
 ghost use Rattle.tracer_base.specs.Words.{IsRead};
+ghost use Rattle.text_reader.specs.Keywords.{IsNoOtherWord};
 
-use mach_types::{Name, NameList, NameTypes, Reply, Status};
+use mach_types::{Name, NameList, NameTypes, Reply, Status, TaskId};
 use std::alloc::Global;
 use tracer_base::{TextFault, Words};
 
@@ -45,19 +46,33 @@ fn read_answer(alloc: Global, keyword: &str, words: &mut Words<'_>) -> Result<Re
 {
     match keyword {
         "code" => Ok(Reply::Code(words.code()?)),
-        "task" => Ok(Reply::Task(words.task()?)),
-        "name" => Ok(Reply::Name(words.name()?)),
-        "refs" => Ok(Reply::Refs(words.number()?)),
         "type" => Ok(Reply::NameType(words.code()?)),
         "names" => read_names(alloc, words),
         "status" => read_status(words),
         "members" => read_members(alloc, words),
         "right" => read_right(words),
-        "previous" => Ok(Reply::Previous(words.name()?)),
         "message" => Ok(Reply::Message(words.bytes(alloc)?)),
         "empty" => read_empty(words),
-        "toolarge" => Ok(Reply::TooLarge(words.number()?)),
         "norecord" => Ok(Reply::NoRecord),
+        _ => read_number(keyword, words),
+    }
+}
+
+/// The reply of this keyword that answers one decimal number. Faults are as for [`read_reply`].
+fn read_number(keyword: &str, words: &mut Words<'_>) -> Result<Reply, TextFault>
+    requires { IsNoOtherWord keyword.now }
+    ensures word { IfOk result (λ reply. reply_word reply ≡ keyword.now) }
+    ensures arguments { IfOk result (λ reply. reply_arguments reply ++ words.new ≡ words.old) }
+    ensures fits { IfOk result FitsReply }
+    ensures each { (reply : AnyReply) → FitsReply reply → reply_word reply ≡ keyword.now → reply_arguments reply ≡ words.old → IsOkUnless result TextFault.OutOfMemory }
+{
+    let number = words.number()?;
+    match keyword {
+        "task" => Ok(Reply::Task(TaskId::new(number))),
+        "name" => Ok(Reply::Name(Name::new(number))),
+        "refs" => Ok(Reply::Refs(number)),
+        "previous" => Ok(Reply::Previous(Name::new(number))),
+        "toolarge" => Ok(Reply::TooLarge(number)),
         _ => Err(TextFault::Bad),
     }
 }
@@ -119,9 +134,9 @@ fn read_status(words: &mut Words<'_>) -> Result<Reply, TextFault>
     ensures fits { IfOk result FitsReply }
     ensures read { (status : AnyStatus) → FitsStatus status → status_words status ≡ words.old → IsRead result words.new [] }
 {
-    let [set, sequence, make_send] = three_numbers(words)?;
-    let [limit, queued, send_once] = three_numbers(words)?;
-    let [has_send, port_destroyed, no_senders] = three_numbers(words)?;
+    let (set, sequence, make_send) = three_numbers(words)?;
+    let (limit, queued, send_once) = three_numbers(words)?;
+    let (has_send, port_destroyed, no_senders) = three_numbers(words)?;
     Ok(Reply::Status(Status {
         set: Name::new(set),
         sequence,
@@ -136,11 +151,11 @@ fn read_status(words: &mut Words<'_>) -> Result<Reply, TextFault>
 }
 
 /// The next three words as numbers of 32 bits.
-fn three_numbers(words: &mut Words<'_>) -> Result<[u32; 3], TextFault>
-    ensures ok { IfOk result (λ read. map decimal read ++ words.new ≡ words.old) }
-    ensures fits { IfOk result (All (λ number. number < 2 ^ 32)) }
+fn three_numbers(words: &mut Words<'_>) -> Result<(u32, u32, u32), TextFault>
+    ensures ok { IfOk result (λ read. decimal read.0 ∷ decimal read.1 ∷ decimal read.2 ∷ words.new ≡ words.old) }
+    ensures fits { IfOk result (λ read. (read.0 < 2 ^ 32) × (read.1 < 2 ^ 32) × (read.2 < 2 ^ 32)) }
     ensures read { (a b c : ℕ) (behind : List (List ℕ)) → a < 2 ^ 32 → b < 2 ^ 32 → c < 2 ^ 32
         → decimal a ∷ decimal b ∷ decimal c ∷ behind ≡ words.old → IsRead result words.new behind }
 {
-    Ok([words.number()?, words.number()?, words.number()?])
+    Ok((words.number()?, words.number()?, words.number()?))
 }
