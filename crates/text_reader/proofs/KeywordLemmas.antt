@@ -1,10 +1,14 @@
--- What holds of each call of a keyword holds of an event that has it.
+-- What holds of each call of a keyword holds of an event that has it, and so of replies.
 use Rattle.std.proofs.Common.{codes, ◌≡◌, ℕ, ℤ, Bool, List, ap, true, false}
 use Rattle.std.specs.Str.{bytes_eq}
 use Rattle.mach_types.specs.declared.calls.Event.{Event}
 use Rattle.mach_types.specs.declared.calls.Event.TheVariants.{Send, Receive, InsertRight, ExtractRight, ReceiveAgain, ModRefs, RequestNotification}
 use Rattle.mach_types.specs.declared.calls.Waited.{Waited}
+use Rattle.mach_types.specs.declared.calls.Reply.{Reply}
+use Rattle.mach_types.specs.declared.calls.Reply.TheVariants.{Names, Status, Members, Right, Empty}
+use Rattle.mach_types.specs.declared.calls.Status.{Status as PortStatus}
 use Rattle.tracer_base.specs.Calls.{call_word}
+use Rattle.tracer_base.specs.Replies.{reply_word}
 
 pub of_send : (P : Event → Type 0) (event : Event) → call_word event ≡ codes "send" → ((task : ℕ) (bytes : List ℕ) → P (Send task bytes)) → P event
 of_send P (Send task bytes) word each = each task bytes
@@ -33,3 +37,23 @@ of_modrefs P event word each = absurd (let f : false ≡ true = ap (λ w. bytes_
 pub of_notify : (P : Event → Type 0) (event : Event) → call_word event ≡ codes "notify" → ((task name variant sync notify disposition : ℕ) → P (RequestNotification task name variant sync notify disposition)) → P event
 of_notify P (RequestNotification task name variant sync notify disposition) word each = each task name variant sync notify disposition
 of_notify P event word each = absurd (let f : false ≡ true = ap (λ w. bytes_eq w (codes "notify")) word in cc)
+
+pub of_names : (P : Reply → Type 0) (reply : Reply) → reply_word reply ≡ codes "names" → ((names : List (ℕ × ℕ)) → P (Names names)) → P reply
+of_names P (Names names) word each = each names
+of_names P reply word each = absurd (let f : false ≡ true = ap (λ w. bytes_eq w (codes "names")) word in cc)
+
+pub of_status : (P : Reply → Type 0) (reply : Reply) → reply_word reply ≡ codes "status" → ((status : PortStatus) → P (Status status)) → P reply
+of_status P (Status status) word each = each status
+of_status P reply word each = absurd (let f : false ≡ true = ap (λ w. bytes_eq w (codes "status")) word in cc)
+
+pub of_members : (P : Reply → Type 0) (reply : Reply) → reply_word reply ≡ codes "members" → ((members : List ℕ) → P (Members members)) → P reply
+of_members P (Members members) word each = each members
+of_members P reply word each = absurd (let f : false ≡ true = ap (λ w. bytes_eq w (codes "members")) word in cc)
+
+pub of_right : (P : Reply → Type 0) (reply : Reply) → reply_word reply ≡ codes "right" → ((name kind : ℕ) → P (Right name kind)) → P reply
+of_right P (Right name kind) word each = each name kind
+of_right P reply word each = absurd (let f : false ≡ true = ap (λ w. bytes_eq w (codes "right")) word in cc)
+
+pub of_empty : (P : Reply → Type 0) (reply : Reply) → reply_word reply ≡ codes "empty" → ((waited : Waited) → P (Empty waited)) → P reply
+of_empty P (Empty waited) word each = each waited
+of_empty P reply word each = absurd (let f : false ≡ true = ap (λ w. bytes_eq w (codes "empty")) word in cc)
