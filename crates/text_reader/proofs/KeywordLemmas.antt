@@ -2,13 +2,21 @@
 use Rattle.std.proofs.Common.{codes, ◌≡◌, ℕ, ℤ, Bool, List, ap, true, false}
 use Rattle.std.specs.Str.{bytes_eq}
 use Rattle.mach_types.specs.declared.calls.Event.{Event}
-use Rattle.mach_types.specs.declared.calls.Event.TheVariants.{Send, Receive, InsertRight, ExtractRight, ReceiveAgain, ModRefs, RequestNotification}
+use Rattle.mach_types.specs.declared.calls.Event.TheVariants.{TaskTerminate, Names as NamesCall, Send, Receive, InsertRight, ExtractRight, ReceiveAgain, ModRefs, RequestNotification}
 use Rattle.mach_types.specs.declared.calls.Waited.{Waited}
 use Rattle.mach_types.specs.declared.calls.Reply.{Reply}
 use Rattle.mach_types.specs.declared.calls.Reply.TheVariants.{Names, Status, Members, Right, Empty}
 use Rattle.mach_types.specs.declared.calls.Status.{Status as PortStatus}
 use Rattle.tracer_base.specs.Calls.{call_word}
 use Rattle.tracer_base.specs.Replies.{reply_word}
+
+pub of_end : (P : Event → Type 0) (event : Event) → call_word event ≡ codes "end" → ((task : ℕ) → P (TaskTerminate task)) → P event
+of_end P (TaskTerminate task) word each = each task
+of_end P event word each = absurd (let f : false ≡ true = ap (λ w. bytes_eq w (codes "end")) word in cc)
+
+pub of_names_call : (P : Event → Type 0) (event : Event) → call_word event ≡ codes "names" → ((task : ℕ) → P (NamesCall task)) → P event
+of_names_call P (NamesCall task) word each = each task
+of_names_call P event word each = absurd (let f : false ≡ true = ap (λ w. bytes_eq w (codes "names")) word in cc)
 
 pub of_send : (P : Event → Type 0) (event : Event) → call_word event ≡ codes "send" → ((task : ℕ) (bytes : List ℕ) → P (Send task bytes)) → P event
 of_send P (Send task bytes) word each = each task bytes

@@ -1,10 +1,11 @@
-use Rattle.std.proofs.Common.{sym, ap, ◌≡◌, [], ◌∷◌, ◌∙◌, ◌++◌, append_assoc, decimal}
+use Rattle.std.proofs.Common.{rules, ℕ, sym, ap, ◌≡◌, [], ◌∷◌, ◌∙◌, ◌++◌, append_assoc, decimal}
 use Rattle.mach_types.specs.declared.calls.Event.{Event}
+use Rattle.mach_types.specs.declared.calls.Event.TheVariants.{Names, TaskTerminate}
 use Rattle.tracer_base.specs.Calls.{Fits, call_arguments}
 use Rattle.tracer_base.specs.Text.{flag_text, waited_words}
 use Rattle.tracer_base.specs.Words.{IsRead}
 use Rattle.text_reader.proofs.CallLemmas.{is_read}
-use Rattle.text_reader.proofs.KeywordLemmas.{of_send, of_recv, of_insert, of_extract, of_again, of_modrefs, of_notify}
+use Rattle.text_reader.proofs.KeywordLemmas.{of_end, of_names_call, of_send, of_recv, of_insert, of_extract, of_again, of_modrefs, of_notify}
 use Rattle.text_reader.proofs.calls.read_arguments.Goals as goal
 
 pub returns-in-send-clause-read : goal.returns-in-send-clause-read
@@ -54,3 +55,29 @@ returns-in_default-clause-read c =
     λ event behind fits word same.
     let read = c.read_short_call.ensures in
     is_read c.read_short_call.result event _ _ _ behind read.word read.arguments read.fits (read.each event behind fits word same) fits word same
+
+pub returns-in_err-task-in-names-clause-read : goal.returns-in_err-task-in-names-clause-read
+returns-in_err-task-in-names-clause-read c =
+    λ event behind fits word same.
+    let P = λ (e : Event). Fits e → call_arguments e ++ behind ≡ c.args.words.now → IsRead c.from_residual.result c.task.new.self behind in
+    let refused : (task : ℕ) → P (Names task) = λ task fits same. let read = c.task.ensures.read task behind fits same in search (rules, read) in
+    of_names_call P event (word ∙ c.in-names.is) refused fits same
+
+pub returns-in_ok-task-in-names-clause-read : goal.returns-in_ok-task-in-names-clause-read
+returns-in_ok-task-in-names-clause-read c =
+    λ event behind fits word same.
+    let P = λ (e : Event). Fits e → call_arguments e ++ behind ≡ c.args.words.now → c.task.new.self ≡ behind in
+    of_names_call P event (word ∙ c.in-names.is) (λ task fits same. c.in_ok-task-in-names.ensures.read task behind fits same) fits same
+
+pub returns-in_err-task-in-end-clause-read : goal.returns-in_err-task-in-end-clause-read
+returns-in_err-task-in-end-clause-read c =
+    λ event behind fits word same.
+    let P = λ (e : Event). Fits e → call_arguments e ++ behind ≡ c.args.words.now → IsRead c.from_residual-in_err-task-in-end.result c.task-in-end.new.self behind in
+    let refused : (task : ℕ) → P (TaskTerminate task) = λ task fits same. let read = c.task-in-end.ensures.read task behind fits same in search (rules, read) in
+    of_end P event (word ∙ c.in-end.is) refused fits same
+
+pub returns-in_ok-task-in-end-clause-read : goal.returns-in_ok-task-in-end-clause-read
+returns-in_ok-task-in-end-clause-read c =
+    λ event behind fits word same.
+    let P = λ (e : Event). Fits e → call_arguments e ++ behind ≡ c.args.words.now → c.task-in-end.new.self ≡ behind in
+    of_end P event (word ∙ c.in-end.is) (λ task fits same. c.in_ok-task-in-end.ensures.read task behind fits same) fits same
