@@ -12,6 +12,7 @@ pub mod Putting
 pub mod Reading
 pub mod Written
 pub mod Entering
+pub mod Queueing
 pub mod Lost
 pub mod Removed
 pub mod Coming

@@ -2,7 +2,7 @@
 use Rattle.std.specs.Prelude.{◌≡◌, ℕ, ◌-◌, ◌<◌, ◌++◌, ◌∷◌, [], Some}
 use Rattle.port.specs.declared.Holder.TheVariants.{Nobody}
 use Rattle.port.specs.Holding.{CanHold, held}
-use Rattle.port.specs.Ports.{PortView, IsLive, with_port}
+use Rattle.port.specs.Ports.{DestroysFirst, PortView, IsLive, with_port}
 use Rattle.port_set.specs.Sets.{removed, IsDisbanded}
 use Rattle.rights.specs.declared.RightKind.TheVariants.{Receive, Send}
 use Rattle.rights.specs.Ledger.{IsEntered, counts_of, shifted, taken}
@@ -59,3 +59,10 @@ LosesSends old port number new = NotesSenderless (record old { ledger = taken ol
 pub record DropsSet (old : WorldView) (set : ℕ) (new : WorldView) : Type 0 where
   pub disbanded : IsDisbanded old.ports new.ports set
   pub rest : new ≡ record old { ports = new.ports; sets = removed old.sets set }
+
+-- ---- a message is destroyed
+
+-- The first message of the port's queue is now the last of the destroyed ones.
+pub record DestroysNext (old : WorldView) (port : ℕ) (new : WorldView) : Type 0 where
+  pub first : DestroysFirst old.ports port new.ports
+  pub rest : new ≡ record old { ports = new.ports }

@@ -9,9 +9,12 @@
 mod attributes;
 mod code;
 mod counts;
+mod dying;
 mod entries;
 mod find;
 mod losing;
+mod ports;
+mod queues;
 mod requests;
 mod senders;
 mod sets;

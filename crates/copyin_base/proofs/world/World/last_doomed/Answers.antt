@@ -1,0 +1,9 @@
+use Rattle.std.proofs.Common.{ℕ, subst}
+use Rattle.std.specs.Prelude.{◌↔◌, Contains}
+use Rattle.port.specs.declared.Holder.TheVariants as holder
+use Rattle.port.specs.Holding.{IsHeldBy}
+use Rattle.copyin_base.specs.Worlds.{WorldView}
+use Rattle.copyin_base.proofs.world.World.last_doomed.Goals as goal
+
+pub returns-clause-all : goal.returns-clause-all
+returns-clause-all c = subst (λ (w : WorldView). (port : ℕ) → Contains w.ports.doomed port ↔ IsHeldBy w.ports port holder.Doomed) c.self.view_is c.last_doomed.ensures.all

@@ -1,0 +1,157 @@
+//! The ports, to read: what is kept of each, its messages, and the members of sets.
+ghost use Rattle.std.specs.Prelude.{◌≡◌, ◌↔◌, ◌<◌, ◌≤◌, ℕ, IfNone, IfOk, IfSome, IsTrue, None, Some, is_some, length, option_copied, slice_get, true, false};
+ghost use Rattle.std.specs.List.{Contains};
+ghost use Rattle.std.specs.Option.{option_and_then, option_map};
+ghost use Rattle.std.specs.FinMap as map;
+ghost use Rattle.mach_types.specs.Numbers.{most_identities};
+ghost use Rattle.circularity.specs.Chains.{LeadsToAny};
+ghost use Rattle.port.specs.Ports.{IsIn, IsNumberedFront, NoneIn, NoneQueued, PortView};
+ghost use Rattle.port.specs.Turns.{turns_of};
+ghost use Rattle.port_set.specs.Sets.{IsReady, NoneReady};
+ghost use Rattle.tables_base.specs.Kept.{Kept};
+ghost use Rattle.copyin_base.specs.Worlds.{port_at};
+
+use crate::world::World;
+use mach_types::{PortId, SetId};
+use port::{Attributes, Standing};
+use std::alloc::{AllocError, Global};
+use std::collections::LinkedList;
+use tables_base::Queued;
+
+impl World {
+    /// Returns whether the port is there. Constant time.
+    #[inline(always)]
+    pub fn has_port(&self, port: PortId) -> bool
+        ensures { result ≡ is_some (port_at self.now port) }
+    {
+        self.ports.contains(port)
+    }
+
+    /// The attributes of a port, if it is there. Constant time.
+    #[inline(always)]
+    pub fn find_attributes(&self, port: PortId) -> Option<Attributes>
+        ensures { result ≡ option_map (λ p. p.attributes) (port_at self.now port) }
+    {
+        self.ports.attributes(port)
+    }
+
+    /// How many ports there are. Constant time.
+    #[inline(always)]
+    pub fn count_ports(&self) -> usize
+        ensures { result ≡ map.len self.now.ports.ports }
+    {
+        self.ports.len()
+    }
+
+    /// Returns whether all 2^64 identities of ports were given, so that no port can be made. Constant time.
+    #[inline(always)]
+    pub fn are_ports_exhausted(&self) -> bool
+        ensures { IsTrue result ↔ (most_identities ≤ self.now.ports.made) }
+    {
+        self.ports.is_exhausted()
+    }
+
+    /// The identity that the next port made gets: the number of ports made before. Constant time.
+    #[inline(always)]
+    pub fn next_port(&self) -> PortId
+        requires { self.now.ports.made < most_identities }
+        ensures { result ≡ self.now.ports.made }
+    {
+        self.ports.next_id()
+    }
+
+    /// Returns whether the port is there and has fewer messages than its limit. Constant time.
+    #[inline(always)]
+    pub fn has_room(&self, port: PortId) -> bool
+        ensures live { (p : PortView Kept) → port_at self.now port ≡ Some p → (IsTrue result ↔ (length p.queue < p.attributes.limit)) }
+        ensures gone { port_at self.now port ≡ None → result ≡ false }
+    {
+        self.ports.has_room(port)
+    }
+
+    /// How many messages a port has, 0 where it is gone. Constant time.
+    #[inline(always)]
+    pub fn queued(&self, port: PortId) -> usize
+        ensures live { (p : PortView Kept) → port_at self.now port ≡ Some p → result ≡ length p.queue }
+        ensures gone { port_at self.now port ≡ None → result ≡ 0 }
+    {
+        self.ports.queued(port)
+    }
+
+    /// A port's queue, to read, if the port is there. Constant time.
+    #[inline(always)]
+    pub fn queue(&self, port: PortId) -> Option<&LinkedList<Queued>>
+        ensures { option_copied result ≡ option_and_then (λ p. Some p.queue) (port_at self.now port) }
+    {
+        self.ports.queue(port)
+    }
+
+    /// The message at the front of a port's queue, if the port is there and has one. Constant time.
+    #[inline(always)]
+    pub fn front(&self, port: PortId) -> Option<&Queued>
+        ensures { option_copied result ≡ option_and_then (λ p. slice_get p.queue 0) (port_at self.now port) }
+    {
+        self.ports.front(port)
+    }
+
+    /// The message at the front of a port's queue, and the sequence number that it is received with, if the
+    /// port is there and has one. Constant time.
+    #[inline(always)]
+    pub fn numbered_front(&self, port: PortId) -> Option<(&Queued, u32)>
+        ensures some { IfSome result (λ front. IsNumberedFront self.now.ports port front.0.now front.1) }
+        ensures none { IfNone result (NoneQueued self.now.ports port) }
+    {
+        self.ports.numbered_front(port)
+    }
+
+    /// Whether a port is in a set, and how many messages it has, if it is there. Constant time.
+    #[inline(always)]
+    pub fn standing(&self, port: PortId) -> Option<Standing>
+        ensures some { IfSome result (λ s. (p : PortView Kept) → port_at self.now port ≡ Some p → (s.is_member ≡ is_some p.attributes.set) × (s.queued ≡ length p.queue)) }
+        ensures none { IfNone result (port_at self.now port ≡ None) }
+        ensures there { IfSome result (λ _. is_some (port_at self.now port) ≡ true) }
+    {
+        self.ports.standing(port)
+    }
+
+    /// The member of the set that has a message and whose turn it is, if there is one (IPC Interface,
+    /// `mach_msg`, receiving by a port set). Constant time.
+    #[inline(always)]
+    pub fn ready_member(&self, set: SetId) -> Option<PortId>
+        ensures first { result ≡ slice_get (turns_of self.now.ports.ready set) 0 }
+        ensures some { IfSome result (λ port. IsReady self.now.ports set port) }
+        ensures none { IfNone result (NoneReady self.now.ports set) }
+    {
+        port_set::ready_member(&self.ports, set)
+    }
+
+    /// Returns whether a message to `destination` that carries the receive rights of the ports `carried` would
+    /// close a loop (IPC Interface, `mach_msg`; the rule is this project's own). Takes no memory. Linear in the
+    /// ports in whose queues receive rights lie, one in another's, and in the ports carried.
+    #[inline(always)]
+    pub fn closes_loop(&self, destination: PortId, carried: &[PortId]) -> bool
+        ensures { IsTrue result ↔ LeadsToAny self.now.ports destination carried.now }
+    {
+        circularity::closes_loop(&self.ports, destination, carried)
+    }
+
+    /// A port of the set, if there is one. Constant time.
+    #[inline(always)]
+    pub fn first_member(&self, set: SetId) -> Option<PortId>
+        ensures some { IfSome result (λ port. IsIn self.now.ports set port) }
+        ensures none { IfNone result (NoneIn self.now.ports set) }
+    {
+        self.ports.first_member(set)
+    }
+
+    /// The ports of the set, in no order that is promised. Linear in their number.
+    ///
+    /// An error means that memory was refused.
+    #[inline(always)]
+    pub fn members(&self, set: SetId, alloc: Global) -> Result<Vec<PortId>, AllocError>
+        ensures only { IfOk result (λ ports. (port : ℕ) → Contains ports.items port → IsIn self.now.ports set port) }
+        ensures all { IfOk result (λ ports. (port : ℕ) (p : PortView Kept) → port_at self.now port ≡ Some p → p.attributes.set ≡ Some set → Contains ports.items port) }
+    {
+        self.ports.members(set, alloc)
+    }
+}
