@@ -3,7 +3,6 @@ use Rattle.std.proofs.Common.{◌≡◌, ℕ, Bool, true, false, List, [], ◌�
 use Rattle.std.specs.Prelude.{◌==◌, MatchBool, map as list_map, replicate, flat_map}
 use Rattle.std.specs.FinMap as map
 use Rattle.std.proofs.lemmas.List.{map-append}
-use Rattle.mach_types.specs.declared.profiles.Profile.{Profile}
 use Rattle.mach_types.specs.Numbers.{null_word, dead_word, disposition, kind_sent}
 use Rattle.mach_types.specs.declared.rights.Disposition.{Disposition}
 use Rattle.mach_types.specs.Grammar.{WireBody, Wire, data_item, port_item, IsWire, IsWireBody}
@@ -25,8 +24,7 @@ use Rattle.rights.specs.declared.RightKind.TheVariants as right
 use Rattle.name_space.specs.declared.Entry.{Entry}
 use Rattle.name_space.specs.Entry.{port_of}
 use Rattle.name_space.specs.Names.{SpaceView, Names}
-use Rattle.port.specs.Ports.{IsLive, PortsView, PortView, with_port}
-use Rattle.port_set.specs.Sets.{SetsView}
+use Rattle.port.specs.Ports.{IsLive, PortsView}
 use Rattle.copyin_base.specs.declared.Carried.{Carried}
 use Rattle.copyin_base.specs.declared.Mark.{Mark}
 use Rattle.copyin_base.specs.Worlds.{WorldView, with_space, entry_in, entry_at, put, space_at, NoneLost}
@@ -41,11 +39,9 @@ use Rattle.copyin_base.proofs.KeptEntries.{numbers, rights_of, item_kept, body_k
 use Rattle.copyin_base.specs.Changes.{NotesSenders, IsForLive}
 use Rattle.copyin_base.proofs.Idle.{none_lost_by}
 use Rattle.copyin_base.proofs.SendersNoted.{KeepsSends, sends_made, sends_shifted, KeepsSenders, keeps_senders, keeps_senders_refl, keeps_senders_trans, senders_same, senders_kept}
-use Rattle.copyin_base.specs.Reading.{AreGiven}
-use Rattle.copyin_base.proofs.Reading.{SamePorts, same_given, same_put}
-use Rattle.copyin_base.proofs.Written.{tables, ports_written, port_put}
+use Rattle.copyin_base.proofs.Written.{tables}
 use Rattle.dispositions.specs.Copies.{copied_from}
-use Rattle.copyin.specs.Copies.{CopiesRight, ledger_copied, ports_copied, ledger_queued, port_copied}
+use Rattle.copyin.specs.Copies.{CopiesRight, ledger_copied, ports_copied, ledger_queued}
 use Rattle.copyin.specs.Plans.{ChangesWord, ChangesWords, destination_word, reply_words, option_list, Judged, Commits}
 use Rattle.copyin.proofs.Holding.{held_requested, held_ledger, held_requests, held_noted, held_none_lost}
 use Rattle.copyin.proofs.Keeping.{keeps, live_copied, still, else_copied}
@@ -472,74 +468,6 @@ module _ (old : WorldView) (task : ℕ) (parsed : Parsed) (written : WireBody) (
   commits_none_lost none =
       let went = words_none_lost (destination_word parsed ∷ reply_words parsed ++ body_words written) (j.destination ∷ option_list j.reply ++ j.rights) old c.mid task c.changes none in
       none_lost_by c.held new (held_none_lost j.port j.rights c.mid c.held c.holds went) (ap (λ (w : WorldView). w.ports.lost) c.rest) (ap (λ (w : WorldView). w.ports.doomed) c.rest) (ap (λ (w : WorldView). w.ports.destroyed) c.rest)
-
--- ---- What is read of the tables, and what is written of their ports and counts alone.
-
--- ---- the ports that are there are those that were
-
-port_same : (d : Disposition) (q : ℕ) (ports : PortsView Kept) (o : Option (PortView Kept)) → map.get ports.ports q ≡ o → SamePorts ports (port_copied d q ports o)
-port_same d q ports (Some v) at = port_put ports q v _ at
-port_same d q ports None at = record { live = λ p. refl; made = refl }
-
-pub same_copied : (d : Disposition) (m : Mark) (ports : PortsView Kept) → SamePorts ports (ports_copied d m ports)
-same_copied MoveReceive (mark.Port q) ports = port_same MoveReceive q ports (map.get ports.ports q) refl
-same_copied MakeSend (mark.Port q) ports = port_same MakeSend q ports (map.get ports.ports q) refl
-same_copied MoveReceive mark.Null ports = record { live = λ p. refl; made = refl }
-same_copied MoveReceive mark.Dead ports = record { live = λ p. refl; made = refl }
-same_copied MakeSend mark.Null ports = record { live = λ p. refl; made = refl }
-same_copied MakeSend mark.Dead ports = record { live = λ p. refl; made = refl }
-same_copied MoveSend m ports = record { live = λ p. refl; made = refl }
-same_copied MoveSendOnce m ports = record { live = λ p. refl; made = refl }
-same_copied CopySend m ports = record { live = λ p. refl; made = refl }
-same_copied MakeSendOnce m ports = record { live = λ p. refl; made = refl }
-
--- a message more is queued
-abbrev pub with_message : PortsView Kept → (p : ℕ) → PortView Kept → Kept → PortsView Kept
-with_message ports p v m = record (with_port ports p (record v { queue = v.queue ++ m ∷ [] })) { spare = ports.spare - 1 }
-
-same_queued : (ports : PortsView Kept) (p : ℕ) (v : PortView Kept) (m : Kept) → map.get ports.ports p ≡ Some v → SamePorts ports (with_message ports p v m)
-same_queued ports p v m there = record { live = same_put ports p v (record v { queue = v.queue ++ m ∷ [] }) there; made = refl }
-
--- ---- in the tables
-
-module _ (old : WorldView) {profile : Profile} (spaces : List (Option SpaceView)) (ports : PortsView Kept) (ledger : LedgerView) (sets : SetsView) (requests : RequestTablesView)
-    (view : tables profile spaces ports ledger sets requests ≡ old) where
-  -- The ports changed so, of which the same are there, and the counts so.
-  module _ (new : PortsView Kept) (counts : LedgerView) (same : SamePorts ports new) where
-    pub changed_written : tables profile spaces new counts sets requests ≡ record old { ports = new; ledger = counts }
-    changed_written = ap (λ (w : WorldView). record w { ledger = counts }) (ports_written old spaces ports ledger sets requests view new same)
-
-  -- A right went by the disposition.
-  module _ (d : Disposition) (m : Mark) (new : PortsView Kept) (is : new ≡ ports_copied d m ports) where
-    same : SamePorts ports new
-    same = subst (SamePorts ports) (sym is) (same_copied d m ports)
-
-    pub copied_given : AreGiven spaces ports → AreGiven spaces new
-    copied_given = same_given spaces ports new same
-
-    pub copied_written : (counts : LedgerView) (become : LedgerView → LedgerView) → counts ≡ become ledger →
-        tables profile spaces new counts sets requests ≡ record old { ports = ports_copied d m old.ports; ledger = become old.ledger }
-    copied_written counts become e =
-        changed_written new counts same
-        ∙ (λ i. record old { ports = (is ∙ ap (λ (w : WorldView). ports_copied d m w.ports) view) i; ledger = (e ∙ ap (λ (w : WorldView). become w.ledger) view) i })
-
-  -- A message was queued at a port that is there.
-  module _ (p : ℕ) (v : PortView Kept) (m : Kept) (new : PortsView Kept) (there : map.get old.ports.ports p ≡ Some v)
-      (is : map.get ports.ports p ≡ Some v → new ≡ with_message ports p v m) where
-    here : map.get ports.ports p ≡ Some v
-    here = ap (λ (w : WorldView). map.get w.ports.ports p) view ∙ there
-
-    queued_same : SamePorts ports new
-    queued_same = subst (SamePorts ports) (sym (is here)) (same_queued ports p v m here)
-
-    pub queued_given : AreGiven spaces ports → AreGiven spaces new
-    queued_given = same_given spaces ports new queued_same
-
-    pub queued_written : (counts : LedgerView) (by_once : Bool) → counts ≡ ledger_queued by_once p ledger →
-        tables profile spaces new counts sets requests ≡ record old { ports = with_message old.ports p v m; ledger = ledger_queued by_once p old.ledger }
-    queued_written counts by_once e =
-        changed_written new counts queued_same
-        ∙ (λ i. record old { ports = (is here ∙ ap (λ (w : WorldView). with_message w.ports p v m) view) i; ledger = (e ∙ ap (λ (w : WorldView). ledger_queued by_once p w.ledger) view) i })
 
 -- ---- what is left of a right
 

@@ -19,22 +19,22 @@ ghost use Rattle.copyin_base.specs.Worlds.{NoneLost, port_at};
 ghost use Rattle.copyin.specs.Copies.{ports_copied, ledger_copied, ledger_queued, CopiesRight};
 
 use crate::judge::Plan;
-use copyin_base::{Carried, Mark, Message, Queued, World};
+use copyin_base::{Carried, Mark, Message, World};
 use dispositions::copy_right;
 use mach_types::{Disposition, Name, PortId, TaskId};
 use message_codec::PortWord;
-use port::{Attributes, Holder, Ports};
+use port::{Attributes, Holder};
 use rights::RightKind;
 
 // The receive right goes from its port, whose counts start again and which is in no set. Its holder is
 // set where it is given, or where a message that carries it is queued.
-fn leave_port(ports: &mut Ports<Queued>, port: PortId)
-    ensures { ports.new ≡ ports_copied disposition_of.MoveReceive (mark_of.Port port) ports.old }
+fn leave_port(world: &mut World, port: PortId)
+    ensures { world.new ≡ record world.old { ports = ports_copied disposition_of.MoveReceive (mark_of.Port port) world.old.ports } }
 {
-    let Some(attributes) = ports.attributes(port) else {
+    let Some(attributes) = world.find_attributes(port) else {
         return;
     };
-    ports.set_attributes(
+    world.set_attributes(
         port,
         Attributes {
             make_send: 0,
@@ -47,15 +47,15 @@ fn leave_port(ports: &mut Ports<Queued>, port: PortId)
 
 // Sets what a right changes of its port when it goes.
 #[inline(always)]
-fn renew_port(ports: &mut Ports<Queued>, given: Disposition, mark: Mark)
-    ensures { ports.new ≡ ports_copied given mark ports.old }
+fn renew_port(world: &mut World, given: Disposition, mark: Mark)
+    ensures { world.new ≡ record world.old { ports = ports_copied given mark world.old.ports } }
 {
     let Mark::Port(port) = &mark else {
         return;
     };
     match given {
-        Disposition::MakeSend => ports.count_make_send(*port),
-        Disposition::MoveReceive => leave_port(ports, *port),
+        Disposition::MakeSend => world.count_make_send(*port),
+        Disposition::MoveReceive => leave_port(world, *port),
         _ => {}
     }
 }
@@ -110,7 +110,7 @@ fn count_copied(world: &mut World, carried: Carried)
     } }
 {
     count_right(world, carried.given, carried.mark);
-    renew_port(&mut world.ports, carried.given, carried.mark);
+    renew_port(world, carried.given, carried.mark);
 }
 
 /// Sends the right under the name by its disposition. What is left stays under the name, the port changes as
@@ -185,7 +185,7 @@ fn queue_message(world: &mut World, port: PortId, message: Message)
 {
     let by_once = message.by_once();
     use_right(world, port, by_once);
-    world.ports.enqueue(port, Queued::sent(message));
+    world.enqueue(port, message);
 }
 
 // A word's right goes, if the word is a name.

@@ -403,7 +403,7 @@ fn has_slot(world: &World, port: PortId, destination: Carried) -> bool
     requires sends { kind_sent destination.given ≢ receive }
     ensures { MatchBool result (HasSlot world.now port destination) (HasNoSlot world.now port destination) }
 {
-    destination.given.is_send_once() || world.ports.has_room(port)
+    destination.given.is_send_once() || world.has_room(port)
 }
 
 // How many rights are made by this one: one, or none.
@@ -448,7 +448,7 @@ fn judge_loop(world: &World, alloc: Global, port: PortId, body: &[Carried]) -> R
     ensures ok { OnOk result (¬ (MakesLoop world.now.ports port body.now)) }
     ensures err { IfErr result (λ code. MakesLoop world.now.ports port body.now × (code ≡ SendInvalidRight) ⊎ (inline_words < length body.now) × (code ≡ SendNoBuffer)) }
 {
-    match makes_loop(&world.ports, alloc, port, body) {
+    match makes_loop(world, alloc, port, body) {
         Ok(false) => Ok(()),
         Ok(true) => Err(MsgReturn::SendInvalidRight),
         Err(_) => Err(MsgReturn::SendNoBuffer),

@@ -5,11 +5,9 @@ ghost use Rattle.message_codec.specs.Words.{inline_words};
 ghost use Rattle.copyin_base.specs.Kept.{receive_of};
 ghost use Rattle.copyin.specs.Loops.{MakesLoop};
 
-use circularity::closes_loop;
-use copyin_base::{Carried, Queued};
+use copyin_base::{Carried, World};
 use mach_types::PortId;
 use message_codec::INLINE_WORDS;
-use port::Ports;
 use std::alloc::{AllocError, Global};
 
 /// Returns whether a message to the port that carries these rights would close a loop. It does where one is
@@ -21,22 +19,22 @@ use std::alloc::{AllocError, Global};
 /// memory for more was refused.
 #[inline(always)]
 pub(crate) fn makes_loop(
-    ports: &Ports<Queued>,
+    world: &World,
     alloc: Global,
     port: PortId,
     rights: &[Carried],
 ) -> Result<bool, AllocError>
-    ensures ok { IfOk result (λ makes. MatchBool makes (MakesLoop ports.now port rights.now) (¬ (MakesLoop ports.now port rights.now))) }
+    ensures ok { IfOk result (λ makes. MatchBool makes (MakesLoop world.now.ports port rights.now) (¬ (MakesLoop world.now.ports port rights.now))) }
     ensures err { OnErr result (inline_words < length rights.now) }
 {
     if rights.len() <= INLINE_WORDS {
-        return Ok(any_leads_on(ports, port, rights));
+        return Ok(any_leads_on(world, port, rights));
     }
     let moved = moved_ports(alloc, rights)?;
     if moved.is_empty() {
         return Ok(false);
     }
-    Ok(closes_loop(ports, port, moved.as_slice()))
+    Ok(world.closes_loop(port, moved.as_slice()))
 }
 
 // The ports whose receive rights are among these.
@@ -61,11 +59,11 @@ fn add_moved(moved: &mut Vec<PortId>, carried: &Carried) -> Result<(), AllocErro
 }
 
 // Whether one of a few rights makes a loop.
-fn any_leads_on(ports: &Ports<Queued>, port: PortId, rights: &[Carried]) -> bool
-    ensures { MatchBool result (MakesLoop ports.now port rights.now) (¬ (MakesLoop ports.now port rights.now)) }
+fn any_leads_on(world: &World, port: PortId, rights: &[Carried]) -> bool
+    ensures { MatchBool result (MakesLoop world.now.ports port rights.now) (¬ (MakesLoop world.now.ports port rights.now)) }
 {
     for carried in rights {
-        if leads_on(ports, port, carried) {
+        if leads_on(world, port, carried) {
             return true;
         }
     }
@@ -73,11 +71,11 @@ fn any_leads_on(ports: &Ports<Queued>, port: PortId, rights: &[Carried]) -> bool
 }
 
 // Whether it is a receive right that makes one.
-fn leads_on(ports: &Ports<Queued>, port: PortId, carried: &Carried) -> bool
-    ensures { MatchBool result (MakesLoop ports.now port (carried.now ∷ [])) (¬ (MakesLoop ports.now port (carried.now ∷ []))) }
+fn leads_on(world: &World, port: PortId, carried: &Carried) -> bool
+    ensures { MatchBool result (MakesLoop world.now.ports port (carried.now ∷ [])) (¬ (MakesLoop world.now.ports port (carried.now ∷ []))) }
 {
     match carried.receive_port() {
-        Some(moved) => closes_loop(ports, port, &[moved]),
+        Some(moved) => world.closes_loop(port, &[moved]),
         None => false,
     }
 }

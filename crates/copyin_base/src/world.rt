@@ -27,7 +27,7 @@ pub struct World {
     /// The names of each task; none where the task has ended.
     pub(crate) spaces: Vec<Option<Space>>,
     /// The ports.
-    pub ports: Ports<Queued>,
+    pub(crate) ports: Ports<Queued>,
     /// How many rights there are.
     pub(crate) ledger: Ledger,
     /// The port sets. Which ports are in one is an attribute of the ports.

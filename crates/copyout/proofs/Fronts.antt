@@ -43,7 +43,6 @@ use Rattle.copyin_base.specs.Changes.{IsSenderless, NotesSenderless, NotesSender
 use Rattle.copyin_base.proofs.Listed.{none_listed}
 use Rattle.copyin_base.proofs.SendersNoted.{KeepsSenders, keeps_senders, keeps_senders_trans, sends_taken, sends_elsewhere, senders_same, senders_kept, noted_senderless}
 use Rattle.copyin_base.proofs.Gets.{same_found}
-use Rattle.copyin_base.proofs.Reading.{SamePorts, same_put}
 use Rattle.copyout.proofs.GivenAll.{AreLying, rights_length, body_words_count}
 use Rattle.copyout.specs.Ready.{carried_by, send_for, sends_for, AllEntered, Waits, HasFront, IsNumbered}
 use Rattle.copyout.specs.Giving.{LackNames}
@@ -328,11 +327,6 @@ notes_roomier w start new same n = grind arith
 pub is_front : (ports : PortsView Kept) (port : ℕ) (v : PortView Kept) (m found : Kept) (behind : List Kept) → map.get ports.ports port ≡ Some v → v.queue ≡ m ∷ behind →
     Some found ≡ option_and_then (λ p. slice_get p.queue 0) (map.get ports.ports port) → found ≡ m
 is_front ports port v m found behind there queue is = grind (arith, same_some)
-
--- ... and no port came or went
-pub taken_ports : (ports new : PortsView Kept) (port : ℕ) (v : PortView Kept) → map.get ports.ports port ≡ Some v →
-    new ≡ record (with_port ports port (record { queue = drop 1 v.queue; attributes = record v.attributes { sequence = (v.attributes.sequence + 1) % 2 ^ 32 } })) { spare = ports.spare + 1 } → SamePorts ports new
-taken_ports ports new port v there is = subst (SamePorts ports) (sym is) (record { live = same_put ports port v _ there; made = refl })
 
 first_of : (l : List Kept) (m : Kept) → slice_get l 0 ≡ Some m → l ≡ m ∷ drop 1 l
 first_of [] m is = absurd (some_or_none m (slice_get [] 0) is refl)

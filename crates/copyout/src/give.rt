@@ -17,7 +17,7 @@ ghost use Rattle.copyout.specs.Giving.{joined, alone, ledger_joined, ports_given
 ghost use Rattle.copyout.specs.Room.{HasNone};
 ghost use Rattle.copyout.specs.Ready.{CanGivePort, CanJoin, CanTakeName, CanGive};
 
-use crate::room::{has_port, shared_name};
+use crate::room::shared_name;
 use copyin_base::{Carried, Mark, World};
 use mach_types::limits::MOST_REFERENCES;
 use mach_types::{Disposition, Name, PortId, Right, TaskId};
@@ -232,7 +232,7 @@ pub fn give_right(world: &mut World, task: TaskId, carried: &Carried) -> Name
         Mark::Null => Name::null(),
         Mark::Dead => Name::dead(),
         Mark::Port(port) => {
-            if has_port(world, *port) {
+            if world.has_port(*port) {
                 give_port(world, task, carried.given, *port)
             } else {
                 Name::dead()

@@ -75,7 +75,7 @@ fn dequeue(world: &mut World, port: PortId) -> Queued
     ensures { (m : Kept) (f : HasFront world.old port m) → (result ≡ m)
         × (world.new ≡ record world.old { ports = record (with_port world.old.ports port (record { queue = f.behind; attributes = record f.v.attributes { sequence = (f.v.attributes.sequence + 1) % 2 ^ 32 } })) { spare = world.old.ports.spare + 1 } }) }
 {
-    match world.ports.take(port) {
+    match world.take_front(port) {
         Some(queued) => queued,
         None => unreachable!(),
     }
@@ -265,7 +265,7 @@ fn front(world: &World, port: PortId) -> (&Queued, u32)
     ensures front { HasFront world.now port result.0.now }
     ensures numbered { IsNumbered world.now port result.1 }
 {
-    match world.ports.numbered_front(port) {
+    match world.numbered_front(port) {
         Some(front) => front,
         None => unreachable!(),
     }

@@ -65,13 +65,6 @@ pub(crate) fn shared_name(space: &TaskNames<'_>, given: Disposition, port: PortI
     }
 }
 
-/// Returns whether the port is there.
-pub(crate) fn has_port(world: &World, port: PortId) -> bool
-    ensures { result ≡ is_some (map.get world.now.ports.ports port) }
-{
-    world.ports.contains(port)
-}
-
 // Where a port is marked.
 fn place_of(marks: &[bool], port: PortId) -> usize
     requires { 0 < length marks.now }
@@ -126,7 +119,7 @@ fn needs_own(
         return false;
     };
     if carried.given.is_send_once() {
-        return has_port(world, port);
+        return world.has_port(port);
     }
     if space.name_of_port(port).is_some() {
         return false;
@@ -135,7 +128,7 @@ fn needs_own(
         return false;
     }
     mark_port(marks, port);
-    has_port(world, port)
+    world.has_port(port)
 }
 
 // How many names of its own the right needs, behind the earlier ones: 1 or none.
@@ -241,7 +234,7 @@ pub(crate) fn own_port(world: &World, space: &TaskNames<'_>, carried: &Carried) 
     if shared_name(space, carried.given, *port).is_some() {
         return None;
     }
-    if has_port(world, *port) {
+    if world.has_port(*port) {
         Some(*port)
     } else {
         None

@@ -1,6 +1,6 @@
 -- The five parts of a step's end, one after the other, are the end of the step.
 use Rattle.std.proofs.Common.{◌≡◌, ℕ, suc, zero, ◌+◌, List, [], ◌∷◌, refl, ap, ◌∙◌, arith, true, false, Bool, inl, inr, length, ◌++◌, sym, Option, Some, None, subst, ◌<◌, ◌≤◌, ◌⊎◌, get_or, ◌^◌, ◌-◌}
-use Rattle.std.specs.Prelude.{if◌then◌else◌, All, not, ◌==◌, map, filter, ◌&&◌, ◌||◌, drop, is_some, option_map, Contains, reverse, ◌↔◌, min}
+use Rattle.std.specs.Prelude.{if◌then◌else◌, All, not, ◌==◌, map, filter, ◌&&◌, ◌||◌, drop, is_some, option_map, Contains, reverse, min}
 use Rattle.std.proofs.lemmas.List.Elements.{All-head, All-tail, All-contains}
 use Rattle.std.proofs.lemmas.List.{length-append}
 use Rattle.std.proofs.lemmas.Bool.Decides.{eqb_tells}
@@ -29,9 +29,9 @@ use Rattle.mach_model.proofs.TurnsBounded.{turns_end}
 use Rattle.rights.specs.Ledger.{counts_of}
 use Rattle.rights.specs.declared.Counts.{Counts}
 use Rattle.rights.specs.Counts.{no_rights}
-use Rattle.port.specs.Ports.{PortView, PortsView}
+use Rattle.port.specs.Ports.{PortView}
 use Rattle.port.specs.declared.Holder.TheVariants as holder
-use Rattle.port.specs.Holding.{NoneHeldBy, IsHeldBy}
+use Rattle.port.specs.Holding.{NoneHeldBy}
 use Rattle.copyin_base.specs.Kept.{Kept}
 use Rattle.copyin_base.specs.Requests.{notify_of}
 use Rattle.copyin_base.specs.Worlds.{WorldView, port_at}
@@ -541,9 +541,6 @@ continued before after w so_many v at goes =
     record { now = at.now; tables = at.tables; old = at.old; mid = at.mid; owed = at.owed; ending = a.0; between = a.1; stage_is = a.4 }
 
 -- ---- the end
-
-pub tells_doomed : (w : WorldView) (ports : PortsView Kept) → ports ≡ w.ports → ((port : ℕ) → Contains ports.doomed port ↔ IsHeldBy ports port holder.Doomed) → TellsDoomed w
-tells_doomed w ports is all = subst (λ (p : PortsView Kept). (port : ℕ) → Contains p.doomed port ↔ IsHeldBy p port holder.Doomed) is all
 
 pub none_held : (w : WorldView) → TellsDoomed w → w.ports.doomed ≡ [] → NoneHeldBy w.ports holder.Doomed
 none_held w tells none port v there is = go w.ports.doomed none ((tells port).1 record { view = v; there = there; holder_is = is })

@@ -33,6 +33,7 @@ use Rattle.port.specs.Turns.{ReadyLists}
 use Rattle.port.specs.Ports.{PortView, with_port}
 use Rattle.copyin_base.specs.Kept.{Kept, Keeps}
 use Rattle.copyin_base.specs.Shows.{AllKept, ShowsPort, CarriesReceive}
+use Rattle.copyin_base.specs.Losing.{DestroysNext}
 use Rattle.copyin_base.specs.Worlds.{WorldView, port_at}
 use Rattle.copyin_base.proofs.Gets.{same_found, of_some}
 use Rattle.copyin_base.proofs.Requested.{requested_ports}
@@ -43,7 +44,7 @@ use Rattle.notifications.specs.SoFar.{due_so_far, entries_at, posted_from, Tied,
 use Rattle.destroy.specs.Between.{Between, HasLost}
 use Rattle.destroy.proofs.JudgeDoomed.{tally_none, sound, tasked_unjudged, one_place, lies_mid, mid_lies, there_mid, live_there}
 use Rattle.destroy.proofs.LoseCounts.{front_or_behind, left_within}
-use Rattle.destroy.specs.Judging.{HasSent, IsJudging, receive_right, CarriesAmong, LosesAt, NoneSaved, LosesAmong, DestroysNext, last_destroyed, Empties, can_be_doomed, is_undoomed, remaining, queued_at}
+use Rattle.destroy.specs.Judging.{HasSent, IsJudging, receive_right, CarriesAmong, LosesAt, NoneSaved, LosesAmong, last_destroyed, Empties, can_be_doomed, is_undoomed, remaining, queued_at}
 use Rattle.destroy.proofs.Counting.{count_none, count_one, count_joined}
 use Rattle.destroy.proofs.JudgeReached.{destroys_judging}
 use Rattle.destroy.proofs.JudgeCarried.{counted_carries, carries_counted}

@@ -1,12 +1,11 @@
 -- A port that is to be sent away, and the state once it was.
-use Rattle.std.proofs.Common.{◌≡◌, ◌↔◌, ◌<◌, ℕ, zero, suc, Bool, true, false, IsTrue, List, Option, Some, length, refl, sym, ap, subst, ◌∙◌, arith, ◌+◌, ◌≤◌, [], ◌∷◌, ◌++◌, None, ◌⊎◌, inl, inr, get_or}
-use Rattle.std.specs.Prelude.{MatchBool, if◌then◌else◌, ◌&&◌, ◌==◌, not, filter, is_some, All, Contains, map as list_map, ◌||◌, slice_get}
+use Rattle.std.proofs.Common.{◌≡◌, ◌↔◌, ◌<◌, ℕ, zero, suc, Bool, true, false, List, Option, Some, length, refl, sym, ap, subst, ◌∙◌, arith, ◌+◌, ◌≤◌, [], ◌∷◌, ◌++◌, None, ◌⊎◌, inl, inr, get_or, IsTrue}
+use Rattle.std.specs.Prelude.{if◌then◌else◌, ◌&&◌, ◌==◌, not, filter, is_some, All, Contains, map as list_map, ◌||◌, slice_get}
 use Rattle.std.proofs.lemmas.Bool.{both_ways, eq-eqb}
 use Rattle.std.specs.FinMap as map
 use Rattle.std.proofs.lemmas.Bool.Decides.{eqb_tells}
 use Rattle.std.proofs.lemmas.List.{length-append, length-map, append-nil, append_assoc}
 use Rattle.std.proofs.lemmas.List.Elements.{All-head, All-tail}
-use Rattle.mach_types.specs.declared.profiles.Profile.{Profile}
 use Rattle.mach_types.specs.Tokens.{Kind, receive, send_once, port_destroyed, in_task, in_message, in_request, Token, token, count, is_of, weigh, same_kind, Request, no_senders, dead_name, Place, is_held, is_in_task}
 use Rattle.mach_types.specs.Numbers.{most_rights}
 use Rattle.mach_types.specs.Messages.{Entry}
@@ -23,83 +22,47 @@ use Rattle.mach_model.specs.Settles.{tokens_of}
 use Rattle.mach_model.proofs.SettledLawful.{not_longer}
 use Rattle.mach_model.proofs.TurnsSettle.{HasPaid, weaker, tokens_joined_settle as tokens_joined}
 use Rattle.mach_model.specs.Carried.{lying_among}
-use Rattle.rights.specs.Ledger.{LedgerView, counts_of}
+use Rattle.rights.specs.Ledger.{counts_of}
 use Rattle.rights.specs.declared.Counts.{Counts}
-use Rattle.name_space.specs.Names.{SpaceView}
-use Rattle.port.specs.Ports.{PortView, PortsView, with_port, DestroysFirst, NoneQueued}
+use Rattle.port.specs.Ports.{PortView, PortsView, with_port, NoneQueued}
 use Rattle.port.proofs.Keys.{put_here, same_some}
 use Rattle.port.specs.declared.Holder.{Holder}
 use Rattle.port.specs.declared.Holder.TheVariants as holder
 use Rattle.port.specs.Holding.{IsHeldBy}
-use Rattle.port_set.specs.Sets.{SetsView}
 use Rattle.copyin_base.specs.Kept.{Kept}
-use Rattle.copyin_base.specs.Reading.{AreGiven}
-use Rattle.copyin_base.specs.Requests.{RequestTablesView, rights_kept}
+use Rattle.copyin_base.specs.Requests.{rights_kept}
 use Rattle.copyin_base.specs.Worlds.{WorldView, port_at}
-use Rattle.copyin_base.proofs.Reading.{SamePorts, same_given, same_put}
-use Rattle.copyin_base.proofs.Written.{tables, ports_written}
+use Rattle.copyin_base.proofs.Written.{tables}
 use Rattle.copyin_base.proofs.Gets.{same_found as same_view}
 use Rattle.copyin_base.proofs.Counting.{one_of}
 use Rattle.notifications.specs.SoFar.{IsHolder, IsWithNobody, posted_so_far, buried_alone, due_so_far, posted_from, entries_at, IsSoFar, AreEntries, AwaitLoss}
 use Rattle.notifications.proofs.NoticePosted.{filter_weigh}
 use Rattle.destroy.proofs.LoseFrames.{StandsSoFar, stood_if}
-use Rattle.destroy.specs.Judging.{DestroysNext, GoesTo, IsJudging}
+use Rattle.destroy.specs.Judging.{GoesTo, IsJudging}
 use Rattle.destroy.specs.Between.{Between, IsUnlost}
 use Rattle.destroy.proofs.LoseCounts.{left_within, alone_lives, due_more, entries_more, ends_after, ends_are, posted_more}
 use Rattle.destroy.proofs.JudgeDoomed.{there_mid, found_now, still_judging, sound, none_posted_here, destroyed_doomed, kept_table}
 
--- ---- What judging writes of the tables: a port that is there was put again, and waits elsewhere.
+-- ---- A port that is there was put again, and waits elsewhere.
 
 -- a port as given, where these are the ones that were lost, and these are doomed
-abbrev pub with_waiting : PortsView Kept → (p : ℕ) → PortView Kept → (lost doomed : List ℕ) → PortsView Kept
+abbrev with_waiting : PortsView Kept → (p : ℕ) → PortView Kept → (lost doomed : List ℕ) → PortsView Kept
 with_waiting ports p v lost doomed = record (with_port ports p v) { lost = lost; doomed = doomed }
 
 none_told : (n : ℕ) (b : Bool) → (IsTrue b ↔ (0 < n)) → b ≡ false → n ≡ 0
 none_told zero b told not = refl
 none_told (suc n) b told not = absurd (both_ways b not (told.1 (omega arith)))
 
-module _ (old : WorldView) {profile : Profile} (spaces : List (Option SpaceView)) (ports : PortsView Kept) (ledger : LedgerView) (sets : SetsView) (requests : RequestTablesView)
-    (view : tables profile spaces ports ledger sets requests ≡ old) (p : ℕ) (v v2 : PortView Kept) (new : PortsView Kept) (there : map.get old.ports.ports p ≡ Some v)
-    (lost doomed : List ℕ) (is : map.get ports.ports p ≡ Some v → new ≡ with_waiting ports p v2 lost doomed) where
-  pub here : map.get ports.ports p ≡ Some v
-  here = ap (λ (w : WorldView). map.get w.ports.ports p) view ∙ there
-
-  same : SamePorts ports new
-  same = subst (SamePorts ports) (sym (is here)) record { live = same_put ports p v v2 here; made = refl }
-
-  pub waiting_given : AreGiven spaces ports → AreGiven spaces new
-  waiting_given = same_given spaces ports new same
-
-  pub waiting_written : tables profile spaces new ledger sets requests ≡ record old { ports = with_waiting old.ports p v2 lost doomed }
-  waiting_written = ports_written old spaces ports ledger sets requests view new same ∙ ap (λ (x : PortsView Kept). record old { ports = x }) (is here ∙ ap (λ (w : WorldView). with_waiting w.ports p v2 lost doomed) view)
-
-  -- ... whichever they are
-  pub waiting_somewhere : tables profile spaces new ledger sets requests ≡ record old { ports = with_waiting old.ports p v2 new.lost new.doomed }
-  waiting_somewhere = waiting_written ∙ (λ i. record old { ports = with_waiting old.ports p v2 (sym (ap (λ (x : PortsView Kept). x.lost) (is here)) i) (sym (ap (λ (x : PortsView Kept). x.doomed) (is here)) i) })
+module _ (old new : WorldView) (p : ℕ) (v : PortView Kept) (lost doomed : List ℕ) (is : new ≡ record old { ports = with_waiting old.ports p v lost doomed }) where
+  -- ... whichever wait there
+  pub waits_somewhere : new ≡ record old { ports = with_waiting old.ports p v new.ports.lost new.ports.doomed }
+  waits_somewhere = is ∙ (λ i. record old { ports = with_waiting old.ports p v (sym (ap (λ (w : WorldView). w.ports.lost) is) i) (sym (ap (λ (w : WorldView). w.ports.doomed) is) i) })
 
   -- it has no messages, where it is told that the given port has none
-  pub none_waiting : (b : Bool) → (map.get ports.ports p ≡ Some v → IsTrue b ↔ (0 < length v2.queue)) → b ≡ false → NoneQueued new p
+  pub none_waiting : (b : Bool) → (IsTrue b ↔ (0 < length v.queue)) → b ≡ false → NoneQueued new.ports p
   none_waiting b told not q found =
-      let given : v2 ≡ q = same_some v2 q (sym (put_here ports.ports p v2) ∙ ap (λ (x : PortsView Kept). map.get x.ports p) (sym (is here)) ∙ found) in
-      ap (λ (x : PortView Kept). length x.queue) (sym given) ∙ none_told (length v2.queue) b (told here) not
-
--- The front message of a port was destroyed.
-module _ (old : WorldView) {profile : Profile} (spaces : List (Option SpaceView)) (ports : PortsView Kept) (ledger : LedgerView) (sets : SetsView) (requests : RequestTablesView)
-    (view : tables profile spaces ports ledger sets requests ≡ old) (p : ℕ) (new : PortsView Kept) where
-  now : ports ≡ old.ports
-  now = ap (λ (w : WorldView). w.ports) view
-
-  first_same : DestroysFirst ports p new → SamePorts ports new
-  first_same d = subst (SamePorts ports) (sym d.rest) record { live = same_put ports p d.view (record d.view { queue = d.behind }) d.there; made = refl }
-
-  pub next_given : (b : Bool) → MatchBool b (DestroysFirst ports p new) (NoneQueued ports p × (new ≡ ports)) → AreGiven spaces ports → AreGiven spaces new
-  next_given true d g = same_given spaces ports new (first_same d) g
-  next_given false d g = subst (AreGiven spaces) (sym d.1) g
-
-  pub next_destroyed : (b : Bool) → MatchBool b (DestroysFirst ports p new) (NoneQueued ports p × (new ≡ ports)) →
-      MatchBool b (DestroysNext old p (tables profile spaces new ledger sets requests)) (NoneQueued old.ports p × (tables profile spaces new ledger sets requests ≡ old))
-  next_destroyed true d = record { first = subst (λ (x : PortsView Kept). DestroysFirst x p new) now d; rest = ports_written old spaces ports ledger sets requests view new (first_same d) }
-  next_destroyed false d = (subst (λ (x : PortsView Kept). NoneQueued x p) now d.0, ap (λ (x : PortsView Kept). tables profile spaces x ledger sets requests) d.1 ∙ view)
+      let given : v ≡ q = same_some v q (sym (put_here old.ports.ports p v) ∙ ap (λ (w : WorldView). map.get w.ports.ports p) (sym is) ∙ found) in
+      ap (λ (x : PortView Kept). length x.queue) (sym given) ∙ none_told (length v.queue) b told not
 
 -- ---- A port that nobody holds, and whose request names a port that a task has, is to be sent away: that is a turn.
 

@@ -1,6 +1,6 @@
 -- The requests whose names went are paid for one by one; then the chain of turns begins.
 use Rattle.std.proofs.Common.{◌≡◌, ℕ, ◌+◌, List, [], ◌∷◌, ◌++◌, refl, sym, ap, subst, ◌∙◌, arith, true, false, Bool, length, suc, zero, ◌<◌, Some, ◌≤◌, None, ◌⊎◌, inl, inr, ◌-◌, get_or}
-use Rattle.std.specs.Prelude.{map, filter, All, if◌then◌else◌, ◌&&◌, drop, is_some, ◌≢◌, ◌↔◌, Contains, slice_get}
+use Rattle.std.specs.Prelude.{map, filter, All, if◌then◌else◌, ◌&&◌, drop, is_some, ◌≢◌, Contains, slice_get}
 use Rattle.std.proofs.lemmas.List.{append-nil, append_assoc, length-append, drop-append-le}
 use Rattle.std.proofs.lemmas.List.Elements.{All-head, All-tail, All-append}
 use Rattle.std.proofs.lemmas.Bool.{eq-eqb}
@@ -28,7 +28,7 @@ use Rattle.mach_model.proofs.Settling.{is_at, own_test}
 use Rattle.mach_model.proofs.TurnsSettle.{tokens_joined_settle as tokens_joined}
 use Rattle.rights.specs.Counts.{one_shifted, no_rights}
 use Rattle.rights.specs.Ledger.{counts_of, shifted}
-use Rattle.port.specs.Ports.{PortView, PortsView}
+use Rattle.port.specs.Ports.{PortView}
 use Rattle.port.specs.declared.Holder.TheVariants as holder
 use Rattle.port.specs.Holding.{IsHeldBy, NoneHeldBy}
 use Rattle.request_table.specs.declared.Request.{Request as NameRequest}
@@ -715,9 +715,6 @@ pays_all w v on none now tables old mid owed shown shows =
       s_pays.shows.left.destroyed,
       emptied now tables old mid owed shown w v shows left_pays paid_pays s_pays none,
     )
-
-pub tells_lost : (w : WorldView) (ports : PortsView Kept) → ports ≡ w.ports → ((port : ℕ) → Contains ports.lost port ↔ IsHeldBy ports port holder.Nobody) → TellsLost w
-tells_lost w ports is all = subst (λ (p : PortsView Kept). (port : ℕ) → Contains p.lost port ↔ IsHeldBy p port holder.Nobody) is all
 
 pub pays_last : (w v v1 : WorldView) → PaysOn w v → (v.requests.names.went ≡ []) × (v1 ≡ v) → Starts w v1
 pays_last w v v1 on none = pays_all w v1 (subst (PaysOn w) (sym none.1) on) (ap (λ (x : WorldView). x.requests.names.went) none.1 ∙ none.0)

@@ -11,7 +11,7 @@ use Rattle.mach_model.specs.Work.{number}
 use Rattle.port.specs.declared.Holder.{Holder}
 use Rattle.port.specs.declared.Holder.TheVariants as holder
 use Rattle.port.specs.Holding.{held, IsHeldBy}
-use Rattle.port.specs.Ports.{PortView, with_port, DestroysFirst}
+use Rattle.port.specs.Ports.{PortView, with_port}
 use Rattle.rights.specs.declared.RightKind.TheVariants.{Receive}
 use Rattle.rights.specs.Ledger.{LedgerView, counts_of, made}
 use Rattle.copyin_base.specs.declared.Carried.{Carried}
@@ -69,11 +69,6 @@ pub record LosesAmong (ports : ℕ → Type 0) (old new : WorldView) : Type 0 wh
   pub lost : (p : ℕ) → ports p → ¬ (IsQueued new p)
 
 -- ---- a message is destroyed
-
--- The first message of the port's queue is now the last of the destroyed ones.
-pub record DestroysNext (old : WorldView) (port : ℕ) (new : WorldView) : Type 0 where
-  pub first : DestroysFirst old.ports port new.ports
-  pub rest : new ≡ record old { ports = new.ports }
 
 -- the message that was destroyed last
 abbrev pub last_destroyed : WorldView → Option Kept

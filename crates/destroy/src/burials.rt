@@ -45,7 +45,7 @@ fn bury_asked(world: &mut World) -> u64
     ensures doomed { TellsDoomed world.new }
 {
     let mut turns: u64 = 0;
-    while let Some(port) = world.ports.first_doomed() {
+    while let Some(port) = world.first_doomed() {
         turns = turns.saturating_add(bury(world, port));
     }
     turns
@@ -60,7 +60,7 @@ fn bury_unasked(world: &mut World)
     ensures rooms { KeepsRooms world.old world.new }
     ensures doomed { TellsDoomed world.new }
 {
-    while let Some(port) = world.ports.last_doomed() {
+    while let Some(port) = world.last_doomed() {
         bury_silently(world, port);
     }
 }

@@ -1,6 +1,5 @@
 //! The end of a step.
 ghost use Rattle.std.specs.Prelude.{◌↔◌, IsTrue};
-ghost use Rattle.port.specs.Idle.{IsIdle as AreIdle};
 ghost use Rattle.copyin_base.specs.Worlds.{IsIdle};
 ghost use Rattle.destroy.specs.Stages.{IsMidway, KeepsRooms, SettlesIn, TellsDoomed, TellsLost};
 
@@ -37,16 +36,7 @@ pub fn is_idle(world: &World) -> bool
     ensures lost { TellsLost world.now }
     ensures doomed { TellsDoomed world.now }
 {
-    are_ports_idle(world) & world.first_went().is_none()
-}
-
-// Whether no port and no destroyed message waits for the end of the step.
-fn are_ports_idle(world: &World) -> bool
-    ensures idle { IsTrue result ↔ AreIdle world.now.ports }
-    ensures lost { TellsLost world.now }
-    ensures doomed { TellsDoomed world.now }
-{
-    world.ports.is_idle()
+    world.are_ports_idle() & world.first_went().is_none()
 }
 
 // Ends a step, part by part.

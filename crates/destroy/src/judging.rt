@@ -1,5 +1,5 @@
 //! Sends away the ports that lost their receive rights, or dooms them with all that is queued.
-ghost use Rattle.std.specs.Prelude.{◌↔◌, ◌≡◌, ◌<◌, ℕ, [], IsTrue, false, IfSome, IfNone, MatchBool, Some, length, slice_get};
+ghost use Rattle.std.specs.Prelude.{◌↔◌, ◌≡◌, ◌<◌, ℕ, [], IsTrue, false, IfSome, IfNone, Some, length, slice_get};
 ghost use Rattle.std.specs.Option.{option_and_then};
 ghost use Rattle.mach_types.specs.Numbers.{most_rights};
 ghost use Rattle.port.specs.Ports.{NoneQueued, IsLive};
@@ -7,7 +7,7 @@ ghost use Rattle.rights.specs.Ledger.{IsEntered, counts_of};
 ghost use Rattle.copyin_base.specs.Kept.{Kept, receive_of};
 ghost use Rattle.port.specs.Holding.{IsHeldBy, NoneHeldBy};
 ghost use Rattle.port.specs.declared.Holder.TheVariants as Holder;
-ghost use Rattle.destroy.specs.Judging.{DoomsPort, IsWithTask, GoesTo, LosesPort, IsQueued, CarriesAmong, LosesAmong, DestroysNext, last_destroyed, Empties, remaining, CanSend, ResetsPort, HoldsPort, brought};
+ghost use Rattle.destroy.specs.Judging.{DoomsPort, IsWithTask, GoesTo, LosesPort, IsQueued, CarriesAmong, LosesAmong, last_destroyed, Empties, remaining, CanSend, ResetsPort, HoldsPort, brought};
 ghost use Rattle.destroy.specs.Stages.{IsStarted, IsJudged, IsAt, Continues};
 
 use copyin_base::{Mark, Notice, Slot, World};
@@ -35,7 +35,7 @@ fn first_lost(world: &World) -> Option<PortId>
     ensures some { IfSome result (λ port. IsHeldBy world.now.ports port Holder.Nobody) }
     ensures none { IfNone result (NoneHeldBy world.now.ports Holder.Nobody × (world.now.ports.lost ≡ [])) }
 {
-    world.ports.first_lost()
+    world.first_lost()
 }
 
 // The port that lost its receive right first is sent away, or is doomed and its messages are destroyed.
@@ -76,7 +76,7 @@ fn saved_to(world: &World, port: PortId) -> Option<PortId>
 fn is_with_task(world: &World, port: PortId) -> bool
     ensures { IsTrue result ↔ IsWithTask world.now port }
 {
-    match world.ports.attributes(port) {
+    match world.find_attributes(port) {
         Some(attributes) => matches!(attributes.holder, Holder::Task(_)),
         None => false,
     }
@@ -118,7 +118,7 @@ fn hold_in(world: &mut World, port: PortId, queue: PortId)
     requires { IsHeldBy world.old.ports port Holder.Nobody }
     ensures { HoldsPort world.old port queue world.new }
 {
-    world.ports.hold(port, Holder::QueueOf(queue));
+    world.hold_in(port, queue);
 }
 
 // The messages of a doomed port are destroyed, where it has some: most have none, and are not looked up
@@ -145,18 +145,11 @@ fn destroy_queue(world: &mut World, port: PortId) -> u64
     ensures spaces { world.new.spaces ≡ world.old.spaces }
 {
     let mut turns: u64 = 0;
-    while destroy_next(world, port) {
+    while world.destroy_first(port) {
         turns = turns.saturating_add(1);
         lose_carried(world);
     }
     turns
-}
-
-// Destroys the first message of the port's queue; answers whether there was one.
-fn destroy_next(world: &mut World, port: PortId) -> bool
-    ensures { MatchBool result (DestroysNext world.old port world.new) (NoneQueued world.old.ports port × (world.new ≡ world.old)) }
-{
-    world.ports.destroy_first(port)
 }
 
 // The ports whose receive rights the message carries that was destroyed last have lost them. No reply is
@@ -174,7 +167,7 @@ fn lose_carried(world: &mut World)
 fn count_carried(world: &World) -> usize
     ensures { (m : Kept) → last_destroyed world.now ≡ Some m → result ≡ length m.rights }
 {
-    match world.ports.last_destroyed() {
+    match world.last_destroyed() {
         Some(queued) => queued.count_rights(),
         None => 0,
     }
@@ -184,7 +177,7 @@ fn count_carried(world: &World) -> usize
 fn carried_reply(world: &World) -> Option<PortId>
     ensures { (m : Kept) → last_destroyed world.now ≡ Some m → result ≡ option_and_then (λ c. receive_of c) m.reply }
 {
-    let Slot::Sent(message) = &world.ports.last_destroyed()?.slot else {
+    let Slot::Sent(message) = &world.last_destroyed()?.slot else {
         return None;
     };
     let reply = message.reply()?;
@@ -198,7 +191,7 @@ fn carried_reply(world: &World) -> Option<PortId>
 fn carried_at(world: &World, place: usize) -> Option<PortId>
     ensures { (m : Kept) → last_destroyed world.now ≡ Some m → result ≡ option_and_then (λ c. receive_of c) (slice_get m.rights place) }
 {
-    world.ports.last_destroyed()?.receive_at(place)
+    world.last_destroyed()?.receive_at(place)
 }
 
 // The port loses its receive right, where a queue has it.
@@ -216,7 +209,7 @@ fn lose_queued(world: &mut World, port: PortId)
     ensures { LosesPort world.old port world.new }
 {
     if is_queued(world, port) {
-        world.ports.lose(port);
+        world.lose_carried(port);
     }
 }
 
@@ -224,7 +217,7 @@ fn lose_queued(world: &mut World, port: PortId)
 fn is_queued(world: &World, port: PortId) -> bool
     ensures { IsTrue result ↔ IsQueued world.now port }
 {
-    match world.ports.attributes(port) {
+    match world.find_attributes(port) {
         Some(attributes) => matches!(attributes.holder, Holder::QueueOf(_)),
         None => false,
     }
@@ -237,7 +230,7 @@ fn doom(world: &mut World, port: PortId) -> bool
     ensures doomed { DoomsPort world.old port world.new }
     ensures none { result ≡ false → NoneQueued world.new.ports port }
 {
-    world.ports.doom_first()
+    world.doom_first()
 }
 
 // The receive right that a step's own part took comes again; one that a message carried is there still.

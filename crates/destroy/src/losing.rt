@@ -1,7 +1,7 @@
 //! Loses the rights of messages that were destroyed.
-ghost use Rattle.std.specs.Prelude.{◌≡◌, [], slice_get, IfSome, IfNone};
+ghost use Rattle.std.specs.Prelude.{◌≡◌, []};
 ghost use Rattle.std.specs.Option.{option_to_list};
-ghost use Rattle.destroy.specs.Losing.{CanLose, CanLoseOf, IsLosing, LosesOf, LosesRight, LosesTo, carried_in, without_first};
+ghost use Rattle.destroy.specs.Losing.{CanLose, CanLoseOf, IsLosing, LosesOf, LosesRight, LosesTo, carried_in};
 ghost use Rattle.destroy.specs.Stages.{AreLost, Continues, IsAt, IsJudged};
 ghost use Rattle.mach_types.specs.Numbers.{kind_sent};
 
@@ -17,19 +17,10 @@ pub(crate) fn lose_messages(world: &mut World) -> u64
     ensures spaces { world.new.spaces ≡ world.old.spaces }
 {
     let mut turns: u64 = 0;
-    while let Some(queued) = take_destroyed(world) {
+    while let Some(queued) = world.take_destroyed() {
         turns = turns.saturating_add(lose_rights(world, &queued));
     }
     turns
-}
-
-// Takes the message that was destroyed first of those whose rights aren't lost.
-fn take_destroyed(world: &mut World) -> Option<Queued>
-    ensures first { result ≡ slice_get world.old.ports.destroyed 0 }
-    ensures taken { IfSome result (λ m. world.new ≡ without_first world.old) }
-    ensures none { IfNone result (world.new ≡ world.old) }
-{
-    world.ports.take_destroyed()
 }
 
 // The rights that the message carries are lost, but for those for ports that don't live.

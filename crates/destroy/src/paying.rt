@@ -13,7 +13,7 @@ use port::Holder;
 pub(crate) fn lives(world: &World, port: PortId) -> bool
     ensures { IsTrue result ↔ LivesIn world.now port }
 {
-    match world.ports.attributes(port) {
+    match world.find_attributes(port) {
         Some(attributes) => !matches!(attributes.holder, Holder::Doomed),
         None => false,
     }

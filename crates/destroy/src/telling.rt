@@ -1,8 +1,8 @@
 //! Posts the notices of ports that lost their last send rights.
-ghost use Rattle.std.specs.Prelude.{◌≡◌, ◌↔◌, ◌<◌, slice_get, IsTrue, IfSome, IfNone};
+ghost use Rattle.std.specs.Prelude.{◌≡◌, ◌↔◌, ◌<◌, IsTrue};
 ghost use Rattle.rights.specs.Ledger.{counts_of};
 ghost use Rattle.destroy.specs.Stages.{AreLost, AreTold, IsAt, Continues};
-ghost use Rattle.destroy.specs.Telling.{CanTell, TellsOf, taken_out};
+ghost use Rattle.destroy.specs.Telling.{CanTell, TellsOf};
 
 use crate::paying::{lives, pay};
 use copyin_base::{Notice, World};
@@ -16,19 +16,10 @@ pub(crate) fn tell_senderless(world: &mut World) -> u64
     ensures spaces { world.new.spaces ≡ world.old.spaces }
 {
     let mut turns: u64 = 0;
-    while let Some(port) = take_noted(world) {
+    while let Some(port) = world.take_noted() {
         turns = turns.saturating_add(tell_no_senders(world, port));
     }
     turns
-}
-
-// Takes the port that was noted first of those noted.
-fn take_noted(world: &mut World) -> Option<PortId>
-    ensures first { result ≡ slice_get world.old.ports.noted 0 }
-    ensures taken { IfSome result (λ port. world.new ≡ taken_out world.old port) }
-    ensures none { IfNone result (world.new ≡ world.old) }
-{
-    world.ports.take_noted()
 }
 
 // Tells of a port that lives that it has no senders, where that was asked for and the notify port lives.

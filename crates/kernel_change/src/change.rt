@@ -215,7 +215,7 @@ impl Change {
     pub fn by_too_long(world: &World, port: PortId) -> Change
         ensures { result ≡ change_by_too_long world.now (Some port) }
     {
-        match world.ports.front(port) {
+        match world.front(port) {
             Some(queued) => by_destroying(port, queued),
             None => Change::Any,
         }
@@ -284,10 +284,10 @@ fn name_both(first: Option<Waited>, second: Option<Waited>) -> Touched
 fn name_last(world: &World) -> Touched
     ensures { result ≡ made_last world.now }
 {
-    if world.ports.is_exhausted() {
+    if world.are_ports_exhausted() {
         return Touched::All;
     }
-    let next = world.ports.next_id().number();
+    let next = world.next_port().number();
     name_both(
         Some(Waited::Port(PortId::new(next.saturating_sub(1)))),
         None,
@@ -305,7 +305,7 @@ fn named_port(world: &World, task: TaskId, name: Name) -> Option<PortId>
 pub fn set_of(world: &World, port: PortId) -> Option<SetId>
     ensures { result ≡ set_at world.now port }
 {
-    match world.ports.attributes(port) {
+    match world.find_attributes(port) {
         Some(attributes) => attributes.set,
         None => None,
     }
@@ -478,10 +478,10 @@ fn name_members(set: SetId, a: PortId, b: PortId, c: Option<PortId>) -> Touched
 fn by_disbanding(world: &World, alloc: Global, set: SetId) -> Change
     ensures { ByDisbanding world.now set result }
 {
-    if world.ports.first_member(set).is_none() {
+    if world.first_member(set).is_none() {
         return Change::Disbanded(set);
     }
-    match world.ports.members(set, alloc) {
+    match world.members(set, alloc) {
         Ok(members) => with_members(set, members.as_slice()),
         Err(_) => Change::Any,
     }
@@ -560,10 +560,7 @@ fn dies_alone(world: &World, port: PortId) -> bool
 fn is_unqueued(world: &World, port: PortId) -> bool
     ensures { IsTrue result ↔ NoneQueued world.now.ports port }
 {
-    match world.ports.queue(port) {
-        Some(queue) => queue.is_empty(),
-        None => true,
-    }
+    world.queued(port) == 0
 }
 
 /// Whether no request is on the port or on a name of it.

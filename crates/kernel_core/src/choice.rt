@@ -10,7 +10,6 @@ use copyin_base::World;
 use kernel_change::set_of;
 use mach_types::{Event, Name, PortId, SetId, TaskId, Waited};
 use port::Attributes;
-use port_set::ready_member;
 
 /// Where the call receives by a set, and the task has under this name a member of it that has a message,
 /// it is that member's turn now. Takes no memory. Linear in the ready members ahead of it.
@@ -38,7 +37,7 @@ fn receives_by(world: &World, event: &Event) -> Option<(TaskId, SetId)> {
 fn ready_under(world: &World, task: TaskId, set: SetId, name: Name) -> Option<PortId> {
     let port = world.lookup(task, name)?.receive_port()?;
     let its = set_of(world, port)?;
-    (its.number() == set.number() && world.ports.queued(port) > 0).then_some(port)
+    (its.number() == set.number() && world.queued(port) > 0).then_some(port)
 }
 
 /// Members that are ready go to the end of their set, one after another, until the first is this port, which
@@ -47,7 +46,7 @@ fn advance(world: &mut World, set: SetId, port: PortId)
     ensures { SameButTurns world.old world.new }
 {
     for _ in 0..u64::MAX {
-        match ready_member(&world.ports, set) {
+        match world.ready_member(set) {
             Some(first) if first.number() != port.number() => requeue(world, set, first),
             _ => return,
         }

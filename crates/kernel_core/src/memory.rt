@@ -219,7 +219,7 @@ fn may_stay(
     match waited {
         Waited::Port(port) => Ok(is_receivable(world, task, *port, room)),
         Waited::Set(set) => {
-            let members = world.ports.members(*set, alloc)?;
+            let members = world.members(*set, alloc)?;
             Ok(is_one_receivable(world, task, &members, room))
         }
     }
@@ -245,5 +245,5 @@ fn is_receivable(world: &World, task: TaskId, port: PortId, room: u32) -> bool
     requires stands { Stands world.now }
     ensures { MatchBool result (IsReceivable world.now task port room) (¬ (IsReceivable world.now task port room)) }
 {
-    world.ports.queued(port) > 0 && copyout::is_receivable(world, task, port, room)
+    world.queued(port) > 0 && copyout::is_receivable(world, task, port, room)
 }

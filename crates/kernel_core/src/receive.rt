@@ -23,7 +23,6 @@ use copyout::Refusal;
 use kernel_change::Change;
 use mach_types::{MsgReturn, Name, PortId, Reply, SetId, TaskId, Waited};
 use notifications::lose_message;
-use port_set::ready_member;
 use std::alloc::Global;
 
 /// Where a received message goes.
@@ -186,7 +185,7 @@ fn port_source(world: &World, port: PortId) -> Result<Source, MsgReturn>
     ensures ok { IfOk result (λ source. (source.waited ≡ AnyWaited.Port port) × IsAlone world.now port × MatchOption source.ready (NoneWaits world.now (AnyWaited.Port port)) (HasMessage world.now (AnyWaited.Port port))) }
     ensures err { IfErr result (λ code. (code ≡ msg.ReceiveInSet) × IsMember world.now port) }
 {
-    let Some(standing) = world.ports.standing(port) else {
+    let Some(standing) = world.standing(port) else {
         unreachable!()
     };
     if standing.is_member {
@@ -220,7 +219,7 @@ fn judge_port(world: &World, task: TaskId, port: PortId) -> Result<(), MsgReturn
     ensures ok { IfOk result (λ _. IsAllowed world.now (λ s. again_guards s task (AnyWaited.Port port))) }
     ensures err { IfErr result (λ code. IsRefused world.now (λ s. again_guards s task (AnyWaited.Port port)) (msg_number code)) }
 {
-    if world.ports.attributes(port).is_none() {
+    if !world.has_port(port) {
         return Err(MsgReturn::ReceivePortDied);
     }
     if !has_receive(world, task, port) || is_member(world, port) {
@@ -340,9 +339,9 @@ fn ready(world: &World, waited: &Waited) -> Option<PortId>
     ensures first { IsFirst world.now waited.now result }
 {
     match waited {
-        Waited::Port(port) if world.ports.queued(*port) > 0 => Some(*port),
+        Waited::Port(port) if world.queued(*port) > 0 => Some(*port),
         Waited::Port(_) => None,
-        Waited::Set(set) => ready_member(&world.ports, *set),
+        Waited::Set(set) => world.ready_member(*set),
     }
 }
 

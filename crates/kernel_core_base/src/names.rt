@@ -187,7 +187,7 @@ fn is_used_up(world: &World, right: NewRight) -> bool
     ensures room { result ≡ false → HasRoomFor world.now right }
 {
     match right {
-        NewRight::Port => world.total_rights() == MOST_RIGHTS || world.ports.is_exhausted(),
+        NewRight::Port => world.total_rights() == MOST_RIGHTS || world.are_ports_exhausted(),
         NewRight::Set => world.are_sets_exhausted(),
         NewRight::DeadName => false,
     }

@@ -41,7 +41,7 @@ fn status_of(world: &World, port: PortId) -> Status
         sequence: attributes.sequence,
         make_send: attributes.make_send,
         limit: attributes.limit,
-        queued: world.ports.queued(port) as u32,
+        queued: world.queued(port) as u32,
         send_once: counts.send_once + counts.destination,
         has_send: counts.send.min(1),
         port_destroyed: is_requested(world.find_port_destroyed(port)),

@@ -57,7 +57,7 @@ fn list_members(
 ) -> Result<Vec<Name>, AllocError>
     ensures { IfOk result (λ members. members.items ≡ members_in world.now set space.now.names) }
 {
-    let ports = world.ports.members(set, alloc)?;
+    let ports = world.members(set, alloc)?;
     let numbers = gather(world, alloc, space, set, &ports)?;
     names_of(&numbers, alloc)
 }
@@ -134,7 +134,7 @@ fn names_member(world: &World, space: &TaskNames<'_>, name: Name, set: SetId) ->
 fn set_of(world: &World, port: PortId) -> Option<SetId>
     ensures { result ≡ set_of_port world.now port }
 {
-    match world.ports.attributes(port) {
+    match world.find_attributes(port) {
         Some(attributes) => attributes.set,
         None => None,
     }

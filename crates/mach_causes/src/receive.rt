@@ -49,7 +49,7 @@ fn explain_changed(follower: &Follower, task: TaskId, waited: &Waited) -> Reason
 
 /// Returns the set in which the port is.
 fn set_of(follower: &Follower, port: PortId) -> Option<SetId> {
-    match follower.tables().ports.attributes(port) {
+    match follower.tables().find_attributes(port) {
         Some(attributes) => attributes.set,
         None => None,
     }

@@ -90,10 +90,10 @@ fn explain_later(
 
 /// Returns that the destination's queue is full.
 fn explain_full(follower: &Follower, port: PortId) -> Option<Reason> {
-    let ports = &follower.tables().ports;
-    match ports.attributes(port) {
+    let tables = follower.tables();
+    match tables.find_attributes(port) {
         Some(attributes) => {
-            let queued = u32::try_from(ports.queued(port)).ok()?;
+            let queued = u32::try_from(tables.queued(port)).ok()?;
             Some(Reason::Full(port, queued, attributes.limit))
         }
         None => None,
@@ -107,7 +107,7 @@ fn explain_loop(follower: &Follower, judged: &Judged, destination: PortId) -> Op
         return Some(Reason::OwnDestination(place, destination));
     }
     let mut at = destination;
-    for _ in 0..follower.tables().ports.len() {
+    for _ in 0..follower.tables().count_ports() {
         let carrier = carrier_of(follower, at)?;
         if let Some(place) = judged.carries(carrier) {
             return Some(Reason::Loop(place, carrier, destination));
@@ -119,7 +119,7 @@ fn explain_loop(follower: &Follower, judged: &Judged, destination: PortId) -> Op
 
 /// Returns the port in whose queue this port's receive right lies; `None` if it lies in none.
 fn carrier_of(follower: &Follower, port: PortId) -> Option<PortId> {
-    match follower.tables().ports.attributes(port) {
+    match follower.tables().find_attributes(port) {
         Some(attributes) => match &attributes.holder {
             Holder::QueueOf(queue) => Some(*queue),
             _ => None,

@@ -8,7 +8,6 @@ ghost use Rattle.mach_causes_base.specs.Tables.{HasNames, HasPort, IsDead, IsFul
 
 use crate::cause::{Reason, Wanted};
 use crate::needs::suffices;
-use circularity::closes_loop;
 use copyin_base::World;
 use mach_follow::{Place, Standing};
 use mach_types::limits::{MOST_NAMES, MOST_REFERENCES, MOST_RIGHTS, MOST_TASKS};
@@ -84,7 +83,7 @@ fn is_true_of_ports(world: &World, reason: &Reason) -> bool
         Reason::Loop(place, carried, destination) => {
             names_receive(world, place, *carried)
                 && *carried != *destination
-                && closes_loop(&world.ports, *destination, &[*carried])
+                && world.closes_loop(*destination, &[*carried])
         }
         _ => false,
     }
@@ -175,7 +174,7 @@ fn names_receive(world: &World, place: &Place, port: PortId) -> bool
 fn is_in(world: &World, port: PortId, set: Option<SetId>) -> bool
     ensures { IsTrue result → IsIn world.now port set }
 {
-    match world.ports.attributes(port) {
+    match world.find_attributes(port) {
         Some(attributes) => attributes.set == set,
         None => false,
     }
@@ -185,11 +184,9 @@ fn is_in(world: &World, port: PortId, set: Option<SetId>) -> bool
 fn is_full(world: &World, port: PortId, queued: u32, limit: u32) -> bool
     ensures { IsTrue result → IsFull world.now port queued limit }
 {
-    match world.ports.attributes(port) {
+    match world.find_attributes(port) {
         Some(attributes) => {
-            world.ports.queued(port) == queued as usize
-                && attributes.limit == limit
-                && limit <= queued
+            world.queued(port) == queued as usize && attributes.limit == limit && limit <= queued
         }
         None => false,
     }
@@ -207,7 +204,7 @@ fn is_there(world: &World, waited: &Waited) -> bool
     ensures { MatchBool result (Unit {0}) (IsNotThere world.now waited.now) }
 {
     match waited {
-        Waited::Port(port) => world.ports.contains(*port),
+        Waited::Port(port) => world.has_port(*port),
         Waited::Set(set) => world.set_record(*set).is_some(),
     }
 }
@@ -218,8 +215,8 @@ pub fn made_once(world: &World, waited: &Waited) -> Option<bool>
     ensures { IfSome result (λ once. WasMadeOnce world.now waited.now once) }
 {
     match waited {
-        Waited::Port(_) if world.ports.is_exhausted() => None,
-        Waited::Port(port) => Some(port.number() < world.ports.next_id().number()),
+        Waited::Port(_) if world.are_ports_exhausted() => None,
+        Waited::Port(port) => Some(port.number() < world.next_port().number()),
         Waited::Set(_) if world.are_sets_exhausted() => None,
         Waited::Set(set) => Some(set.number() < world.next_set().number()),
     }
@@ -239,7 +236,7 @@ fn is_out_of_reach(world: &World, task: TaskId, waited: &Waited) -> bool
 fn is_kept_from(world: &World, task: TaskId, port: PortId) -> bool
     ensures { IsTrue result → IsKeptFrom world.now task port }
 {
-    match world.ports.attributes(port) {
+    match world.find_attributes(port) {
         Some(attributes) => {
             let is_own = attributes.holder == Holder::Task(task);
             !is_own

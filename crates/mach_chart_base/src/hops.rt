@@ -49,7 +49,7 @@ pub struct Place {
 /// if the port doesn't live. Linear in the ports on the way.
 pub(crate) fn root_holder(world: &World, port: PortId) -> Option<TaskId> {
     let mut at = port;
-    for _ in 0..world.ports.len() {
+    for _ in 0..world.count_ports() {
         let Some(queue) = carrier_of(world, at) else {
             break;
         };
@@ -60,7 +60,7 @@ pub(crate) fn root_holder(world: &World, port: PortId) -> Option<TaskId> {
 
 /// Returns the port in whose queue this port's receive right lies; `None` if it lies in none.
 fn carrier_of(world: &World, port: PortId) -> Option<PortId> {
-    match world.ports.attributes(port) {
+    match world.find_attributes(port) {
         Some(attributes) => match &attributes.holder {
             Holder::QueueOf(queue) => Some(*queue),
             _ => None,
@@ -71,7 +71,7 @@ fn carrier_of(world: &World, port: PortId) -> Option<PortId> {
 
 /// Returns the task that holds a port's receive right; `None` if none does.
 fn holding_task(world: &World, port: PortId) -> Option<TaskId> {
-    match world.ports.attributes(port) {
+    match world.find_attributes(port) {
         Some(attributes) => match &attributes.holder {
             Holder::Task(task) => Some(*task),
             _ => None,

@@ -30,7 +30,7 @@ impl Chart {
         };
         let mut ports = Vec::new(told.alloc);
         ports.push(port)?;
-        for place in 0..told.follower.tables().ports.len() {
+        for place in 0..told.follower.tables().count_ports() {
             let Some(port) = ports.as_slice().get(place).copied() else {
                 break;
             };
@@ -108,7 +108,7 @@ impl Chart {
 
 /// Adds the ports whose receive rights the messages of a port carry.
 fn add_carried(told: &Told<'_>, port: PortId, ports: &mut Vec<PortId>) -> Result<(), AllocError> {
-    let Some(queue) = told.follower.tables().ports.queue(port) else {
+    let Some(queue) = told.follower.tables().queue(port) else {
         return Ok(());
     };
     for queued in queue.iter() {

@@ -320,8 +320,8 @@ fn keep(ports: &mut BTreeMap<u64, Waiting>, port: u64, waiting: Waiting) -> Resu
 fn ports_made(world: &World) -> u64
     ensures { HasIdentities world.now → result ≡ world.now.ports.made }
 {
-    if world.ports.is_exhausted() {
+    if world.are_ports_exhausted() {
         return u64::MAX;
     }
-    world.ports.next_id().number()
+    world.next_port().number()
 }

@@ -32,7 +32,7 @@ impl Effects {
     ) -> Result<Option<Waiting>, AllocError>
         ensures { IfOk result (λ after. Settles turn.now.number world.now port (option_map entries_in before) (option_map entries_in after)) }
     {
-        if !world.ports.contains(PortId::new(port)) {
+        if !world.has_port(PortId::new(port)) {
             self.lose(port, before)?;
             return Ok(None);
         }
@@ -70,7 +70,7 @@ impl Effects {
     ) -> Result<(), AllocError>
         ensures { OnOk result (Appends turn.now.number world.now port (entries_in waiting.old) (entries_in waiting.new)) }
     {
-        let queued = world.ports.queued(PortId::new(port));
+        let queued = world.queued(PortId::new(port));
         let mut titles = Vec::new(alloc);
         self.newest(
             world,
@@ -95,7 +95,7 @@ impl Effects {
         count: usize,
         titles: &mut Vec<Title>,
     ) -> Result<(), AllocError> {
-        let Some(queue) = world.ports.queue(port) else {
+        let Some(queue) = world.queue(port) else {
             return Ok(());
         };
         for queued in queue.iter().rev().take(count) {

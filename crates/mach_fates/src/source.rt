@@ -7,7 +7,6 @@ use copyin_base::World;
 use kernel_lock::Entry;
 use mach_types::{Event, Name, PortId, Reply, TaskId, Waited};
 use name_space::Entry as Standing;
-use port_set::ready_member;
 use type_descriptor::read_word;
 
 /// Returns the port of the message that the entry destroys as too long, by the tables before its step; `None` if the entry
@@ -31,7 +30,7 @@ fn source_of(world: &World, standing: Option<Standing>) -> Option<PortId>
     ensures { result ≡ source_named world.now standing }
 {
     match standing? {
-        Standing::Set(set) => ready_member(&world.ports, set),
+        Standing::Set(set) => world.ready_member(set),
         standing => standing.port(),
     }
 }
@@ -42,7 +41,7 @@ fn source_of_waited(world: &World, waited: Waited) -> Option<PortId>
 {
     match waited {
         Waited::Port(port) => Some(port),
-        Waited::Set(set) => ready_member(&world.ports, set),
+        Waited::Set(set) => world.ready_member(set),
     }
 }
 

@@ -55,7 +55,7 @@ impl Queue {
     pub(crate) fn read(&mut self, state: &State<'_>, identity: u64) -> Result<(), AllocError> {
         self.messages.clear();
         self.rights.clear();
-        let Some(queue) = state.follower.tables().ports.queue(port_of(identity)) else {
+        let Some(queue) = state.follower.tables().queue(port_of(identity)) else {
             return Ok(());
         };
         let Some(origins) = state.fates.origins(port_of(identity)) else {
@@ -145,7 +145,7 @@ impl Queue {
         let Mark::Port(port) = right.mark else {
             return Ok(());
         };
-        if !state.follower.tables().ports.contains(port) {
+        if !state.follower.tables().has_port(port) {
             return Ok(());
         }
         let middle = stand.left.saturating_add(stand.width / 2);

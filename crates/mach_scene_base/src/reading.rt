@@ -44,7 +44,7 @@ fn row_named(state: &State<'_>, task: TaskId, name: Name) -> Option<Row> {
 /// Returns the identity of a port if it lives.
 fn live(state: &State<'_>, port: Option<PortId>) -> Option<u64> {
     let port = port?;
-    if state.follower.tables().ports.contains(port) {
+    if state.follower.tables().has_port(port) {
         return Some(port.number());
     }
     None
@@ -100,7 +100,7 @@ pub(crate) fn holder_of(state: &State<'_>, identity: u64) -> usize {
 
 /// Returns the task that holds the port's receive right; `None` if none does.
 fn holding_task(state: &State<'_>, port: PortId) -> Option<TaskId> {
-    match state.follower.tables().ports.attributes(port) {
+    match state.follower.tables().find_attributes(port) {
         Some(attributes) => match &attributes.holder {
             Holder::Task(task) => Some(*task),
             _ => None,

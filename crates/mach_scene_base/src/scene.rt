@@ -289,11 +289,11 @@ impl Scene {
 
     /// Notes the ports and their queues.
     fn note_ports(&mut self, state: &State<'_>) -> Result<(), AllocError> {
-        let ports = &state.follower.tables().ports;
-        let end = if ports.is_exhausted() {
+        let tables = state.follower.tables();
+        let end = if tables.are_ports_exhausted() {
             u64::MAX
         } else {
-            ports.next_id().number()
+            tables.next_port().number()
         };
         if self.ports.is_empty() {
             self.first_port = self.first_of(state, end);

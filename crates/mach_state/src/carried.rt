@@ -31,7 +31,7 @@ impl Carriers {
         fates: &Fates,
         port: PortId,
     ) -> Result<(), AllocError> {
-        let Some(queue) = world.ports.queue(port) else {
+        let Some(queue) = world.queue(port) else {
             return Ok(());
         };
         let Some(origins) = fates.origins(port) else {

@@ -112,7 +112,7 @@ impl<'a> State<'a> {
     fn write_set(&self, set: SetId, out: &mut Text) -> Result<(), AllocError> {
         self.labels.write_set(set, out);
         out.words(" = ");
-        let members = self.follower.tables().ports.members(set, self.alloc)?;
+        let members = self.follower.tables().members(set, self.alloc)?;
         for (place, port) in members.as_slice().iter().enumerate() {
             if place != 0 {
                 out.words(", ");
@@ -127,7 +127,7 @@ impl<'a> State<'a> {
 
     /// Writes a notify port, which may be dead.
     pub(crate) fn write_notify(&self, port: PortId, out: &mut Text) {
-        if self.follower.tables().ports.contains(port) {
+        if self.follower.tables().has_port(port) {
             self.labels.write_port(port, out);
         } else {
             out.words("dead");

@@ -46,11 +46,11 @@ impl<'a> State<'a> {
 
     /// Returns how many ports were ever made.
     fn ports_made(&self) -> u64 {
-        let ports = &self.follower.tables().ports;
-        if ports.is_exhausted() {
+        let tables = self.follower.tables();
+        if tables.are_ports_exhausted() {
             return u64::MAX;
         }
-        ports.next_id().number()
+        tables.next_port().number()
     }
 
     /// Writes a port, and spaces up to a column.

@@ -12,7 +12,7 @@ const TITLES: usize = 12;
 impl<'a> State<'a> {
     /// Writes the messages of a port's queue, each in a line. Linear in them and in their rights.
     pub(crate) fn write_queue(&self, port: PortId, out: &mut Text) {
-        let Some(queue) = self.follower.tables().ports.queue(port) else {
+        let Some(queue) = self.follower.tables().queue(port) else {
             return;
         };
         let Some(origins) = self.fates.origins(port) else {

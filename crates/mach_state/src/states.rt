@@ -60,12 +60,12 @@ pub fn name_state(world: &World, task: TaskId, name: Name) -> Option<NameState>
 pub fn port_state(world: &World, port: PortId) -> Option<PortState>
     ensures { (s : State) → Shows world.now s → IsPortSaid s port result }
 {
-    let attributes = world.ports.attributes(port)?;
+    let attributes = world.find_attributes(port)?;
     let counts = world.counts(port)?;
     Some(PortState {
         holder: attributes.holder,
         set: attributes.set,
-        queued: world.ports.queued(port),
+        queued: world.queued(port),
         limit: attributes.limit,
         make_send: attributes.make_send,
         sequence: attributes.sequence,

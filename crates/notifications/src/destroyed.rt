@@ -26,7 +26,7 @@ fn lose_for(world: &mut World, given: Disposition, port: PortId)
     requires { CanLoseMark world.old (kind_sent given) (mark.Port port) }
     ensures { LosesMark world.old (kind_sent given) (mark.Port port) world.new }
 {
-    if world.ports.contains(port) {
+    if world.has_port(port) {
         lose_kind(world, given, port);
     }
 }

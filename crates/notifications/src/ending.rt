@@ -80,7 +80,7 @@ fn lose_other(world: &mut World, kept: Entry)
     ensures { LosesEntry world.old (reading (live_in world.old.ports) kept) world.new }
 {
     match kept.right_port() {
-        Some(port) if !world.ports.contains(port) => {}
+        Some(port) if !world.has_port(port) => {}
         _ => lose_entry(world, kept),
     }
 }

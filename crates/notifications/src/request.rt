@@ -371,7 +371,7 @@ fn comes_out(world: &World, previous: Option<PortId>) -> bool
     ensures { MatchBool result (ComesOut world.now previous) (¬ (ComesOut world.now previous)) }
 {
     match previous {
-        Some(port) => world.ports.contains(port),
+        Some(port) => world.has_port(port),
         None => false,
     }
 }

@@ -3,4 +3,4 @@ use Rattle.copyin.specs.Loops.{MakesLoop}
 use Rattle.copyin.proofs.loops.any_leads_on.Given as goal
 
 abbrev pub invariant-loop-carried : goal.invariant-loop-carried
-invariant-loop-carried l = ¬ (MakesLoop l.ports l.port (take l.carried-index l.rights))
+invariant-loop-carried l = ¬ (MakesLoop l.world.ports l.port (take l.carried-index l.rights))

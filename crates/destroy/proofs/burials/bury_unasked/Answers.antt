@@ -1,21 +1,12 @@
-use Rattle.std.proofs.Common.{◌≡◌, subst, ℕ, arith}
-use Rattle.std.specs.Prelude.{◌↔◌, Contains}
-use Rattle.port.specs.declared.Holder.TheVariants as holder
-use Rattle.port.specs.Holding.{IsHeldBy, NoneHeldBy}
-use Rattle.copyin_base.specs.Worlds.{WorldView}
-use Rattle.copyin_base.proofs.Written.{tables}
-use Rattle.destroy.specs.Stages.{TellsDoomed}
+use Rattle.std.proofs.Common.{arith}
 use Rattle.destroy.proofs.BuryNames.{continues_more, rooms_more, still_at, all_buried}
 use Rattle.destroy.proofs.burials.bury_unasked.Goals as goal
 
 pub bury_silently-requires-clause-next : goal.bury_silently-requires-clause-next
-bury_silently-requires-clause-next c =
-    let i = c.world.inside in
-    let view : tables i.profile i.spaces.items i.ports i.ledger i.sets i.requests ≡ c.loop-port.world = c.world.view_is in
-    record {
-      at = still_at c.args.world.now 0 c.loop-port.world c.requires.at c.loop-port.invariant.0;
-      doomed = subst (λ (w : WorldView). IsHeldBy w.ports c.in-Some.port holder.Doomed) view c.in-Some.ensures.some;
-    }
+bury_silently-requires-clause-next c = record {
+  at = still_at c.args.world.now 0 c.loop-port.world c.requires.at c.loop-port.invariant.0;
+  doomed = c.in-Some.ensures.some;
+}
 
 pub loop-port-preserved : goal.loop-port-preserved
 loop-port-preserved c = (
@@ -25,15 +16,10 @@ loop-port-preserved c = (
 )
 
 pub returns-clause-continues : goal.returns-clause-continues
-returns-clause-continues c =
-    let i = c.world.inside in
-    let view : tables i.profile i.spaces.items i.ports i.ledger i.sets i.requests ≡ c.loop-port.world = c.world.view_is in
-    all_buried c.args.world.now 0 c.loop-port.world c.loop-port.invariant.0
-    (subst (λ (w : WorldView). NoneHeldBy w.ports holder.Doomed) view c.in_default.ensures.none)
-    (subst (λ (w : WorldView). (p : ℕ) → Contains w.ports.doomed p ↔ IsHeldBy w.ports p holder.Doomed) view c.in_default.ensures.all)
+returns-clause-continues c = all_buried c.args.world.now 0 c.loop-port.world c.loop-port.invariant.0 c.in_default.ensures.none c.in_default.ensures.all
 
 pub returns-clause-rooms : goal.returns-clause-rooms
 returns-clause-rooms c = c.loop-port.invariant.1
 
 pub returns-clause-doomed : goal.returns-clause-doomed
-returns-clause-doomed c = subst TellsDoomed c.world.view_is c.in_default.ensures.all
+returns-clause-doomed c = c.in_default.ensures.all

@@ -1,14 +1,14 @@
-use Rattle.std.proofs.Common.{◌≡◌, Some, sym, ap, ◌∙◌}
+use Rattle.std.proofs.Common.{◌≡◌, Some, sym, ◌∙◌}
 use Rattle.std.specs.Option.{option_map}
 use Rattle.port.specs.Ports.{PortView}
 use Rattle.copyin_base.specs.Kept.{Kept}
-use Rattle.copyin_base.specs.Worlds.{WorldView, port_at}
+use Rattle.copyin_base.specs.Worlds.{port_at}
 use Rattle.destroy.proofs.PayLives.{is_doomed, is_undoomed, says_no, says_yes}
 use Rattle.destroy.proofs.paying.lives.Goals.{in-Doomed, in_default}
 use Rattle.destroy.proofs.paying.lives.Goals as goal
 
 found : (c : goal.Joined-matches) → option_map (λ (v : PortView Kept). v.attributes) (port_at c.args.world.now c.args.port) ≡ Some c.in-Some.attributes
-found c = ap (λ (w : WorldView). option_map (λ (v : PortView Kept). v.attributes) (port_at w c.args.port)) (sym c.world.view_is) ∙ sym c.attributes.ensures ∙ c.in-Some.is
+found c = sym c.find_attributes.ensures ∙ c.in-Some.is
 
 pub returns-after-matches : goal.returns-after-matches
 returns-after-matches c = elim c.match-matches.branch [

@@ -1,7 +1,5 @@
 use Rattle.std.proofs.Common.{◌≡◌, ℕ, ◌∙◌, Option, Some, None, refl, sym, ap, inl}
-use Rattle.std.specs.FinMap as map
 use Rattle.std.specs.Option.{option_and_then}
-use Rattle.std.specs.Ordering.{nat_cmp}
 use Rattle.port.specs.Ports.{PortView}
 use Rattle.copyin_base.specs.Kept.{Kept}
 use Rattle.copyin_base.specs.Worlds.{WorldView, port_at}
@@ -18,12 +16,11 @@ there w p set is = go (port_at w p) refl
 
 pub returns-in-Ok : goal.returns-in-Ok
 returns-in-Ok c =
-    let same : c.world.inside.ports.ports ≡ c.args.world.now.ports.ports = ap (λ (w : WorldView). w.ports.ports) c.world.view_is in
     inl (
       c.in-Ok.members.items,
       record {
-        only = λ p some. (let m = c.in-Ok.ensures.only p some in ap (λ (ps : map.FinMap nat_cmp (PortView Kept)). option_and_then (λ (v : PortView Kept). v.attributes.set) (map.get ps p)) (sym same) ∙ ap (option_and_then (λ (v : PortView Kept). v.attributes.set)) m.there ∙ m.member);
-        all = λ p is. (let v = there c.args.world.now p c.args.set is in c.in-Ok.ensures.all p v.0 (ap (λ (ps : map.FinMap nat_cmp (PortView Kept)). map.get ps p) same ∙ v.1) v.2);
+        only = λ p some. (let m = c.in-Ok.ensures.only p some in ap (option_and_then (λ (v : PortView Kept). v.attributes.set)) m.there ∙ m.member);
+        all = λ p is. (let v = there c.args.world.now p c.args.set is in c.in-Ok.ensures.all p v.0 v.1 v.2);
       },
       c.with_members.ensures ∙ ap (disbanded c.args.set) c.as_slice.ensures.value,
     )

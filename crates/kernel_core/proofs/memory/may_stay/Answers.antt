@@ -1,5 +1,4 @@
-use Rattle.std.proofs.Common.{ap}
-use Rattle.copyin_base.specs.Worlds.{WorldView}
+use Rattle.std.proofs.Common.{refl}
 use Rattle.kernel_core.proofs.Staying.{told_port, told_set}
 use Rattle.kernel_core.proofs.memory.may_stay.Goals as goal
 
@@ -12,5 +11,5 @@ pub returns-in_ok-members-in-Set-clause-ok : goal.returns-in_ok-members-in-Set-c
 returns-in_ok-members-in-Set-clause-ok c =
     let may = rw c.in-Set.is at c.requires.may in
     let found = rw c.deref.ensures.value at c.is_one_receivable.ensures in
-    rw c.in-Set.is (told_set c.args.world.now c.args.task c.requires.there c.in-Set.set c.args.room may c.world.inside.ports (ap (λ (w : WorldView). w.ports) c.world.view_is)
+    rw c.in-Set.is (told_set c.args.world.now c.args.task c.requires.there c.in-Set.set c.args.room may c.args.world.now.ports refl
     c.in_ok-members-in-Set.members.items c.in_ok-members-in-Set.ensures.only c.in_ok-members-in-Set.ensures.all c.is_one_receivable.result found)

@@ -1,7 +1,6 @@
-use Rattle.std.proofs.Common.{ℕ, Option, ap, refl, sym, subst}
+use Rattle.std.proofs.Common.{ℕ, Option, refl, sym, subst}
 use Rattle.std.specs.Prelude.{MatchOption}
 use Rattle.mach_types.specs.declared.calls.Waited.TheVariants as AnyWaited
-use Rattle.copyin_base.specs.Worlds.{WorldView}
 use Rattle.kernel_core.specs.Receive.{HasMessage, NoneWaits}
 use Rattle.kernel_core.proofs.Ready.{port_waits, port_empty, member_told, when_member, when_alone}
 use Rattle.kernel_core.proofs.receive.port_source.Goals as goal
@@ -11,19 +10,18 @@ pub returns-then-standing-clause-err : goal.returns-then-standing-clause-err
 returns-then-standing-clause-err c =
     let w = c.args.world.now in
     let s = c.in-Some.standing in
-    (refl, when_member s.is_member _ _ (member_told w c.world.inside.ports c.args.port s.is_member s.queued (ap (λ (x : WorldView). x.ports) c.world.view_is) c.in-Some.ensures.some c.requires) c.if-standing.true)
+    (refl, when_member s.is_member _ _ (member_told w w.ports c.args.port s.is_member s.queued refl c.in-Some.ensures.some c.requires) c.if-standing.true)
 
 pub returns-clause-ok : goal.returns-clause-ok
 returns-clause-ok c =
     let w = c.args.world.now in
-    let s = c.in-Some.standing in
-    let same = ap (λ (x : WorldView). x.ports) c.world.view_is in (
+    let s = c.in-Some.standing in (
       refl,
-      when_alone s.is_member _ _ (member_told w c.world.inside.ports c.args.port s.is_member s.queued same c.in-Some.ensures.some c.requires) c.if-standing.false,
+      when_alone s.is_member _ _ (member_told w w.ports c.args.port s.is_member s.queued refl c.in-Some.ensures.some c.requires) c.if-standing.false,
       elim c.if-standing-gt0.branch [
         | then-standing-gt0 x ↦ subst (λ (o : Option ℕ). MatchOption o (NoneWaits w (AnyWaited.Port c.args.port)) (HasMessage w (AnyWaited.Port c.args.port))) (sym x.result-is)
-            (port_waits w c.world.inside.ports c.args.port s.is_member s.queued same c.in-Some.ensures.some c.requires x.if-standing-gt0.true)
+            (port_waits w w.ports c.args.port s.is_member s.queued refl c.in-Some.ensures.some c.requires x.if-standing-gt0.true)
         | else-standing-gt0 x ↦ subst (λ (o : Option ℕ). MatchOption o (NoneWaits w (AnyWaited.Port c.args.port)) (HasMessage w (AnyWaited.Port c.args.port))) (sym x.result-is)
-            (port_empty w c.world.inside.ports c.args.port s.is_member s.queued same c.in-Some.ensures.some x.if-standing-gt0.false)
+            (port_empty w w.ports c.args.port s.is_member s.queued refl c.in-Some.ensures.some x.if-standing-gt0.false)
       ],
     )

@@ -1,6 +1,5 @@
-use Rattle.std.proofs.Common.{List, ℕ, ap, subst, ◌∙◌}
+use Rattle.std.proofs.Common.{List, ℕ, subst, ◌∙◌}
 use Rattle.std.proofs.lemmas.Result.{IfOk-weaker}
-use Rattle.copyin_base.specs.Worlds.{WorldView, port_at}
 use Rattle.kernel_core_base.specs.Gathered.{AreGathered}
 use Rattle.kernel_core_base.proofs.Gathering.{gathered_all}
 use Rattle.kernel_core_base.proofs.sets.list_members.Goals as goal
@@ -10,5 +9,5 @@ returns c =
     let g = subst (λ (ports : List ℕ). AreGathered c.args.world.now c.args.set c.args.space.now.names ports c.in_ok-numbers.numbers) c.deref.ensures.value c.in_ok-numbers.ensures in
     IfOk-weaker c.names_of.result _ _
     (λ names is. is ∙ gathered_all c.args.world.now c.args.set c.args.space.now.names c.in_ok-ports.ports.items c.in_ok-numbers.numbers g
-    (λ p v there member. c.in_ok-ports.ensures.all p v (ap (λ (w : WorldView). port_at w p) c.world.view_is ∙ there) member))
+    c.in_ok-ports.ensures.all)
     c.names_of.ensures
