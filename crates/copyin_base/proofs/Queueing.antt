@@ -2,7 +2,7 @@
 use Rattle.std.proofs.Common.{◌≡◌, ℕ, ◌+◌, ◌%◌, ◌^◌, ◌++◌, [], ◌∷◌, List, Option, Some, None, refl, sym, ap, subst, ◌∙◌, Bool, true, false}
 use Rattle.std.specs.FinMap as map
 use Rattle.std.specs.Option.{option_and_then}
-use Rattle.std.specs.Prelude.{IfNone, IfSome, MatchBool, drop, slice_get}
+use Rattle.std.specs.Prelude.{MatchBool, drop, slice_get}
 use Rattle.member_lists.specs.Lists.{without}
 use Rattle.mach_types.specs.declared.profiles.Profile.{Profile}
 use Rattle.name_space.specs.Names.{SpaceView}
@@ -51,23 +51,17 @@ module _ (old : WorldView) {profile : Profile} (spaces : List (Option SpaceView)
 
   -- ---- the front message was taken
 
-  pub front_given : (o : Option Kept) → o ≡ option_and_then (λ (v : PortView Kept). slice_get v.queue 0) (map.get ports.ports p) →
-      ((v : PortView Kept) → map.get ports.ports p ≡ Some v → IfSome o (λ m. new ≡ with_taken ports p v)) → IfNone o (new ≡ ports) → AreGiven spaces ports → AreGiven spaces new
-  front_given None front taken none g = subst (AreGiven spaces) (sym none) g
-  front_given (Some m) front taken none g = go (map.get ports.ports p) refl
+  pub front_given : (m : Kept) → Some m ≡ option_and_then (λ (v : PortView Kept). slice_get v.queue 0) (map.get ports.ports p) →
+      ((v : PortView Kept) → map.get ports.ports p ≡ Some v → new ≡ with_taken ports p v) → AreGiven spaces ports → AreGiven spaces new
+  front_given m front taken g = go (map.get ports.ports p) refl
     where
       go : (q : Option (PortView Kept)) → map.get ports.ports p ≡ q → AreGiven spaces new
       go None at = absurd (let f = front ∙ ap (option_and_then (λ (v : PortView Kept). slice_get v.queue 0)) at in cc)
       go (Some v) at = same_given spaces ports new (subst (SamePorts ports) (sym (taken v at)) (taken_keeps p v ports at)) g
 
-  pub front_taken : (v : PortView Kept) → map.get old.ports.ports p ≡ Some v → (o : Option Kept) → (map.get ports.ports p ≡ Some v → IfSome o (λ m. new ≡ with_taken ports p v)) →
-      IfSome o (λ m. tables profile spaces new ledger sets requests ≡ record old { ports = with_taken old.ports p v })
-  front_taken v there None taken = tt
-  front_taken v there (Some m) taken = changed_written old spaces ports ledger sets requests view p v (λ x. with_taken x p v) (taken_keeps p v) new there taken
-
-  pub none_taken : (o : Option Kept) → IfNone o (new ≡ ports) → IfNone o (tables profile spaces new ledger sets requests ≡ old)
-  none_taken None is = stays_written is
-  none_taken (Some m) is = tt
+  pub front_taken : (v : PortView Kept) → map.get old.ports.ports p ≡ Some v → (map.get ports.ports p ≡ Some v → new ≡ with_taken ports p v) →
+      tables profile spaces new ledger sets requests ≡ record old { ports = with_taken old.ports p v }
+  front_taken v there taken = changed_written old spaces ports ledger sets requests view p v (λ x. with_taken x p v) (taken_keeps p v) new there taken
 
   -- ---- a port was put again, if it is there
 

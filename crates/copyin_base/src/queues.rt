@@ -1,5 +1,5 @@
 //! Messages that are queued and taken, and send rights that are counted as made.
-ghost use Rattle.std.specs.Prelude.{◌≡◌, ◌%◌, ◌+◌, ◌-◌, ◌<◌, ◌^◌, ◌++◌, ◌∷◌, [], IfNone, IfSome, None, Some, drop, slice_get};
+ghost use Rattle.std.specs.Prelude.{◌≡◌, ◌%◌, ◌+◌, ◌-◌, ◌<◌, ◌^◌, ◌++◌, ◌∷◌, [], None, Some, drop, is_some, slice_get, true};
 ghost use Rattle.std.specs.Option.{option_and_then};
 ghost use Rattle.port.specs.Ports.{IsLive, PortView, with_port};
 ghost use Rattle.tables_base.specs.Kept.{Kept};
@@ -21,17 +21,18 @@ impl World {
         self.ports.enqueue(port, Queued::sent(message));
     }
 
-    /// Takes the message at the front of a port's queue, and raises the port's sequence number by one modulo
-    /// 2^32; the message's slot is spare again. `None` where the port is gone or has none, and all is then as
-    /// before. Takes no memory. Constant time.
-    #[inline(always)]
-    pub fn take_front(&mut self, port: PortId) -> Option<Queued>
-        ensures front { result ≡ option_and_then (λ p. slice_get p.queue 0) (port_at self.old port) }
-        ensures taken { (v : PortView Kept) → port_at self.old port ≡ Some v → IfSome result (λ m.
-            self.new ≡ record self.old { ports = record (with_port self.old.ports port (record v { queue = drop 1 v.queue; attributes = record v.attributes { sequence = (v.attributes.sequence + 1) % 2 ^ 32 } })) { spare = self.old.ports.spare + 1 } }) }
-        ensures none { IfNone result (self.new ≡ self.old) }
+    /// Takes the message at the front of a port's queue, which has one, and raises the port's sequence number by one
+    /// modulo 2^32; the message's slot is spare again. Takes no memory. Constant time.
+    pub fn take_front(&mut self, port: PortId) -> Queued
+        requires waits { is_some (option_and_then (λ p. slice_get p.queue 0) (port_at self.old port)) ≡ true }
+        ensures front { Some result ≡ option_and_then (λ p. slice_get p.queue 0) (port_at self.old port) }
+        ensures taken { (v : PortView Kept) → port_at self.old port ≡ Some v →
+            self.new ≡ record self.old { ports = record (with_port self.old.ports port (record v { queue = drop 1 v.queue; attributes = record v.attributes { sequence = (v.attributes.sequence + 1) % 2 ^ 32 } })) { spare = self.old.ports.spare + 1 } } }
     {
-        self.ports.take(port)
+        match self.ports.take(port) {
+            Some(queued) => queued,
+            None => unreachable!(),
+        }
     }
 
     /// Counts a send right made from the port's receive right, modulo 2^32; where the port is gone, nothing

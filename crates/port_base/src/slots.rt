@@ -27,6 +27,8 @@ fn move_first_of_many<M: Drop>(from: &mut LinkedList<M>, to: &mut LinkedList<M>)
     let mut first = from.split_off(1).unwrap();
     mem::swap(from, &mut first);
     to.append(&mut first).unwrap();
+    // It is empty now, so nothing is dropped.
+    mem::forget(first);
 }
 
 // Moves the first node of a list to the end of another. The only one moves with its whole list, which
