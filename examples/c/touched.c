@@ -54,19 +54,28 @@ static gelvonds_code receive(gelvonds_task task, gelvonds_name name, size_t room
     return gelvonds_receive(&kernel, task, name, bytes, room, large, &length, &waited);
 }
 
-/* Tasks, ports and sets are made, and asked about. */
+/* Tasks, names, ports and sets are made, and asked about. */
 static void make(void) {
-    uint32_t number;
+    gelvonds_name names[3];
+    gelvonds_status status;
+    uint32_t number, types[3];
+    size_t count;
     tell("task_create", gelvonds_task_create(&kernel, &server));
     gelvonds_task_create(&kernel, &client);
     tell("allocate_name of a port", gelvonds_port_allocate_name(&kernel, server, MACH_PORT_RIGHT_RECEIVE, PORT));
     tell("allocate_name of a set", gelvonds_port_allocate_name(&kernel, server, MACH_PORT_RIGHT_PORT_SET, SET));
     gelvonds_port_allocate_name(&kernel, server, MACH_PORT_RIGHT_PORT_SET, OTHER_SET);
+    tell("allocate_name of a dead name", gelvonds_port_allocate_name(&kernel, client, MACH_PORT_RIGHT_DEAD_NAME, PORT));
     tell("get_refs", gelvonds_port_get_refs(&kernel, server, PORT, MACH_PORT_RIGHT_RECEIVE, &number));
+    tell("type", gelvonds_port_type(&kernel, server, PORT, &number));
+    tell("names", gelvonds_port_names(&kernel, server, names, 3, types, 3, &count));
+    tell("get_receive_status", gelvonds_port_get_receive_status(&kernel, server, PORT, &status));
+    tell("get_set_status", gelvonds_port_get_set_status(&kernel, server, SET, names, 3, &count));
     tell("rename", gelvonds_port_rename(&kernel, server, PORT, SPARE));
     gelvonds_port_rename(&kernel, server, SPARE, PORT);
     tell("set_qlimit", gelvonds_port_set_qlimit(&kernel, server, PORT, 3));
     tell("set_mscount", gelvonds_port_set_mscount(&kernel, server, PORT, 0));
+    tell("set_seqno", gelvonds_port_set_seqno(&kernel, server, PORT, 0));
     tell("a name that isn't there", gelvonds_port_type(&kernel, server, SPARE, &number));
 }
 
