@@ -19,7 +19,8 @@ use Rattle.copyin_base.specs.Requests.{RequestTablesView}
 use Rattle.copyin_base.specs.Worlds.{WorldView, entry_in, put, space_at}
 use Rattle.copyin_base.proofs.Gets.{same_found, of_some}
 use Rattle.copyin_base.proofs.Putting.{each_put}
-use Rattle.copyin_base.proofs.Reading.{named_port, get_read, named_kept, put_reads, reads_as, used_read, unused_read, read_put}
+use Rattle.tables_base.proofs.Reading.{named_port, get_read, named_kept, reads_as, used_read, unused_read}
+use Rattle.copyin_base.proofs.Reading.{put_reads, read_put}
 use Rattle.copyin_base.proofs.Written.{tables, lent_there, lent_read, ports_there, space_written, given_after, given_written, given_same}
 
 -- ---- A send reference came to what a task keeps under its name for a port that is there: the tables then.

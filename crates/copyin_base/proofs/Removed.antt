@@ -18,7 +18,8 @@ use Rattle.copyin_base.specs.Reading.{reading, read_names, read_space, read_spac
 use Rattle.copyin_base.specs.Requests.{RequestTablesView}
 use Rattle.copyin_base.specs.Worlds.{WorldView, space_in}
 use Rattle.copyin_base.proofs.Putting.{get_removed}
-use Rattle.copyin_base.proofs.Reading.{get_read, read_set}
+use Rattle.tables_base.proofs.Reading.{get_read}
+use Rattle.copyin_base.proofs.Reading.{read_set}
 use Rattle.copyin_base.proofs.Written.{tables}
 
 -- ---- the tables of a port that left

@@ -20,7 +20,8 @@ use Rattle.copyin_base.specs.Worlds.{WorldView, space_in, space_at, with_space, 
 use Rattle.copyin_base.proofs.Changing.{same_port}
 use Rattle.copyin_base.proofs.Gets.{same_found}
 use Rattle.copyin_base.proofs.Putting.{each_put}
-use Rattle.copyin_base.proofs.Reading.{kept_there, read_set, given_put, SamePorts, same_read, same_given, same_put, read_more, given_more, read_pushed, given_pushed, none_read, get_read, read_lives}
+use Rattle.tables_base.proofs.Reading.{get_read, read_lives}
+use Rattle.copyin_base.proofs.Reading.{kept_there, read_set, given_put, SamePorts, same_read, same_given, same_put, read_more, given_more, read_pushed, given_pushed, none_read}
 use Rattle.copyin_base.proofs.Spaces.{read_there, same_world}
 
 -- the tables whose names are kept so

@@ -2,9 +2,9 @@ pub use Rattle.tables_base.specs.Carrying
 pub use Rattle.tables_base.specs.Envelope
 pub use Rattle.tables_base.specs.Kept
 pub use Rattle.tables_base.specs.Queued
+pub use Rattle.tables_base.specs.Reading
 pub mod Leaving
 pub mod Losing
-pub mod Reading
 pub mod Requests
 pub mod Worlds
 pub mod Shows

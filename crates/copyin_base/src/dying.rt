@@ -4,7 +4,7 @@ ghost use Rattle.std.specs.List.{Contains};
 ghost use Rattle.member_lists.specs.Lists.{without};
 ghost use Rattle.port.specs.Holding.{CanHold, IsHeldBy, NoneHeldBy, held};
 ghost use Rattle.port.specs.Idle.{IsIdle};
-ghost use Rattle.port.specs.Ports.{DestroysFirst, IsLive, NoneQueued, PortView, with_port};
+ghost use Rattle.port.specs.Ports.{IsLive, NoneQueued, PortView, with_port};
 ghost use Rattle.port.specs.declared.Holder.TheVariants as AnyHolder;
 ghost use Rattle.tables_base.specs.Kept.{Kept};
 ghost use Rattle.copyin_base.specs.Losing.{DestroysNext};

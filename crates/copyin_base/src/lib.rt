@@ -18,13 +18,11 @@ mod queues;
 mod requests;
 mod senders;
 mod sets;
-mod task_names;
 mod tasks;
 mod world;
 
 pub use code::Code;
 pub use tables_base::{
-    BodyRights, Carried, CarriedRights, Envelope, Mark, Message, Notice, Queued, Slot,
+    BodyRights, Carried, CarriedRights, Envelope, Mark, Message, Notice, Queued, Slot, TaskNames,
 };
-pub use task_names::TaskNames;
 pub use world::World;

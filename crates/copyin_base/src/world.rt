@@ -7,7 +7,6 @@ ghost use Rattle.copyin_base.specs.Wanted.{LacksSlots};
 ghost use Rattle.copyin_base.specs.Worlds.{HasTask, entry_at, has_generations, no_world, space_at};
 
 use crate::requests::RequestTables;
-use crate::task_names::TaskNames;
 use mach_types::{Name, Profile, TaskId};
 use name_space::{Entry, Space};
 use port::Ports;
@@ -15,7 +14,7 @@ use port_set::Sets;
 use rights::Ledger;
 use std::alloc::{AllocError, Global};
 use std::marker::Model;
-use tables_base::Queued;
+use tables_base::{Queued, TaskNames};
 
 /// The tasks' names, the ports with their queues, the counts of all rights, the port sets, and
 /// the requests for notices.

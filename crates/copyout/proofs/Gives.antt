@@ -18,7 +18,7 @@ use Rattle.copyin_base.proofs.FreshNames.{fresh_unused, fresh_has_room, can_coun
 use Rattle.copyin_base.proofs.Entering.{for_one}
 use Rattle.copyin_base.proofs.Gets.{same_found}
 use Rattle.copyin_base.proofs.Spaces.{space-set_same, set-set}
-use Rattle.copyin_base.proofs.Reading.{named_port}
+use Rattle.tables_base.proofs.Reading.{named_port}
 use Rattle.copyin_base.specs.Kept.{Kept}
 use Rattle.copyin_base.proofs.Requested.{KeepsRight, keeps_same, requested_kept, entry_own, entry_other}
 use Rattle.copyin_base.proofs.Written.{tables}

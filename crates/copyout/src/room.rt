@@ -1,6 +1,5 @@
 //! How many names of the receiver the rights of a message need.
 ghost use Rattle.std.specs.Prelude.{◌≡◌, ◌≢◌, ℕ, ◌+◌, ◌<◌, ◌≤◌, ◌↔◌, ◌++◌, ◌%◌, [], ◌∷◌, List, Some, None, is_some, true, false, IsTrue, MatchBool, MatchOption, IfSome, IfNone, length, slice_set};
-ghost use Rattle.std.specs.FinMap as map;
 ghost use Rattle.mach_types.specs.Numbers.{kind_sent};
 ghost use Rattle.mach_types.specs.Tokens.{send_once};
 ghost use Rattle.name_space.specs.Names.{SpaceView, port_at};

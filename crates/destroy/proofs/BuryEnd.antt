@@ -40,7 +40,7 @@ use Rattle.copyin_base.proofs.Changing.{target_named}
 use Rattle.copyin_base.proofs.Putting.{get_removed}
 use Rattle.copyin_base.proofs.Requesting.{requests_stay}
 use Rattle.copyin_base.specs.Changes.{IsSenderless}
-use Rattle.copyin_base.proofs.Reading.{named_port, reads_as}
+use Rattle.tables_base.proofs.Reading.{named_port, reads_as}
 use Rattle.notifications.proofs.NoticePosted.{filter_weigh}
 use Rattle.notifications.specs.SoFar.{AgreesOf, IsWithNobody, IsHolder, HoldersTell, due_so_far, entries_at, Tied, buried_alone, seen_for, IsSoFar}
 use Rattle.destroy.specs.Burying.{without_port, buried}

@@ -38,7 +38,7 @@ use Rattle.copyin_base.specs.declared.Notice.TheVariants as notice
 use Rattle.copyin_base.specs.Queued.{notice_kept}
 use Rattle.copyin_base.specs.Requests.{RequestTablesView, notify_of}
 use Rattle.copyin_base.specs.Shows.{target_of, CarriesReceive, IsOnName}
-use Rattle.copyin_base.proofs.Reading.{named_port}
+use Rattle.tables_base.proofs.Reading.{named_port}
 use Rattle.copyin_base.proofs.Requesting.{same_key}
 use Rattle.copyin_base.proofs.Spaces.{space-set_same, space-set_other}
 use Rattle.copyin_base.specs.Changes.{CanPutLeft, PutsLeft}

@@ -29,7 +29,8 @@ use Rattle.port_set.specs.Sets.{SetsView}
 use Rattle.copyin_base.specs.Reading.{reading, read_space, read_spaces}
 use Rattle.copyin_base.specs.Shows.{target_of, HasCount, GivenAgrees, SpacesAgree, ReferencesAgree, SetsAgree}
 use Rattle.copyin_base.specs.Worlds.{space_in, entry_in}
-use Rattle.copyin_base.proofs.Reading.{read_lives, reads_as, named_port, len_read, space_read_in, entry_read_in, length_read, kept_there}
+use Rattle.tables_base.proofs.Reading.{read_lives, reads_as, named_port, len_read}
+use Rattle.copyin_base.proofs.Reading.{space_read_in, entry_read_in, length_read, kept_there}
 use Rattle.notifications.proofs.NoticePosted.{filter_weigh}
 use Rattle.notifications.specs.SoFar.{buried_alone, seen_for, IsSoFar, posted_so_far, due_so_far}
 use Rattle.mach_model.proofs.SettledDetermined.{weigh-same}

@@ -52,7 +52,7 @@ use Rattle.copyin_base.specs.Wanted.{UsesSpares}
 use Rattle.copyin_base.proofs.Acting.{done_leaving}
 use Rattle.copyin_base.proofs.Holders.{ReceivesIn, ReceivesAt, IsReceive, no_receive, put_receives, one_holder, ChangesHolder, put_holder, holders_changed, set_receives, had}
 use Rattle.copyin_base.proofs.Listed.{listed_one}
-use Rattle.copyin_base.proofs.Reading.{named_port}
+use Rattle.tables_base.proofs.Reading.{named_port}
 use Rattle.copyin_base.proofs.Spares.{keeps_space}
 use Rattle.copyin_base.specs.Losing.{CanLose, CanPost, DropsSet, LosesPort}
 use Rattle.kernel_core_base.specs.declared.references.Due.{Due}

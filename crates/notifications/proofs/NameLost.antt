@@ -22,7 +22,7 @@ use Rattle.request_table.specs.Requests.{RequestsView}
 use Rattle.copyin_base.specs.Reading.{live_in, reading, read_space}
 use Rattle.copyin_base.specs.Requests.{request_left, requests_after}
 use Rattle.copyin_base.specs.Worlds.{WorldView, port_at, entry_at, with_space, put, space_in, space_at, entry_in}
-use Rattle.copyin_base.proofs.Reading.{reads_same, get_read}
+use Rattle.tables_base.proofs.Reading.{reads_same, get_read}
 use Rattle.copyin_base.specs.Shows.{Shows, SlotsSuffice, Agrees}
 use Rattle.copyin_base.proofs.Requested.{left_entry, left_other}
 use Rattle.copyin_base.specs.declared.Notice.TheVariants as notice

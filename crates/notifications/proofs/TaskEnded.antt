@@ -44,7 +44,7 @@ use Rattle.copyin_base.proofs.Taking.{take_held}
 use Rattle.copyin_base.specs.Kept.{Kept}
 use Rattle.copyin_base.specs.Requests.{RequestTablesView, requests_after, notify_of}
 use Rattle.copyin_base.specs.Worlds.{WorldView, space_in, space_at, with_space, put, entry_in, entry_at, port_at}
-use Rattle.copyin_base.proofs.Reading.{named_port}
+use Rattle.tables_base.proofs.Reading.{named_port}
 use Rattle.copyin_base.proofs.Changing.{named_no_set, target_named, changed_agrees}
 use Rattle.copyin_base.proofs.Gets.{same_found, of_some, length-set}
 use Rattle.copyin_base.proofs.Putting.{each_put, put_same}

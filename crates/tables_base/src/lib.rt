@@ -7,8 +7,10 @@ mod envelope;
 mod message;
 mod notice;
 mod queued;
+mod task_names;
 
 pub use envelope::Envelope;
 pub use message::{BodyRights, Carried, CarriedRights, Mark, Message};
 pub use notice::Notice;
 pub use queued::{Queued, Slot};
+pub use task_names::TaskNames;

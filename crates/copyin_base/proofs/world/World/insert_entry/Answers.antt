@@ -7,7 +7,8 @@ use Rattle.port.specs.Ports.{PortsView, IsLive}
 use Rattle.tables_base.specs.Kept.{Kept}
 use Rattle.copyin_base.specs.Reading.{live_in, read_names}
 use Rattle.copyin_base.proofs.Gets.{of_some}
-use Rattle.copyin_base.proofs.Reading.{unused_read, len_read, place_read, no_other_kept, put_reads}
+use Rattle.tables_base.proofs.Reading.{unused_read, len_read, place_read, no_other_kept}
+use Rattle.copyin_base.proofs.Reading.{put_reads}
 use Rattle.copyin_base.proofs.Written.{lent_read, ports_there, given_written, space_written}
 use Rattle.copyin_base.proofs.world.World.insert_entry.Goals as goal
 

@@ -6,7 +6,8 @@ use Rattle.name_space.specs.Names.{SpaceView}
 use Rattle.name_space.specs.Names.{port_at as named_at}
 use Rattle.port.specs.Ports.{IsLive}
 use Rattle.copyin_base.specs.Reading.{live_in, read_names}
-use Rattle.copyin_base.proofs.Reading.{used_read, named_kept, put_reads}
+use Rattle.tables_base.proofs.Reading.{used_read, named_kept}
+use Rattle.copyin_base.proofs.Reading.{put_reads}
 use Rattle.copyin_base.proofs.Written.{lent_read, left_lives, given_written, space_written}
 use Rattle.copyin_base.proofs.world.World.replace_entry.Goals as goal
 

@@ -2,7 +2,7 @@ use Rattle.std.proofs.Common.{◌∙◌, ◌⊎◌, ap, sym, subst, Some}
 use Rattle.name_space_base.specs.High.{KeepsUsed}
 use Rattle.name_space.specs.Names.{SpaceView, MayWantIn}
 use Rattle.copyin_base.specs.Reading.{live_in, read_space}
-use Rattle.copyin_base.proofs.Reading.{place_wanted}
+use Rattle.tables_base.proofs.Reading.{place_wanted}
 use Rattle.copyin_base.proofs.Told.{space_there}
 use Rattle.copyin_base.proofs.Written.{lent_read, space_written}
 use Rattle.copyin_base.proofs.world.World.reserve_name.Goals as goal

@@ -3,9 +3,9 @@ use Rattle.std.specs.Prelude.{IfSome, IfNone}
 use Rattle.std.specs.FinMap as map
 use Rattle.std.specs.Option.{option_map}
 use Rattle.name_space.specs.Names.{Names, SpaceView, IsNextName}
-use Rattle.copyin_base.specs.Reading.{live_in, read_names, reading}
-use Rattle.copyin_base.proofs.Reading.{get_read, used_read}
-use Rattle.copyin_base.proofs.task_names.TaskNames.next_name.Goals as goal
+use Rattle.tables_base.specs.Reading.{live_in, read_names, reading}
+use Rattle.tables_base.proofs.Reading.{get_read, used_read}
+use Rattle.tables_base.proofs.task_names.TaskNames.next_name.Goals as goal
 
 on_some : {A : Type 0} (o : Option A) (P Q : A → Type 0) → ((x : A) → P x → Q x) → IfSome o P → IfSome o Q
 on_some (Some x) P Q f h = f x h

@@ -1,9 +1,9 @@
 use Rattle.std.proofs.Common.{◌≡◌, Option, Some, None, true, false, sym, ap, ◌∙◌}
 use Rattle.std.specs.Prelude.{IfSome}
 use Rattle.name_space.specs.Names.{SpaceView, port_at}
-use Rattle.copyin_base.specs.Reading.{live_in}
-use Rattle.copyin_base.proofs.Reading.{named_there, named_kept, named_lives}
-use Rattle.copyin_base.proofs.task_names.TaskNames.name_of_port.Goals as goal
+use Rattle.tables_base.specs.Reading.{live_in}
+use Rattle.tables_base.proofs.Reading.{named_there, named_kept, named_lives}
+use Rattle.tables_base.proofs.task_names.TaskNames.name_of_port.Goals as goal
 
 on_some : {A : Type 0} (o : Option A) (P Q : A → Type 0) → ((x : A) → P x → Q x) → IfSome o P → IfSome o Q
 on_some (Some x) P Q f h = f x h

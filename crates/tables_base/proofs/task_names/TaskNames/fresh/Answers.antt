@@ -2,9 +2,9 @@ use Rattle.std.proofs.Common.{◌≡◌, None, ap, subst, ◌∙◌, arith}
 use Rattle.std.specs.Option.{option_map}
 use Rattle.std.specs.FinMap as map
 use Rattle.name_space.specs.Names.{SpaceView, IsFreshFor}
-use Rattle.copyin_base.specs.Reading.{live_in, reading}
-use Rattle.copyin_base.proofs.Reading.{fresh_read, get_read, len_read}
-use Rattle.copyin_base.proofs.task_names.TaskNames.fresh.Goals as goal
+use Rattle.tables_base.specs.Reading.{live_in, reading}
+use Rattle.tables_base.proofs.Reading.{fresh_read, get_read, len_read}
+use Rattle.tables_base.proofs.task_names.TaskNames.fresh.Goals as goal
 
 pub fresh-requires : goal.fresh-requires
 fresh-requires c =

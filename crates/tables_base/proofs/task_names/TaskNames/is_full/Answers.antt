@@ -3,9 +3,9 @@ use Rattle.std.specs.Prelude.{◌↔◌, IsTrue}
 use Rattle.std.specs.FinMap as map
 use Rattle.mach_types.specs.Numbers.{most_names}
 use Rattle.name_space.specs.Names.{SpaceView}
-use Rattle.copyin_base.specs.Reading.{live_in}
-use Rattle.copyin_base.proofs.Reading.{len_read}
-use Rattle.copyin_base.proofs.task_names.TaskNames.is_full.Goals as goal
+use Rattle.tables_base.specs.Reading.{live_in}
+use Rattle.tables_base.proofs.Reading.{len_read}
+use Rattle.tables_base.proofs.task_names.TaskNames.is_full.Goals as goal
 
 pub returns : goal.returns
 returns c = subst (λ (n : ℕ). IsTrue c.is_full.result ↔ (most_names ≤ n))

@@ -2,9 +2,9 @@ use Rattle.std.proofs.Common.{Some, sym, ap, ◌∙◌}
 use Rattle.std.specs.Option.{option_map}
 use Rattle.std.specs.FinMap as map
 use Rattle.name_space.specs.Names.{SpaceView}
-use Rattle.copyin_base.specs.Reading.{live_in, reading}
-use Rattle.copyin_base.proofs.Reading.{get_read}
-use Rattle.copyin_base.proofs.task_names.TaskNames.lookup.Goals as goal
+use Rattle.tables_base.specs.Reading.{live_in, reading}
+use Rattle.tables_base.proofs.Reading.{get_read}
+use Rattle.tables_base.proofs.task_names.TaskNames.lookup.Goals as goal
 
 pub returns-in_err-kept : goal.returns-in_err-kept
 returns-in_err-kept c =

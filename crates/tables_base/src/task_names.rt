@@ -1,17 +1,17 @@
 //! The names of one task, as they are read.
-ghost use Rattle.std.specs.Prelude.{◌≡◌, ◌↔◌, ◌<◌, ◌≤◌, ◌≢◌, ℕ, Bool, false, true, Some, None, IfOk, IfSome, IfNone, IsTrue};
+ghost use Rattle.std.specs.Prelude.{◌≡◌, ◌↔◌, ◌<◌, ◌≤◌, ℕ, Bool, false, Some, None, IfOk, IfSome, IfNone, IsTrue};
 ghost use Rattle.std.specs.FinMap as map;
 ghost use Rattle.mach_types.specs.Numbers.{most_names};
 ghost use Rattle.name_space.specs.Entry.{port_of};
 ghost use Rattle.name_space.specs.Names.{IsFreshFor, IsNextName, IsUsable, port_at};
-ghost use Rattle.copyin_base.specs.Reading.{live_in, read_space, reading};
+ghost use Rattle.tables_base.specs.Reading.{live_in, read_space, reading};
 
+use crate::Queued;
 use mach_types::{Name, PortId};
 use name_space::{Entry, Space};
 use port::Ports;
 use std::alloc::{AllocError, Global};
 use std::marker::Model;
-use tables_base::Queued;
 use user_refs::UserRefs;
 
 /// The names of a task that lives. What a name keeps is read with the ports that are there: a right for a
@@ -25,7 +25,7 @@ pub struct TaskNames<'a> {
 impl<'a> Model for TaskNames<'a> {
     ghost use Rattle.name_space.specs.Names.{SpaceView, space_code};
     ghost use Rattle.name_space.specs.contracts.Entry as entry;
-    ghost use Rattle.copyin_base.specs.Reading.{live_in, read_space};
+    ghost use Rattle.tables_base.specs.Reading.{live_in, read_space};
 
     ghost Value = { SpaceView };
 
@@ -58,8 +58,8 @@ fn read(ports: &Ports<Queued>, kept: Entry) -> Entry
 }
 
 impl<'a> TaskNames<'a> {
-    // Those that are kept here, read with these ports.
-    pub(crate) fn of(kept: &'a Space, ports: &'a Ports<Queued>) -> TaskNames<'a>
+    /// Those that are kept here, read with these ports. Constant time.
+    pub fn of(kept: &'a Space, ports: &'a Ports<Queued>) -> TaskNames<'a>
         ensures { result ≡ read_space (live_in ports.now) kept.now }
     {
         TaskNames { kept, ports }
