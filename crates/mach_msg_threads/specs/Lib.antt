@@ -1,2 +1,4 @@
-pub mod Tries
 pub mod Blocks
+pub mod Gates
+pub mod Tries
+pub mod Waiting

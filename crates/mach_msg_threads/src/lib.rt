@@ -10,6 +10,7 @@ mod block;
 mod blocks;
 mod fault;
 mod gate;
+mod guests;
 mod hall;
 mod message;
 mod tries;
