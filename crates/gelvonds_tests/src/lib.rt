@@ -1,6 +1,6 @@
 //! Tests of `gelvonds`: its typed calls, a task with no name left, fresh names that have a generation, and the program of
 //! `docs/EMBEDDING.md`. Tests of its `threads`: the history of one kernel, callers in threads of their own, a kernel that
-//! keeps no entries, message calls, and blocks that run at once.
+//! keeps no entries, message calls, blocks that run at once, and blocks that wait by a hall.
 //!
 //! They stand in a crate of their own, so that the crates that they test are proved once.
 #![tactic(auto)]
@@ -15,6 +15,8 @@ mod embedding;
 mod full;
 #[cfg(test)]
 mod generations;
+#[cfg(test)]
+mod halls;
 #[cfg(test)]
 mod history;
 #[cfg(test)]

@@ -2,3 +2,4 @@ pub mod Bounded
 pub mod Rows
 pub mod Callers
 pub mod Heard
+pub mod Pausing

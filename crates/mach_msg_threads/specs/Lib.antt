@@ -1,4 +1,5 @@
 pub mod Blocks
+pub mod ByGate
 pub mod Gates
 pub mod Tries
 pub mod Waiting

@@ -1,6 +1,7 @@
 //! Calls that one caller makes, one after another.
 ghost use Rattle.std.specs.Prelude.{◌≡◌, IfOk};
 ghost use Rattle.mach_msg_threads.specs.Blocks.{Answered, Ran};
+ghost use Rattle.mach_msg_threads.specs.ByGate.{AnsweredBy};
 
 use crate::fault::RunFault;
 use crate::gate::Gate;
@@ -89,6 +90,7 @@ pub fn make_call<G: Gate, R: Wait>(
     requires { pass.old.table ≡ shared.now.table }
     ensures tied { pass.new.table ≡ shared.now.table }
     ensures answered { IfOk result (λ answer. Answered call pass.old answer pass.new) }
+    ensures by_gate { IfOk result (λ answer. AnsweredBy G.passes call pass.old gate.old answer pass.new gate.new) }
 {
     match call {
         Call::Event(event) => Ok(Answer::Reply(attempt(rt, shared, pass, gate, event))),

@@ -1,7 +1,9 @@
 //! The message call.
-ghost use Rattle.std.specs.Prelude.{◌≡◌, ◌≤◌, ◌<◌, ◌^◌, length, IfSome, IfNone};
+ghost use Rattle.std.specs.Prelude.{◌≡◌, ◌≤◌, ◌<◌, ◌^◌, length, min, IfSome, IfNone};
+ghost use Rattle.mach_types.specs.Numbers.{most_bytes};
 ghost use Rattle.kernel_core.specs.Bounds.{reply_bytes};
 ghost use Rattle.mach_msg_threads.specs.Blocks.{count_received};
+ghost use Rattle.mach_msg_threads.specs.ByGate.{MessageCallBy};
 ghost use Rattle.mach_msg_threads.specs.Tries.{received_code, received_length, received_into, AreOptions, AsksFor, MessageCall};
 
 use crate::gate::Gate;
@@ -59,6 +61,7 @@ pub fn mach_msg<G: Gate, R: Wait>(
     requires { pass.old.table ≡ shared.now.table }
     ensures tied { pass.new.table ≡ shared.now.table }
     ensures call { MessageCall task options bytes.now name pass.old pass.new buf.old buf.new result.code result.len }
+    ensures by_gate { MessageCallBy G.passes task options bytes.now name (min (length buf.old) most_bytes) pass.old gate.old result.code pass.new gate.new }
 {
     let Some(asked) = read_options(options) else {
         return refused(KernReturn::InvalidArgument.number());

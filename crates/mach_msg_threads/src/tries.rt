@@ -4,6 +4,7 @@ ghost use Rattle.mach_types.specs.Numbers.{most_bytes};
 ghost use Rattle.kernel_core.specs.Bounds.{reply_bytes};
 ghost use Rattle.mach_types.specs.declared.calls.Event.{Event};
 ghost use Rattle.kernel_lock.specs.History.{Called};
+ghost use Rattle.mach_msg_threads.specs.ByGate.{ToldTry, SendPartBy, ReceivesBy, TriesAgainBy};
 ghost use Rattle.mach_msg_threads.specs.Tries.{SendPart, Receives, TriesAgain, IsFull, most_received, sent_code, waited_in};
 
 use crate::gate::{Gate, tell};
@@ -98,6 +99,7 @@ pub(crate) fn attempt<G: Gate, R: Wait>(
     requires { pass.old.table ≡ shared.now.table }
     ensures tied { pass.new.table ≡ shared.now.table }
     ensures call { Called pass.old pass.new event result }
+    ensures told { ToldTry G.passes event pass.old gate.old result pass.new gate.new }
     ensures bytes { reply_bytes result ≤ most_received event }
 {
     let reply = shared.call(rt, pass, event);
@@ -118,6 +120,7 @@ pub(crate) fn send<G: Gate, R: Wait>(
     requires { pass.old.table ≡ shared.now.table }
     ensures tied { pass.new.table ≡ shared.now.table }
     ensures sends { SendPart sending.task sending.wanted sending.once bytes.now pass.old result pass.new }
+    ensures by_gate { SendPartBy G.passes sending.task sending.wanted sending.once bytes.now pass.old gate.old result pass.new gate.new }
 {
     if !sending.wanted {
         return 0;
@@ -149,6 +152,7 @@ pub(crate) fn receive<G: Gate, R: Wait>(
     requires { pass.old.table ≡ shared.now.table }
     ensures tied { pass.new.table ≡ shared.now.table }
     ensures receives { Receives receiving.now.task receiving.now.name receiving.now.room receiving.now.large receiving.now.once pass.old result pass.new }
+    ensures by_gate { ReceivesBy G.passes receiving.now.task receiving.now.name receiving.now.room receiving.now.large receiving.now.once pass.old gate.old result pass.new gate.new }
     ensures bytes { reply_bytes result ≤ min receiving.now.room most_bytes }
 {
     let first = attempt(rt, shared, pass, gate, receiving.first());
@@ -175,6 +179,7 @@ fn receive_again<G: Gate, R: Wait>(
     requires { pass.old.table ≡ shared.now.table }
     ensures tied { pass.new.table ≡ shared.now.table }
     ensures tries { TriesAgain receiving.now.task waited.now receiving.now.room receiving.now.large pass.old result pass.new }
+    ensures by_gate { TriesAgainBy G.passes receiving.now.task waited.now receiving.now.room receiving.now.large pass.old gate.old result pass.new gate.new }
     ensures bytes { reply_bytes result ≤ min receiving.now.room most_bytes }
 {
     let mut turn = 1u32;
