@@ -258,14 +258,14 @@ gelvonds_code gelvonds_port_identity(gelvonds *kernel, gelvonds_task task, gelvo
  * right names that right's port too, and the set that it was in; so does one with two or three, where with
  * the sets concerned four places suffice. One that was received names the ports too whose
  * receive rights came with it: one or two, or three if its own port is in no set. A message that was destroyed as too
- * long names its port and the port's set, if it carried no receive right and one send-once right at most; the port that
- * this one tells is named too, with its set. gelvonds_port_request_notification names the port that the notice goes to. A lost send-once right
- * names its port, and so does a receive right that was destroyed, where nothing was queued at its port and no request was
- * on it or on a name of it; a port's set is named with it. A destroyed set names itself and its members, if they were
- * three at most and there was memory for their list. After each other call, and where other ports died or other notices
- * were sent, it may be any. A code of the library's own comes without a call of the kernel, and so does a code for out of
- * memory where calls are kept and the copies found no room: then it stays what the call before touched. Makes no call,
- * and changes nothing.
+ * long names its port and the port's set, if it carried no receive right and one send-once right at most; the port
+ * that this one tells is named too, with its set. gelvonds_port_request_notification names the port that the notice
+ * goes to. A lost send-once right names its port, and so does a receive right that was destroyed, where nothing was
+ * queued at its port and no request was on it or on a name of it; a port's set is named with it. A destroyed set
+ * names itself and its members, if they were three at most and there was memory for their list. After each other
+ * call, and where other ports died or other notices were sent, it may be any. A code of the library's own comes
+ * without a call of the kernel, and so does a code for out of memory where calls are kept and the copies found no
+ * room: then it stays what the call before touched. Makes no call, and changes nothing.
  * GELVONDS_NO_KERNEL: the handle holds no kernel, and nothing is written. */
 gelvonds_code gelvonds_touched(gelvonds *kernel, gelvonds_touched_places *touched);
 
