@@ -10,7 +10,7 @@
 //! fit, and so does room for one.
 #![tactic(auto)]
 
-ghost use Rattle.std.specs.Prelude.{◌≡◌, ◌≢◌, ℕ, suc, ◌+◌, ◌-◌, ◌*◌, ◌^◌, ◌<◌, ◌≤◌, List, max, true, length, slice_index_or, false, Some, None, IsOk, OnOk, OnErr};
+ghost use Rattle.std.specs.Prelude.{◌≡◌, ◌≢◌, ℕ, suc, ◌+◌, ◌-◌, ◌*◌, ◌^◌, ◌<◌, ◌≤◌, List, max, true, length, slice_index_or, min, false, Some, None, IsOk, OnOk, OnErr};
 ghost use Rattle.std.specs.Borrow.{sem};
 ghost use Rattle.std.specs.FinMap as map;
 ghost use Rattle.std.specs.Vec.{vec_capacity};
@@ -25,6 +25,9 @@ const MOST_NODES: usize = 0xFFFF_FFFF;
 
 // Where so many nodes fit, half as many trees do: what the heads take is halved, for half a step more.
 const MANY_NODES: usize = 1024;
+
+// Memory for more than so many times the nodes that are wanted is given back, but for twice these.
+const MOST_TIMES: usize = 4;
 
 // How many numbers half a key can be.
 const HALF: u64 = 1 << 32;
@@ -335,24 +338,56 @@ fn trees_for(capacity: usize) -> usize
     capacity / 2
 }
 
-// Makes as many trees as are enough for the nodes that fit, or more, where there are fewer, and puts
-// each node in its own.
-fn widen<V: Copy>(nodes: &mut Vec<Node<V>>, heads: &mut Vec<u32>) -> Result<(), AllocError>
+// Gives back the memory beyond that of so many nodes, and puts each node in one of fewer trees. Where
+// memory is refused, more is kept.
+fn narrow<V: Copy>(nodes: &mut Vec<Node<V>>, heads: &mut Vec<u32>, most: usize)
     requires indexed { IsIndexed nodes.old.items heads.old.items }
     requires few { length nodes.old.items < 2 ^ 32 }
     requires unique { IsUnique (entries_of nodes.old.items) }
     ensures indexed { IsIndexed nodes.new.items heads.new.items }
-    ensures some { OnOk result (0 < vec_capacity nodes.old → 0 < length heads.new.items) }
-    ensures none { length heads.old.items ≤ length heads.new.items }
+    ensures some { 0 < length heads.old.items → 0 < length heads.new.items }
     ensures entries { SameEntries nodes.old.items nodes.new.items }
-    ensures capacity { vec_capacity nodes.new ≡ vec_capacity nodes.old }
+    ensures enough { min most (vec_capacity nodes.old) ≤ vec_capacity nodes.new }
+{
+    nodes.shrink_to(most);
+    if nodes.capacity() > most || most == 0 {
+        return;
+    }
+    let Some(slots) = trees_for(most).checked_next_power_of_two() else {
+        return;
+    };
+    if make_slots(heads, slots).is_ok() {
+        link_all(nodes.as_mut_slice(), heads.as_mut_slice());
+    }
+}
+
+// Makes as many trees as are enough for the nodes that fit, or more, where there are fewer, and puts
+// each node in its own. Gives back what is far more than the nodes that are wanted need.
+fn fit<V: Copy>(
+    nodes: &mut Vec<Node<V>>,
+    heads: &mut Vec<u32>,
+    wanted: usize,
+) -> Result<(), AllocError>
+    requires indexed { IsIndexed nodes.old.items heads.old.items }
+    requires few { length nodes.old.items < 2 ^ 32 }
+    requires unique { IsUnique (entries_of nodes.old.items) }
+    requires fits { wanted ≤ vec_capacity nodes.old }
+    ensures indexed { IsIndexed nodes.new.items heads.new.items }
+    ensures some { OnOk result (0 < vec_capacity nodes.old → 0 < length heads.new.items) }
+    ensures none { 0 < length heads.old.items → 0 < length heads.new.items }
+    ensures entries { SameEntries nodes.old.items nodes.new.items }
+    ensures fits { wanted ≤ vec_capacity nodes.new }
 {
     // Small maps end here, at the least cost.
-    if heads.len() >= nodes.capacity() {
+    let capacity = nodes.capacity();
+    if heads.len() >= capacity {
         return Ok(());
     }
-    let trees = trees_for(nodes.capacity());
+    let trees = trees_for(capacity);
     if heads.len() >= trees {
+        if wanted < capacity / MOST_TIMES {
+            narrow(nodes, heads, wanted * 2);
+        }
         return Ok(());
     }
     let slots = trees.checked_next_power_of_two().ok_or(AllocError)?;
@@ -414,8 +449,11 @@ impl<V: Copy> NumberMap<V> {
     }
 
     /// Makes room for at least so many more keys. Constant time where there is room for them. Else at most
-    /// linear in the number of keys, as all may move to a larger place: for each key 64 nodes are read at
+    /// linear in the number of keys, as all may move to another place: for each key 64 nodes are read at
     /// most.
+    ///
+    /// Where there is memory for 1,024 keys or more, and for more than four times the keys with that room,
+    /// what is beyond twice these is given back. Where memory is refused for the move, it stays.
     ///
     /// An error means that memory was refused, or that there would be more than 4,294,967,295 keys; all is
     /// then as before. It never comes where there is room already. Nothing else here takes memory.
@@ -429,7 +467,8 @@ impl<V: Copy> NumberMap<V> {
                 return Err(AllocError);
             }
             self.nodes.reserve(additional)?;
-            widen(&mut self.nodes, &mut self.heads)?;
+            let wanted = self.nodes.len() + additional;
+            fit(&mut self.nodes, &mut self.heads, wanted)?;
             self.room = additional;
         }
         Ok(())
