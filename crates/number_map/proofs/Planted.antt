@@ -5,7 +5,7 @@ use Rattle.std.proofs.lemmas.Bool.Decides.{eqb_tells}
 use Rattle.std.proofs.lemmas.List.{length-set}
 use Rattle.std.proofs.lemmas.Option.{slice_get_within, slice_get-map}
 use Rattle.number_map.specs.declared.Node.{Node}
-use Rattle.number_map.specs.Kept.{turn, head_at, key_in, link_in, key_at, link_at, out_at, entry_of, entries_of, AreAlike, IsTree, IsTurned, IsLed, IsPlanted, IsIndexed, IsWay, IsUnique, SameEntries, IsAboveLeaf, IsRaised, IsMoved, IsTakenOut, IsKept}
+use Rattle.number_map.specs.Kept.{turn, head_at, key_in, link_in, key_at, link_at, out_at, entry_of, entries_of, AreAlike, IsTree, IsTurned, IsLed, IsPlanted, IsIndexed, IsWay, IsUnique, SameEntries, IsAboveLeaf, IsHung, IsRaised, IsMoved, IsTakenOut, IsKept}
 use Rattle.number_map.proofs.Trees.{equal_or_not, lower, on_way}
 use Rattle.number_map.proofs.Changes.{same_tree, keys_changed, deeps, joined, cut_off, last_gone, deeps_moved, moved}
 use Rattle.number_map.proofs.Rows.{same_some, none_some, there, way_out, got_set, got_other, got_before, got_last, length_pushed, key_of_some, link_of_some, entry_here, keys_same, same_len, turned_here, turned_other, turned_entries}
@@ -189,14 +189,12 @@ module _ {V : Type 0} where
 
   -- ---- a leaf is cut off
 
-  module _ (nodes nodes' : List (Node V)) (heads heads' : List ℕ) (x key link : ℕ) (r : IsIndexed nodes heads) (bare : (i : ℕ) → link_at nodes x i ≡ 0)
-      (link_is : link ≡ suc x) (led : IsLed (length heads) (out_at nodes heads) (out_at nodes' heads') key link 0) (same : SameEntries nodes nodes') (len : length heads' ≡ length heads) where
+  module _ (nodes nodes' : List (Node V)) (heads heads' : List ℕ) (x above side : ℕ) (r : IsIndexed nodes heads) (bare : (i : ℕ) → link_at nodes x i ≡ 0) (hung : IsHung nodes heads x above side)
+      (cut : IsTurned (out_at nodes heads) (out_at nodes' heads') above side (suc x) 0) (same : SameEntries nodes nodes') (len : length heads' ≡ length heads) where
     pub planted_cut : IsPlanted nodes' heads' (length nodes') (suc x)
     planted_cut =
         let l = same_len nodes nodes' same in
-        let w = on_way (length heads) (key_at nodes) (out_at nodes heads) r.deep (length nodes) 0 r.tree key led.depth led.u led.on in
-        let cut : IsTurned (out_at nodes heads) (out_at nodes' heads') led.u (turn (length heads) led.depth key) (suc x) 0 = rw link_is at led.turned in
-        let tree = cut_off (length heads) (key_at nodes) (out_at nodes heads) (out_at nodes' heads') r.deep (length nodes) r.tree led.u _ (suc x) (omega arith) w.0 bare cut in
+        let tree = cut_off (length heads) (key_at nodes) (out_at nodes heads) (out_at nodes' heads') r.deep (length nodes) r.tree above side (suc x) (omega arith) hung.inside bare cut in
         record {
           deep = r.deep;
           tree = rw (len, l) (keys_changed (length heads) (key_at nodes) (key_at nodes') (out_at nodes' heads') r.deep (length nodes) (suc x) (λ v e h. ap (turn (length heads) e) (sym (keys_same nodes nodes' v same))) tree);

@@ -5,7 +5,7 @@ use Rattle.std.specs.Int.{bit_at}
 use Rattle.std.proofs.lemmas.List.{get_or-set_same, get_or-set_other}
 use Rattle.std.proofs.lemmas.Option.{slice_get_within, slice_get-map, slice_get_read}
 use Rattle.number_map.specs.declared.Node.{Node}
-use Rattle.number_map.specs.Kept.{slot, head_at, key_in, link_in, key_at, link_at, out_at, entry_of, entries_of, follow, walk, IsPlanted, IsIndexed, IsWay, IsLed, IsLedBelow, HasKey, SameEntries}
+use Rattle.number_map.specs.Kept.{slot, head_at, key_in, link_in, key_at, link_at, out_at, entry_of, entries_of, follow, walk, IsPlanted, IsIndexed, IsWay, IsTurned, IsLed, IsLedBelow, IsHung, HasKey, SameEntries}
 use Rattle.number_map.proofs.Trees.{equal_or_not, lower, shares, found, stops, next_bits, left, left_less, ended}
 
 pub same_some : {A : Type 0} (x y : A) → Some x ≡ Some y → x ≡ y
@@ -334,3 +334,33 @@ module _ {V : Type 0} where
         on = (b.on, omega arith);
         turned = record { was = b.was; is = b.is; others = λ w j d. others_on old new heads (head_at heads key) key from to b w j d };
       }
+
+  -- ---- the link that leads to a place, from the head on
+
+  module _ (nodes : List (Node V)) (heads : List ℕ) (place above side : ℕ) (hung : IsHung nodes heads place above side) where
+    pub cut_head : above ≡ 0 → IsTurned (out_at nodes heads) (out_at nodes (slice_set heads side 0)) above side (suc place) 0
+    cut_head z = record {
+      was = hung.leads;
+      is = ap (λ u. out_at nodes (slice_set heads side 0) u side) z ∙ get_or-set_same heads side 0 0 (hung.slot z);
+      others = λ w j d. others_head nodes heads side 0 w j (λ e f. d (e ∙ sym z) f);
+    }
+
+    cut_others : (n m : Node V) → slice_get nodes (above - 1) ≡ Some n → ((i : ℕ) → i ≢ side → slice_index_or m.links i 0 ≡ slice_index_or n.links i 0)
+        → (w j : ℕ) → (w ≡ suc (above - 1) → j ≡ side → ⊥) → out_at (slice_set nodes (above - 1) m) heads w j ≡ out_at nodes heads w j
+    cut_others n m at others zero j d = refl
+    cut_others n m at others (suc y) j d = elim (equal_or_not y (above - 1)) [
+      | inl e ↦
+          ap (λ z. link_at (slice_set nodes (above - 1) m) z j) e ∙ turned_here nodes (above - 1) n m at j ∙ others j (λ f. d (ap (λ k. suc k) e) f)
+          ∙ sym (link_of_some nodes (above - 1) j n at) ∙ ap (λ z. link_at nodes z j) (sym e)
+      | inr o ↦ turned_other nodes (above - 1) n m at y j o
+    ]
+
+    pub cut_node : 0 < above → (n m : Node V) → slice_get nodes (above - 1) ≡ Some n → slice_index_or m.links side 0 ≡ 0 → ((i : ℕ) → i ≢ side → slice_index_or m.links i 0 ≡ slice_index_or n.links i 0)
+        → IsTurned (out_at nodes heads) (out_at (slice_set nodes (above - 1) m) heads) above side (suc place) 0
+    cut_node some n m at here others =
+        let up : above ≡ suc (above - 1) = omega arith in
+        record {
+          was = hung.leads;
+          is = ap (λ u. out_at (slice_set nodes (above - 1) m) heads u side) up ∙ turned_here nodes (above - 1) n m at side ∙ here;
+          others = λ w j d. cut_others n m at others w j (λ e f. d (e ∙ sym up) f);
+        }

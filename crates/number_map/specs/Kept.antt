@@ -135,6 +135,13 @@ module _ {V : Type 0} where
     pub is : link_at new x (bit_at key depth) ≡ to
     pub others : (w j : ℕ) → (w ≡ x → j ≡ bit_at key depth → ⊥) → link_at new w j ≡ link_at old w j
 
+  -- A link leads to the node at this place: one of the node above, or of the root, a head.
+  pub record IsHung (nodes : List (Node V)) (heads : List ℕ) (place above side : ℕ) : Type 0 where
+    pub inside : above ≤ length nodes
+    pub leads : out_at nodes heads above side ≡ suc place
+    pub few : above ≢ 0 → side < 2
+    pub slot : above ≡ 0 → side < length heads
+
   -- A link leads to a leaf from this place down, whose key turns as the key there down to the place.
   pub record IsAboveLeaf (nodes : List (Node V)) (place above side leaf : ℕ) : Type 0 where
     pub inside : above < length nodes

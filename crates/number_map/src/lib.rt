@@ -14,7 +14,7 @@ ghost use Rattle.std.specs.Prelude.{◌≡◌, ◌≢◌, ℕ, suc, ◌+◌, ◌
 ghost use Rattle.std.specs.Borrow.{sem};
 ghost use Rattle.std.specs.FinMap as map;
 ghost use Rattle.std.specs.Vec.{vec_capacity};
-ghost use Rattle.number_map.specs.Kept.{slot as slot_for, walk, key_at, link_at, out_at, head_at, IsWay, IsLed, IsLedBelow, IsAboveLeaf, IsPlanted, IsIndexed, HasKey, IsUnique, entries_of, SameEntries, IsRaised, IsMoved, IsTakenOut};
+ghost use Rattle.number_map.specs.Kept.{slot as slot_for, walk, key_at, link_at, out_at, head_at, IsWay, IsTurned, IsLed, IsLedBelow, IsHung, IsAboveLeaf, IsPlanted, IsIndexed, HasKey, IsUnique, entries_of, SameEntries, IsRaised, IsMoved, IsTakenOut};
 
 use std::alloc::{AllocError, Global};
 use std::marker::Model;
@@ -127,6 +127,44 @@ fn find<V: Copy>(nodes: &[Node<V>], heads: &[u32], key: u64) -> Option<usize>
     None
 }
 
+// Where a key lies, and which link leads there: one of the node at the place before `above`, or a head
+// where that is 0.
+#[derive(Clone, Copy)]
+struct Spot {
+    place: usize,
+    above: usize,
+    side: usize,
+}
+
+// Where the key lies, and the link that leads there.
+#[inline(always)]
+fn find_spot<V: Copy>(nodes: &[Node<V>], heads: &[u32], key: u64) -> Option<Spot>
+    requires { IsIndexed nodes.now heads.now }
+    ensures found { (s : Spot) → result ≡ Some s → HasKey nodes.now key s.place }
+    ensures hung { (s : Spot) → result ≡ Some s → IsHung nodes.now heads.now s.place s.above s.side }
+    ensures missing { result ≡ None → (x : ℕ) → HasKey nodes.now key x → ⊥ }
+{
+    if heads.is_empty() {
+        return None;
+    }
+    let mut above = 0;
+    let mut side = slot_of(key, heads.len());
+    let mut link = heads[side] as usize;
+    let mut bits = key;
+    while link > 0 {
+        let place = link - 1;
+        let node = &nodes[place];
+        if node.key.number() == key {
+            return Some(Spot { place, above, side });
+        }
+        above = link;
+        side = (bits % 2) as usize;
+        link = node.links[side] as usize;
+        bits /= 2;
+    }
+    None
+}
+
 // One link of a node leads there from now on.
 fn turn_link<V: Copy>(node: &mut Node<V>, side: usize, to: u32)
     requires { side < 2 }
@@ -234,23 +272,36 @@ fn raise_leaf<V: Copy>(nodes: &mut [Node<V>], place: usize) -> usize
     leaf
 }
 
+// A link that leads to a leaf leads nowhere from now on.
+fn cut_link<V: Copy>(nodes: &mut [Node<V>], heads: &mut [u32], spot: Spot)
+    requires hung { IsHung nodes.old heads.old spot.place spot.above spot.side }
+    ensures turned { IsTurned (out_at nodes.old heads.old) (out_at nodes.new heads.new) spot.above spot.side (suc spot.place) 0 }
+    ensures entries { SameEntries nodes.old nodes.new }
+    ensures heads { length heads.new ≡ length heads.old }
+{
+    if spot.above > 0 {
+        turn_link(&mut nodes[spot.above - 1], spot.side, 0);
+    } else {
+        heads[spot.side] = 0;
+    }
+}
+
 // Takes an entry out of its tree: its node, if that is a leaf, or else a leaf below it, whose entry then
 // stands in its place. Returns the place that no link leads to.
 #[inline(always)]
-fn cut_out<V: Copy>(nodes: &mut [Node<V>], heads: &mut [u32], key: u64, place: usize) -> usize
-    requires place { place < length nodes.old }
-    requires key { key_at nodes.old (suc place) ≡ key }
+fn cut_out<V: Copy>(nodes: &mut [Node<V>], heads: &mut [u32], spot: Spot) -> usize
+    requires place { spot.place < length nodes.old }
+    requires hung { IsHung nodes.old heads.old spot.place spot.above spot.side }
     requires indexed { IsIndexed nodes.old heads.old }
-    requires few { length nodes.old < 2 ^ 32 }
     ensures planted { IsPlanted nodes.new heads.new (length nodes.new) (suc result) }
-    ensures raised { IsRaised nodes.old nodes.new place result }
+    ensures raised { IsRaised nodes.old nodes.new spot.place result }
     ensures heads { length heads.new ≡ length heads.old }
 {
-    if is_leaf(&nodes[place]) {
-        lead(nodes, heads, key, (place + 1) as u32, 0);
-        return place;
+    if is_leaf(&nodes[spot.place]) {
+        cut_link(nodes, heads, spot);
+        return spot.place;
     }
-    raise_leaf(nodes, place)
+    raise_leaf(nodes, spot.place)
 }
 
 // Moves the last node to a place that no link leads to.
@@ -283,17 +334,17 @@ fn close<V: Copy>(nodes: &mut Vec<Node<V>>, heads: &mut Vec<u32>, hole: usize)
 
 // Takes an entry out of the row.
 #[inline(always)]
-fn take_out<V: Copy>(nodes: &mut Vec<Node<V>>, heads: &mut Vec<u32>, key: u64, place: usize)
-    requires place { place < length nodes.old.items }
-    requires key { key_at nodes.old.items (suc place) ≡ key }
+fn take_out<V: Copy>(nodes: &mut Vec<Node<V>>, heads: &mut Vec<u32>, spot: Spot)
+    requires place { spot.place < length nodes.old.items }
+    requires hung { IsHung nodes.old.items heads.old.items spot.place spot.above spot.side }
     requires indexed { IsIndexed nodes.old.items heads.old.items }
     requires few { length nodes.old.items < 2 ^ 32 }
     ensures indexed { IsIndexed nodes.new.items heads.new.items }
-    ensures nodes { IsTakenOut nodes.old.items nodes.new.items place }
+    ensures nodes { IsTakenOut nodes.old.items nodes.new.items spot.place }
     ensures heads { length heads.new.items ≡ length heads.old.items }
     ensures capacity { vec_capacity nodes.new ≡ vec_capacity nodes.old }
 {
-    let hole = cut_out(nodes.as_mut_slice(), heads.as_mut_slice(), key, place);
+    let hole = cut_out(nodes.as_mut_slice(), heads.as_mut_slice(), spot);
     close(nodes, heads, hole);
 }
 
@@ -378,18 +429,19 @@ fn fit<V: Copy>(
     ensures entries { SameEntries nodes.old.items nodes.new.items }
     ensures fits { wanted ≤ vec_capacity nodes.new }
 {
-    // Small maps end here, at the least cost.
     let capacity = nodes.capacity();
-    if heads.len() >= capacity {
-        return Ok(());
-    }
-    let trees = trees_for(capacity);
-    if heads.len() >= trees {
-        if wanted < capacity / MOST_TIMES {
+    if capacity < MANY_NODES {
+        if heads.len() >= capacity {
+            return Ok(());
+        }
+    } else if heads.len() >= capacity / 2 {
+        let few = capacity / MOST_TIMES;
+        if nodes.len() < few && wanted < few {
             narrow(nodes, heads, wanted * 2);
         }
         return Ok(());
     }
+    let trees = trees_for(capacity);
     let slots = trees.checked_next_power_of_two().ok_or(AllocError)?;
     make_slots(heads, slots)?;
     link_all(nodes.as_mut_slice(), heads.as_mut_slice());
@@ -518,26 +570,26 @@ impl<V: Copy> NumberMap<V> {
     }
 
     /// Takes a key out, if it is there, and returns its value. The room for new keys stays as it was.
-    /// Constant time: reads 200 nodes at most.
+    /// Constant time: reads 130 nodes at most.
     #[inline(always)]
     pub fn remove(&mut self, key: u64) -> Option<V>
         ensures value { result ≡ map.get self.old.map key }
         ensures after { self.new ≡ record self.old { map = map.remove self.old.map key } }
     {
-        let place = find(&self.nodes, &self.heads, key)?;
-        let value = self.nodes[place].value;
-        take_out(&mut self.nodes, &mut self.heads, key, place);
+        let spot = find_spot(&self.nodes, &self.heads, key)?;
+        let value = self.nodes[spot.place].value;
+        take_out(&mut self.nodes, &mut self.heads, spot);
         Some(value)
     }
 
-    /// Takes a key out that is there, and keeps its place as room for another. Constant time: reads 200
+    /// Takes a key out that is there, and keeps its place as room for another. Constant time: reads 130
     /// nodes at most.
     pub fn release(&mut self, key: u64)
         requires { map.contains_key self.old.map key ≡ true }
         ensures { self.new ≡ record { map = map.remove self.old.map key; room = self.old.room + 1 } }
     {
-        if let Some(held) = find(&self.nodes, &self.heads, key) {
-            take_out(&mut self.nodes, &mut self.heads, key, held);
+        if let Some(spot) = find_spot(&self.nodes, &self.heads, key) {
+            take_out(&mut self.nodes, &mut self.heads, spot);
             self.room += 1;
         }
     }
