@@ -1,6 +1,7 @@
-//! What lies in the queues of ports: messages that were sent, and notices.
+//! What the tables keep: messages and notices in the queues of ports, and the names of a task.
 //!
-//! A [`Queued`] is a [`Message`] with its bytes and its rights, or a [`Notice`] as a few numbers.
+//! A [`Queued`] is a [`Message`] with its bytes and its rights, or a [`Notice`] as a few numbers. A [`TaskNames`] has the names
+//! of one task, with the right under each.
 #![tactic(auto)]
 
 mod envelope;
