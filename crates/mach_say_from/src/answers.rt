@@ -1,5 +1,5 @@
 //! Replies in the words of the notation.
-use crate::teller::{TellFault, Teller, acts_for};
+use crate::teller::{Teller, acts_for};
 use crate::words::Actor;
 use kernel_lock::Entry;
 use mach_types::{Event, Name, Reply, Status, TaskId, Waited};
@@ -17,41 +17,36 @@ impl Teller {
         entry: &Entry,
         behind: &[Entry],
         line: &mut Text,
-    ) -> Result<Option<()>, TellFault> {
+    ) -> Option<()> {
         self.table.set_waits(&actor.word, &None);
         match &entry.reply {
-            Reply::Name(_) | Reply::Right(_, _) | Reply::Code(0) => Ok(Some(())),
+            Reply::Name(_) | Reply::Right(_, _) | Reply::Code(0) => Some(()),
             Reply::Message(bytes) => {
                 line.words(" => ");
                 self.received(actor.task, bytes.as_slice(), line)
             }
             Reply::Previous(name) => {
-                line.words(" => previous ");
-                self.previous(actor.task, *name, line)
+                self.previous(actor.task, *name, line);
+                Some(())
             }
             Reply::Empty(waited) => {
                 self.empty(actor, waited, behind, line);
-                Ok(Some(()))
+                Some(())
             }
             reply => {
                 line.words(" => ");
-                Ok(self.plain_answer(actor.task, &entry.event, reply, line))
+                self.plain_answer(actor.task, &entry.event, reply, line)
             }
         }
     }
 
     /// Writes the right that a request had.
-    fn previous(
-        &mut self,
-        task: TaskId,
-        name: Name,
-        line: &mut Text,
-    ) -> Result<Option<()>, TellFault> {
+    fn previous(&mut self, task: TaskId, name: Name, line: &mut Text) {
+        line.words(" => previous ");
         match name.number() {
             0 => line.words("none"),
-            _ => self.new_right(task, name, line)?,
+            _ => self.new_right(task, name, line),
         }
-        Ok(Some(()))
     }
 
     /// Writes that there is no message, or that the caller waits if its next call is to receive again.

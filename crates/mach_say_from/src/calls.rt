@@ -1,7 +1,7 @@
 //! Calls in the words of the notation.
 use crate::kinds::{disposition_word, make_word, right_word, variant_word};
 use crate::label::Label;
-use crate::teller::{TellFault, Teller};
+use crate::teller::Teller;
 use crate::words::Actor;
 use kernel_lock::Entry;
 use mach_types::{Event, Name, Reply, TaskId};
@@ -20,7 +20,7 @@ impl Teller {
         entry: &Entry,
         line: &mut Text,
         out: &mut Text,
-    ) -> Result<Option<()>, TellFault> {
+    ) -> Option<()> {
         match event {
             Event::Send(task, bytes) => self.send(*task, bytes.as_slice(), line, out),
             Event::Allocate(task, right) => self.make(*task, *right, None, &entry.reply, line),
@@ -38,8 +38,11 @@ impl Teller {
                     line,
                 )
             }
-            Event::Rename(task, name, to) => self.rename(*task, *name, *to, &entry.reply, line),
-            event => Ok(self.plain_call(actor, event, line)),
+            Event::Rename(task, name, to) => {
+                self.rename(*task, *name, *to, &entry.reply, line);
+                Some(())
+            }
+            event => self.plain_call(actor, event, line),
         }
     }
 
@@ -51,23 +54,16 @@ impl Teller {
         chosen: Option<Name>,
         reply: &Reply,
         line: &mut Text,
-    ) -> Result<Option<()>, TellFault> {
-        let Some(make) = make_word(right) else {
-            return Ok(None);
-        };
-        line.words(make);
+    ) -> Option<()> {
+        line.words(make_word(right)?);
         match reply {
-            Reply::Name(name) => {
-                let word = self.new_word(task, *name)?;
-                line.plain(word.text());
-                self.bind(task, word, *name)?;
-            }
+            Reply::Name(name) => self.new_right(task, *name, line),
             _ => line.words("unmade"),
         }
         if let Some(chosen) = chosen {
             line.around(" as ", chosen.number(), "");
         }
-        Ok(Some(()))
+        Some(())
     }
 
     /// Writes `give DISP NAME to TASK`; `None` if one of the words is missing.
@@ -89,33 +85,24 @@ impl Teller {
         to: TaskId,
         reply: &Reply,
         line: &mut Text,
-    ) -> Result<Option<()>, TellFault> {
+    ) -> Option<()> {
         let (task, name, _) = right;
-        if self.give(right, to, line).is_none() {
-            return Ok(None);
-        }
+        self.give(right, to, line)?;
         if let Reply::Right(fresh, _) = reply {
             let own = self.table.word(task, name);
-            self.write_as(&own, to, *fresh, line)?;
+            self.write_as(&own, to, *fresh, line);
         }
-        Ok(Some(()))
+        Some(())
     }
 
     /// Gives a word to a fresh name of the task. Writes `as` and the word, if it isn't `own`.
-    fn write_as(
-        &mut self,
-        own: &Option<Label>,
-        task: TaskId,
-        fresh: Name,
-        line: &mut Text,
-    ) -> Result<(), TellFault> {
-        let word = self.new_word(task, fresh)?;
+    fn write_as(&mut self, own: &Option<Label>, task: TaskId, fresh: Name, line: &mut Text) {
+        let word = self.new_word(task, fresh);
         if !is_word(own, &word) {
             line.words(" as ");
             line.plain(word.text());
         }
-        self.bind(task, word, fresh)?;
-        Ok(())
+        self.bind(task, word, fresh);
     }
 
     /// Writes the call that gives a right under a chosen name.
@@ -125,36 +112,24 @@ impl Teller {
         under: (TaskId, Name),
         reply: &Reply,
         line: &mut Text,
-    ) -> Result<Option<()>, TellFault> {
+    ) -> Option<()> {
         let (task, name, _) = right;
         let (to, chosen) = under;
-        if self.give(right, to, line).is_none() {
-            return Ok(None);
-        }
+        self.give(right, to, line)?;
         line.around(" as ", chosen.number(), "");
-        if let Reply::Code(0) = reply {
-            if let Some(word) = self.table.word(task, name) {
-                self.bind(to, word, chosen)?;
-            }
+        if let (Reply::Code(0), Some(word)) = (reply, self.table.word(task, name)) {
+            self.bind(to, word, chosen);
         }
-        Ok(Some(()))
+        Some(())
     }
 
     /// Writes `rename NAME to NUMBER`.
-    fn rename(
-        &mut self,
-        task: TaskId,
-        name: Name,
-        to: Name,
-        reply: &Reply,
-        line: &mut Text,
-    ) -> Result<Option<()>, TellFault> {
+    fn rename(&mut self, task: TaskId, name: Name, to: Name, reply: &Reply, line: &mut Text) {
         self.named("rename ", task, name, line);
         line.around(" to ", to.number(), "");
         if let Reply::Code(0) = reply {
             self.table.rename(task, name, to);
         }
-        Ok(Some(()))
     }
 
     /// Writes a call that gives nothing a word.

@@ -1,7 +1,7 @@
 //! Messages in the words of the notation.
 use crate::kinds::{disposition_word, kind_word};
 use crate::label::Label;
-use crate::teller::{TellFault, Teller};
+use crate::teller::Teller;
 use crate::words::Declared;
 use mach_say_fits::{BodyRights, CarriedRight, TOLD_AT, has_data, right_at, write_sent};
 use mach_types::{Disposition, Name, TaskId};
@@ -31,43 +31,36 @@ impl Teller {
         bytes: &[u8],
         line: &mut Text,
         out: &mut Text,
-    ) -> Result<Option<()>, TellFault> {
-        let Some(parts) = parts_of(self.alloc, bytes) else {
-            return Ok(None);
-        };
-        match self.declare(parts.header.id, parts.data.as_slice(), out)? {
-            Some(word) => {
-                self.write_send(task, &word, &parts, line);
-                Ok(Some(()))
-            }
-            None => Ok(None),
-        }
+    ) -> Option<()> {
+        let parts = parts_of(self.alloc, bytes)?;
+        let word = self.declare(parts.header.id, parts.data.as_slice(), out)?;
+        self.write_send(task, &word, &parts, line);
+        Some(())
     }
 
     /// Returns the word of the message with this id and data. If no message has the id, writes the statement of a new one.
     /// `None` if the message with the id has other data.
-    fn declare(
-        &mut self,
-        id: u32,
-        data: &[u8],
-        out: &mut Text,
-    ) -> Result<Option<Label>, TellFault> {
+    fn declare(&mut self, id: u32, data: &[u8], out: &mut Text) -> Option<Label> {
         if let Some(message) = self.table.message(id) {
-            return Ok(word_if(message, data));
+            return word_if(message, data);
         }
         let mut label = Text::new(self.alloc);
         self.labels.write_id(id, &mut label);
-        let word = self.table.free_message(&Label::of(label.whole()?));
+        let label = self.table.label(&label);
+        let word = self.table.free_message(&label);
         write_declared(&word, id, data, out);
+        self.add_message(id, word, data);
+        Some(word)
+    }
+
+    /// Adds a message with this word.
+    fn add_message(&mut self, id: u32, word: Label, data: &[u8]) {
         let mut copy = Vec::new(self.alloc);
-        copy.extend_from_slice(data)?;
-        self.table.messages.reserve(1)?;
-        let _ = self.table.messages.push(Declared {
-            id,
-            word,
-            data: copy,
-        });
-        Ok(Some(word))
+        if copy.extend_from_slice(data).is_err() {
+            self.table.lack_word();
+        }
+        let data = copy;
+        self.table.add_message(Declared { id, word, data });
     }
 
     /// Writes `send MESSAGE by DISP NAME answer DISP NAME with DISP NAME, NAME ..`.
@@ -104,22 +97,16 @@ impl Teller {
     }
 
     /// Writes the message that a task received, and gives words to its rights; `None` if the notation has no such message.
-    pub(crate) fn received(
-        &mut self,
-        task: TaskId,
-        bytes: &[u8],
-        line: &mut Text,
-    ) -> Result<Option<()>, TellFault> {
+    pub(crate) fn received(&mut self, task: TaskId, bytes: &[u8], line: &mut Text) -> Option<()> {
         let Some(message) = read_received(bytes) else {
-            return Ok(None);
+            return None;
         };
         if self.table.message(message.header.id).is_none() {
             return self.notice(task, &message, bytes, line);
         }
-        match self.word_with(&message) {
-            Some(word) => self.write_received(task, &message, &word, line),
-            None => Ok(None),
-        }
+        let word = self.word_with(&message)?;
+        self.write_received(task, &message, &word, line);
+        Some(())
     }
 
     /// Returns the word of a message that was received; `None` if it has other data, or a right of an unknown kind.
@@ -138,48 +125,35 @@ impl Teller {
         message: &Received<'_>,
         word: &Label,
         line: &mut Text,
-    ) -> Result<Option<()>, TellFault> {
+    ) {
         line.plain(word.text());
         line.words(" at ");
         self.name(task, message.header.local, line);
         if message.header.remote_kind != 0 {
             line.words(" answer ");
-            self.new_right(task, message.header.remote, line)?;
+            self.new_right(task, message.header.remote, line);
         }
-        self.carried(task, &message.body, line)?;
-        Ok(Some(()))
+        self.carried(task, &message.body, line);
     }
 
     /// Writes `with KIND WORD` for each right of a body.
-    fn carried(
-        &mut self,
-        task: TaskId,
-        body: &ReceivedBody<'_>,
-        line: &mut Text,
-    ) -> Result<(), TellFault> {
+    fn carried(&mut self, task: TaskId, body: &ReceivedBody<'_>, line: &mut Text) {
         for number in 0..MOST_RIGHTS {
             let Some(right) = right_at(body, number) else {
-                return Ok(());
+                return;
             };
             line.words(" with ");
             line.words(kind_word(right.kind).unwrap_or("send"));
             line.words(" ");
-            self.new_right(task, right.name, line)?;
+            self.new_right(task, right.name, line);
         }
-        Ok(())
     }
 
     /// Gives a word to a right that a task got, and writes the word.
-    pub(crate) fn new_right(
-        &mut self,
-        task: TaskId,
-        name: Name,
-        line: &mut Text,
-    ) -> Result<(), TellFault> {
-        let word = self.new_word(task, name)?;
+    pub(crate) fn new_right(&mut self, task: TaskId, name: Name, line: &mut Text) {
+        let word = self.new_word(task, name);
         line.plain(word.text());
-        self.bind(task, word, name)?;
-        Ok(())
+        self.bind(task, word, name);
     }
 
     /// Writes a notice; `None` if the message is none.
@@ -189,22 +163,20 @@ impl Teller {
         message: &Received<'_>,
         bytes: &[u8],
         line: &mut Text,
-    ) -> Result<Option<()>, TellFault> {
-        let Some(notice) = notice_word(message.header.id) else {
-            return Ok(None);
-        };
+    ) -> Option<()> {
+        let notice = notice_word(message.header.id)?;
         line.words("notice ");
         line.words(notice);
         if let Some(told) = word_at(bytes, TOLD_AT) {
-            self.told(task, message.header.id, told, line)?;
+            self.told(task, message.header.id, told, line);
         }
         line.words(" at ");
         self.name(task, message.header.local, line);
-        Ok(Some(()))
+        Some(())
     }
 
     /// Writes what a notice with this id tells: a name, a count or a right.
-    fn told(&mut self, task: TaskId, id: u32, told: u32, line: &mut Text) -> Result<(), TellFault> {
+    fn told(&mut self, task: TaskId, id: u32, told: u32, line: &mut Text) {
         match id {
             65 | 72 => {
                 line.words(" ");
@@ -212,12 +184,11 @@ impl Teller {
             }
             69 => {
                 line.words(" ");
-                self.new_right(task, Name::new(told), line)?;
+                self.new_right(task, Name::new(told), line);
             }
             70 => line.around(" ", told, ""),
             _ => {}
         }
-        Ok(())
     }
 }
 

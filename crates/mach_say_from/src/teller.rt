@@ -80,7 +80,7 @@ impl Teller {
         Ok(())
     }
 
-    /// Writes the statement of an entry. `behind` are the entries behind it.
+    /// Writes the statement of the entry of this number. `behind` are the entries behind it.
     fn tell_entry(
         &mut self,
         entry: &Entry,
@@ -88,109 +88,110 @@ impl Teller {
         number: u64,
         out: &mut Text,
     ) -> Result<(), TellFault> {
-        if let (Event::TaskCreate, Reply::Task(task)) = (&entry.event, &entry.reply) {
-            return self.tell_task(*task, out);
-        }
-        match self.actor_of(entry, out)? {
-            Some(actor) => self.tell_call(&actor, entry, behind, out),
-            None => match self.table.idle_actor() {
-                Some(actor) => self.tell_raw(&actor, entry, out),
-                None => Err(TellFault::Nobody(number)),
-            },
+        let is_told = self.tell_one(entry, behind, out);
+        if !self.table.is_whole() {
+            Err(TellFault::OutOfMemory)
+        } else if is_told {
+            Ok(())
+        } else {
+            Err(TellFault::Nobody(number))
         }
     }
 
+    /// Writes the statement of an entry, and returns whether a task could make its call.
+    fn tell_one(&mut self, entry: &Entry, behind: &[Entry], out: &mut Text) -> bool {
+        if let (Event::TaskCreate, Reply::Task(task)) = (&entry.event, &entry.reply) {
+            self.tell_task(*task, out);
+            return true;
+        }
+        match self.actor_of(entry, out) {
+            Some(actor) => self.tell_call(&actor, entry, behind, out),
+            None => match self.table.idle_actor() {
+                Some(actor) => self.tell_raw(&actor, entry, out),
+                None => return false,
+            },
+        }
+        true
+    }
+
     /// Writes the statement of an entry's call. One for which the notation has no words stands behind `raw`.
-    fn tell_call(
+    fn tell_call(&mut self, actor: &Actor, entry: &Entry, behind: &[Entry], out: &mut Text) {
+        let mut line = Text::new(self.alloc);
+        if self.is_told(actor, entry, behind, &mut line, out) {
+            end_line(actor, &line, out);
+        } else {
+            self.tell_raw(actor, entry, out);
+        }
+    }
+
+    /// Writes the entry's call and its answer, and returns whether the notation has words for both.
+    fn is_told(
         &mut self,
         actor: &Actor,
         entry: &Entry,
         behind: &[Entry],
+        line: &mut Text,
         out: &mut Text,
-    ) -> Result<(), TellFault> {
-        let mut line = Text::new(self.alloc);
-        if self
-            .call(actor, &entry.event, entry, &mut line, out)?
-            .is_some()
-            && self.answer(actor, entry, behind, &mut line)?.is_some()
-        {
-            end_line(actor, &line, out);
-            return Ok(());
-        }
-        self.tell_raw(actor, entry, out)
+    ) -> bool {
+        self.call(actor, &entry.event, entry, line, out).is_some()
+            && self.answer(actor, entry, behind, line).is_some()
     }
 
     /// Writes the statement that makes a task.
-    fn tell_task(&mut self, task: TaskId, out: &mut Text) -> Result<(), TellFault> {
+    fn tell_task(&mut self, task: TaskId, out: &mut Text) {
         let mut label = Text::new(self.alloc);
         self.labels.write_task(task, &mut label);
-        let word = self.table.free_actor(&Label::of(label.whole()?));
+        let label = self.table.label(&label);
+        let word = self.table.free_actor(&label);
         out.words("task ");
         out.plain(word.text());
         out.words("\n");
-        self.add_actor(0, task, word)
-    }
-
-    /// Adds a task or a thread.
-    fn add_actor(&mut self, caller: u64, task: TaskId, word: Label) -> Result<(), TellFault> {
-        self.table.actors.reserve(1)?;
-        let _ = self.table.actors.push(Actor {
-            caller,
-            task,
-            word,
-            waits: None,
-        });
-        Ok(())
+        self.table.add_actor(0, task, word);
     }
 
     /// Returns who makes the entry's call; `None` if no task of it was made. Writes the statement of a new thread.
-    fn actor_of(&mut self, entry: &Entry, out: &mut Text) -> Result<Option<Actor>, TellFault> {
-        let Some(task) = acts_for(&entry.event) else {
-            return Ok(None);
-        };
+    fn actor_of(&mut self, entry: &Entry, out: &mut Text) -> Option<Actor> {
+        let task = acts_for(&entry.event)?;
         if let Some(actor) = self.table.actor(entry.caller, task) {
-            return Ok(Some(actor));
+            return Some(actor);
         }
-        match self.table.task(task) {
-            Some(of) => self.add_thread(entry.caller, task, &of, out),
-            None => Ok(None),
-        }
+        let of = self.table.task(task)?;
+        self.add_thread(entry.caller, task, &of, out);
+        self.table.actor(entry.caller, task)
     }
 
-    /// Writes the statement of a thread, and returns the thread.
-    fn add_thread(
-        &mut self,
-        caller: u64,
-        task: TaskId,
-        of: &Label,
-        out: &mut Text,
-    ) -> Result<Option<Actor>, TellFault> {
+    /// Writes the statement of a thread, and adds the thread.
+    fn add_thread(&mut self, caller: u64, task: TaskId, of: &Label, out: &mut Text) {
         let mut label = Text::new(self.alloc);
         self.labels.write_caller(caller, task, &mut label);
-        let word = self.table.free_actor(&Label::of(label.whole()?));
+        let label = self.table.label(&label);
+        let word = self.table.free_actor(&label);
         out.words("thread ");
         out.plain(word.text());
         out.words(" of ");
         out.plain(of.text());
         out.words("\n");
-        self.add_actor(caller, task, word)?;
-        Ok(self.table.actor(caller, task))
+        self.table.add_actor(caller, task, word);
     }
 
     /// Writes the entry as a line of a script, with the reply's own text.
-    fn tell_raw(&mut self, actor: &Actor, entry: &Entry, out: &mut Text) -> Result<(), TellFault> {
-        let mut call = Vec::new(self.alloc);
-        if write_call(&entry.event, &mut call).is_err() {
-            return Err(TellFault::OutOfMemory);
-        }
+    fn tell_raw(&mut self, actor: &Actor, entry: &Entry, out: &mut Text) {
         self.table.set_waits(&actor.word, &None);
         out.plain(actor.word.text());
         out.words(": raw ");
-        out.plain(call.as_slice());
+        self.write_event(&entry.event, out);
         out.words(" => ");
         out.reply(&entry.reply);
         out.words("\n");
-        Ok(())
+    }
+
+    /// Writes the call as a script has it.
+    fn write_event(&mut self, event: &Event, out: &mut Text) {
+        let mut call = Vec::new(self.alloc);
+        if write_call(event, &mut call).is_err() {
+            self.table.lack_word();
+        }
+        out.plain(call.as_slice());
     }
 
     /// Writes a name of the task: its word, `null`, or its number.
@@ -203,13 +204,13 @@ impl Teller {
     }
 
     /// Returns the label of what the task's name stands for now.
-    fn label_of(&self, task: TaskId, name: Name) -> Result<Label, AllocError> {
+    fn label_of(&mut self, task: TaskId, name: Name) -> Label {
         let mut label = Text::new(self.alloc);
         match self.thing(task, name) {
             Some(thing) => self.write_thing(&thing, &mut label),
             None => label.words("dead"),
         }
-        Ok(Label::of(label.whole()?))
+        self.table.label(&label)
     }
 
     /// Returns the port or the set that the task's name stands for now.
@@ -229,15 +230,15 @@ impl Teller {
     }
 
     /// Returns a word for the task's new name: that of what it stands for, if no other name that is there has it.
-    pub(crate) fn new_word(&self, task: TaskId, name: Name) -> Result<Label, AllocError> {
-        let like = self.label_of(task, name)?;
+    pub(crate) fn new_word(&mut self, task: TaskId, name: Name) -> Label {
+        let like = self.label_of(task, name);
         for number in 1..NUMBERS {
             let word = like.numbered(number);
             if !word.is_reserved() && self.is_free(task, &word, name) {
-                return Ok(word);
+                return word;
             }
         }
-        Ok(like)
+        like
     }
 
     /// Whether no other name that the task has goes by the word.
@@ -249,11 +250,10 @@ impl Teller {
     }
 
     /// Has the word stand for the task's name. Null and dead names get none.
-    pub(crate) fn bind(&mut self, task: TaskId, word: Label, name: Name) -> Result<(), AllocError> {
-        if !is_name(name) {
-            return Ok(());
+    pub(crate) fn bind(&mut self, task: TaskId, word: Label, name: Name) {
+        if is_name(name) {
+            self.table.bind(task, word, name);
         }
-        self.table.bind(task, word, name)
     }
 }
 

@@ -1,7 +1,8 @@
 //! What the words of a storyboard stand for while it is made.
 use crate::label::{Label, NUMBERS};
 use mach_types::{Name, TaskId, Waited};
-use std::alloc::{AllocError, Global};
+use mach_words::Text;
+use std::alloc::Global;
 
 /// A task, or a thread of one.
 #[derive(Clone, Copy)]
@@ -36,11 +37,15 @@ pub(crate) struct Declared {
 }
 
 /// The words of a storyboard.
+///
+/// Its methods return no error. A word for which there is no memory is left out, and [`Table::is_whole`] is false from then on.
 #[derive(Drop)]
 pub(crate) struct Table {
     pub(crate) actors: Vec<Actor>,
-    pub(crate) messages: Vec<Declared>,
+    messages: Vec<Declared>,
     names: Vec<Named>,
+    // Whether a word was left out.
+    lacks_word: bool,
 }
 
 impl Table {
@@ -50,6 +55,48 @@ impl Table {
             actors: Vec::new(alloc),
             messages: Vec::new(alloc),
             names: Vec::new(alloc),
+            lacks_word: false,
+        }
+    }
+
+    /// Whether no word was left out.
+    pub(crate) fn is_whole(&self) -> bool {
+        !self.lacks_word
+    }
+
+    /// Notes that a word was left out.
+    pub(crate) fn lack_word(&mut self) {
+        self.lacks_word = true;
+    }
+
+    /// Returns the label that the text is.
+    pub(crate) fn label(&mut self, text: &Text) -> Label {
+        match text.whole() {
+            Ok(label) => Label::of(label),
+            Err(_) => {
+                self.lack_word();
+                Label::of(&[])
+            }
+        }
+    }
+
+    /// Adds a task, or a thread of one, that doesn't wait.
+    pub(crate) fn add_actor(&mut self, caller: u64, task: TaskId, word: Label) {
+        let actor = Actor {
+            caller,
+            task,
+            word,
+            waits: None,
+        };
+        if self.actors.push(actor).is_err() {
+            self.lack_word();
+        }
+    }
+
+    /// Adds a message.
+    pub(crate) fn add_message(&mut self, message: Declared) {
+        if self.messages.push(message).is_err() {
+            self.lack_word();
         }
     }
 
@@ -168,17 +215,22 @@ impl Table {
     }
 
     /// Has the word stand for the task's name, in place of all that it and the name had.
-    pub(crate) fn bind(&mut self, task: TaskId, word: Label, name: Name) -> Result<(), AllocError> {
+    pub(crate) fn bind(&mut self, task: TaskId, word: Label, name: Name) {
         self.forget(task, &word, name);
+        if !self.rebind(task, &word, name) && self.names.push(Named { task, name, word }).is_err() {
+            self.lack_word();
+        }
+    }
+
+    /// Has a word that the task had before stand for the name. Returns whether it had the word.
+    fn rebind(&mut self, task: TaskId, word: &Label, name: Name) -> bool {
         for named in self.names.as_mut_slice() {
-            if named.task == task && named.word.is(&word) {
+            if named.task == task && named.word.is(word) {
                 named.name = name;
-                return Ok(());
+                return true;
             }
         }
-        self.names.reserve(1)?;
-        let _ = self.names.push(Named { task, name, word });
-        Ok(())
+        false
     }
 
     /// Has no other word stand for the name, and the word for no name.
