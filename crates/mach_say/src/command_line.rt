@@ -14,50 +14,68 @@ pub struct Request<'a> {
     pub labels: Option<&'a str>,
 }
 
-/// A subcommand: its name, what it does, and the help for its file.
-type Subcommand = (&'static str, &'static str, &'static str);
+/// A subcommand.
+#[derive(Clone, Copy)]
+struct Subcommand {
+    name: &'static str,
+    about: &'static str,
+    // The help for its file.
+    file: &'static str,
+    // Whether it takes a file of labels.
+    has_labels: bool,
+}
 
 /// The help for a storyboard.
 const STORYBOARD: &str = "The storyboard; without it, standard input";
 
-/// The subcommands that read a storyboard.
+/// The subcommands.
 const SUBCOMMANDS: &[Subcommand] = &[
-    (
-        "check",
-        "Runs a storyboard, and says whether each reply is as said",
-        STORYBOARD,
-    ),
-    (
-        "trace",
-        "Runs a storyboard, and prints its history",
-        STORYBOARD,
-    ),
-    (
-        "script",
-        "Runs a storyboard, and prints its calls as a script",
-        STORYBOARD,
-    ),
-    (
-        "labels",
-        "Runs a storyboard, and prints its labels for mach_show",
-        STORYBOARD,
-    ),
+    Subcommand {
+        name: "check",
+        about: "Runs a storyboard, and says whether each reply is as said",
+        file: STORYBOARD,
+        has_labels: false,
+    },
+    Subcommand {
+        name: "trace",
+        about: "Runs a storyboard, and prints its history",
+        file: STORYBOARD,
+        has_labels: false,
+    },
+    Subcommand {
+        name: "script",
+        about: "Runs a storyboard, and prints its calls as a script",
+        file: STORYBOARD,
+        has_labels: false,
+    },
+    Subcommand {
+        name: "labels",
+        about: "Runs a storyboard, and prints its labels for mach_show",
+        file: STORYBOARD,
+        has_labels: false,
+    },
+    Subcommand {
+        name: "from",
+        about: "Makes a storyboard of a history",
+        file: "The history; without it, standard input",
+        has_labels: true,
+    },
 ];
-
-/// The subcommand that reads a history.
-const FROM: Subcommand = (
-    "from",
-    "Makes a storyboard of a history",
-    "The history; without it, standard input",
-);
 
 /// Reads the words of the command line. The first is the program's name.
 ///
 /// Returns clap's error if the words name no job, ask for help or the version, or if out of memory. Its kind says which,
 /// and its text is what to print. Time and memory are linear in the words.
 pub fn read_words<'a>(alloc: Global, words: &'a [String]) -> Result<Request<'a>, Error> {
-    let matches = program(alloc)?.try_get_matches_from(words)?;
-    Ok(request_of(&matches))
+    match matches_of(alloc, words) {
+        Ok(matches) => Ok(request_of(&matches)),
+        Err(error) => Err(error),
+    }
+}
+
+/// Returns what the words are matched with.
+fn matches_of<'a>(alloc: Global, words: &'a [String]) -> Result<ArgMatches<'a>, Error> {
+    program(alloc)?.try_get_matches_from(words)
 }
 
 /// Returns what the words ask for.
@@ -97,29 +115,38 @@ fn labels_named<'a>(name: &str, of_subcommand: &ArgMatches<'a>) -> Option<&'a st
 
 /// Makes the program's command line.
 fn program<'a>(alloc: Global) -> Result<Command<'a>, AllocError> {
-    let mut command = Command::new(alloc, "mach_say")
+    let commands = commands(alloc)?;
+    Command::new(alloc, "mach_say")
         .version("1.0")
         .about("Runs storyboards: protocols of Mach ports, written with names")
-        .subcommand_required(true);
+        .subcommand_required(true)
+        .subcommands(commands)
+}
+
+/// Makes the commands of the subcommands.
+fn commands<'a>(alloc: Global) -> Result<Vec<Command<'a>>, AllocError> {
+    let mut commands = Vec::new(alloc);
     for subcommand in SUBCOMMANDS {
-        command = command.subcommand(command_of(alloc, subcommand)?)?;
+        commands.push(command_of(alloc, subcommand)?)?;
     }
-    command.subcommand(from_command(alloc)?)
+    Ok(commands)
 }
 
 /// Makes the command of a subcommand.
 fn command_of<'a>(alloc: Global, subcommand: &Subcommand) -> Result<Command<'a>, AllocError> {
-    let (name, about, file) = *subcommand;
-    Command::new(alloc, name)
-        .about(about)
-        .arg(Arg::new(alloc, "FILE").help(file))
+    let command = Command::new(alloc, subcommand.name)
+        .about(subcommand.about)
+        .arg(Arg::new(alloc, "FILE").help(subcommand.file))?;
+    if subcommand.has_labels {
+        command.arg(labels_argument(alloc))
+    } else {
+        Ok(command)
+    }
 }
 
-/// Makes the command of the subcommand that reads a history.
-fn from_command<'a>(alloc: Global) -> Result<Command<'a>, AllocError> {
-    command_of(alloc, &FROM)?.arg(
-        Arg::new(alloc, "LABELS").long("labels").help(
-            "A file of labels: lines 'task N WORD', or with port, set, id or caller for task",
-        ),
+/// Makes the option that names a file of labels.
+fn labels_argument<'a>(alloc: Global) -> Arg<'a> {
+    Arg::new(alloc, "LABELS").long("labels").help(
+        "A file of labels: lines 'task N WORD', or with port, set, id or caller for task",
     )
 }
