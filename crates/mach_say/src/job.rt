@@ -3,15 +3,16 @@ ghost use Rattle.std.specs.Prelude.{◌≡◌, ◌≤◌, ℕ, List, [], OnOk, f
 ghost use Rattle.std.specs.Io.KnownBytes.{Appends};
 ghost use Rattle.mach_say.specs.Jobs.{IsDone, Prints, script_line};
 
-use crate::fault::{Fault, fault_of, report};
 use kernel_lock::Entry;
 use mach_say_base::{File, write_labels, write_stop};
 use mach_say_play::{Play, Stop, profile_of};
 use mach_say_syntax::{Storyboard, read_storyboard};
+use mach_show_base::{Fault, reason_of, report};
 use mach_words::Text;
 use std::alloc::Global;
 use std::io;
-use std::io::{Read, Write};
+use std::io::{ErrorKind, Read, Write};
+use std::rt::Stderr;
 use tracer::write_history;
 use tracer_base::write_call;
 
@@ -37,13 +38,13 @@ pub enum Job {
 ///
 /// Takes the time and memory of a kernel that makes the calls, and memory for the text, the history and the words. Each
 /// word is looked up in time linear in the words.
-pub fn perform<R: Read, W: Write, E: Write>(
+pub fn perform<R: Read, W: Write>(
     alloc: Global,
     job: Job,
     name: &str,
     file: &mut R,
     out: &mut W,
-    err: &mut E,
+    err: &mut Stderr,
 ) -> u8
     ensures status { result ≤ 1 }
     ensures done { result ≡ 0 → (text : List ℕ) × IsDone job text × Appends (W.contents out.old) (W.contents out.new) text }
@@ -58,46 +59,39 @@ pub fn perform<R: Read, W: Write, E: Write>(
     }
 }
 
-/// Does the job on the text of a file. It owns the statements, and does nothing else: each way out of a function drops what
-/// it owns, and is proved.
-fn perform_text<W: Write, E: Write>(
+/// Returns the fault for an error of reading the file of this name. Constant time.
+pub fn fault_of<'a>(name: &'a str, error: &io::Error) -> Fault<'a> {
+    match error.kind() {
+        ErrorKind::OutOfMemory => Fault::OutOfMemory,
+        _ => Fault::CannotRead(name, reason_of(error)),
+    }
+}
+
+/// Does the job on the text of a file. It owns the statements and the kernel, and does nothing else: each way out of a function
+/// drops what it owns, and is proved.
+fn perform_text<W: Write>(
     alloc: Global,
     job: Job,
     file: &File<'_>,
     out: &mut W,
-    err: &mut E,
+    err: &mut Stderr,
 ) -> u8
     ensures status { result ≤ 1 }
     ensures done { result ≡ 0 → (text : List ℕ) × IsDone job text × Appends (W.contents out.old) (W.contents out.new) text }
 {
     let storyboard = read_storyboard(alloc, file.text);
-    run(alloc, job, file, &storyboard, out, err)
+    let mut play = Play::new(alloc, profile_of(&storyboard));
+    run_on(&mut play, job, file, &storyboard, out, err)
 }
 
-/// Runs the storyboard, writes what the job makes, and returns the status.
-fn run<W: Write, E: Write>(
-    alloc: Global,
-    job: Job,
-    file: &File<'_>,
-    storyboard: &Storyboard<'_>,
-    out: &mut W,
-    err: &mut E,
-) -> u8
-    ensures status { result ≤ 1 }
-    ensures done { result ≡ 0 → (text : List ℕ) × IsDone job text × Appends (W.contents out.old) (W.contents out.new) text }
-{
-    let mut play = Play::new(alloc, profile_of(storyboard));
-    run_on(&mut play, job, file, storyboard, out, err)
-}
-
-/// The same, on a kernel on which no call was made.
-fn run_on<W: Write, E: Write>(
+/// Runs the storyboard on a kernel on which no call was made, writes what the job makes, and returns the status.
+fn run_on<W: Write>(
     play: &mut Play,
     job: Job,
     file: &File<'_>,
     storyboard: &Storyboard<'_>,
     out: &mut W,
-    err: &mut E,
+    err: &mut Stderr,
 ) -> u8
     requires unused { play.now.stage.entries ≡ [] }
     ensures status { result ≤ 1 }
@@ -110,7 +104,7 @@ fn run_on<W: Write, E: Write>(
 }
 
 /// Writes what the job makes of a storyboard that was run, and returns the status.
-fn finish<W: Write, E: Write>(play: &Play, job: Job, out: &mut W, err: &mut E) -> u8
+fn finish<W: Write>(play: &Play, job: Job, out: &mut W, err: &mut Stderr) -> u8
     ensures status { result ≤ 1 }
     ensures done { result ≡ 0 → (text : List ℕ) × Prints job play.now.stage.profile play.now.stage.entries text × Appends (W.contents out.old) (W.contents out.new) text }
 {
@@ -121,12 +115,12 @@ fn finish<W: Write, E: Write>(play: &Play, job: Job, out: &mut W, err: &mut E) -
 }
 
 /// Writes the fault that ended the storyboard to `err`, and returns the status.
-fn tell_stop<E: Write>(
+fn tell_stop(
     play: &Play,
     storyboard: &Storyboard<'_>,
     file: &File<'_>,
     stop: &Stop,
-    err: &mut E,
+    err: &mut Stderr,
 ) -> u8
     ensures { result ≡ 1 }
 {
@@ -136,7 +130,7 @@ fn tell_stop<E: Write>(
 }
 
 /// Writes the fault of a statement to `err`, and returns the status. An error of `err` is ignored.
-fn tell<E: Write>(text: &Text, err: &mut E) -> u8
+fn tell(text: &Text, err: &mut Stderr) -> u8
     ensures { result ≡ 1 }
 {
     match text.whole() {

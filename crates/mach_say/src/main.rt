@@ -1,19 +1,18 @@
 //! The program `mach_say`: runs storyboards, which are protocols of Mach ports written with names.
 //!
-//! `main` reads the command line and opens the file. [`perform`] does the job over any reader and writers.
+//! `main` reads the command line and opens the file. [`perform`] does the job over any reader and writer.
 #![tactic(auto)]
 
 mod command_line;
-mod fault;
 mod job;
 mod recorded;
 
 use clap::error::ErrorKind;
 use command_line::{Request, read_words};
-use fault::{Fault, reason_of, report};
 use job::{Job, perform};
+use mach_show_base::{Fault, read_labels, reason_of, report};
 use mach_words::Labels;
-use recorded::{perform_from, read_labels};
+use recorded::perform_from;
 use std::fs::File;
 use std::io::{BufWriter, Read, Write};
 use std::process::ExitCode;
@@ -77,40 +76,11 @@ fn words_of(rt: &HostRuntime) -> io::Result<Vec<String>> {
     Ok(env::args(rt)?.collect(rt.alloc())?)
 }
 
-/// Does the job of the request.
+/// Reads the request's labels, and does its job.
 fn start(rt: &HostRuntime, request: &Request<'_>) -> u8 {
-    match request.job {
-        Some(job) => open(rt, job, request.file),
-        None => start_from(rt, request),
-    }
-}
-
-/// Opens the storyboard, or standard input without one, and does the job.
-fn open(rt: &HostRuntime, job: Job, file: Option<&str>) -> u8 {
-    let Some(name) = file else {
-        return work(rt, job, "-", &mut rt.reader());
-    };
-    match File::open(rt, name) {
-        Ok(mut file) => work(rt, job, name, &mut file),
-        Err(error) => report(Fault::CannotRead(name, reason_of(&error)), &mut rt.stderr()),
-    }
-}
-
-/// Does the job, and buffers its output.
-fn work<R: Read>(rt: &HostRuntime, job: Job, name: &str, file: &mut R) -> u8 {
-    let alloc = rt.alloc();
-    let mut err = rt.stderr();
-    match BufWriter::with_capacity(alloc, WRITTEN_AT_ONCE, rt.stdout()) {
-        Ok(mut out) => perform(alloc, job, name, file, &mut out, &mut err),
-        Err(_) => report(Fault::OutOfMemory, &mut err),
-    }
-}
-
-/// Reads the request's labels, and makes a storyboard of its history.
-fn start_from(rt: &HostRuntime, request: &Request<'_>) -> u8 {
     let mut labels = Labels::new(rt.alloc());
     match enter_labels(rt, request.labels, &mut labels) {
-        Ok(()) => open_from(rt, labels, request.file),
+        Ok(()) => open(rt, request, labels),
         Err(fault) => report(fault, &mut rt.stderr()),
     }
 }
@@ -130,23 +100,32 @@ fn enter_labels<'a>(
     }
 }
 
-/// Opens the history, or standard input without one, and makes a storyboard of it.
-fn open_from(rt: &HostRuntime, labels: Labels, file: Option<&str>) -> u8 {
-    let Some(name) = file else {
-        return work_from(rt, labels, "-", &mut rt.reader());
+/// Opens the file, or standard input without one, and does the job.
+fn open(rt: &HostRuntime, request: &Request<'_>, labels: Labels) -> u8 {
+    let Some(name) = request.file else {
+        return work(rt, request.job, labels, "-", &mut rt.reader());
     };
     match File::open(rt, name) {
-        Ok(mut file) => work_from(rt, labels, name, &mut file),
+        Ok(mut file) => work(rt, request.job, labels, name, &mut file),
         Err(error) => report(Fault::CannotRead(name, reason_of(&error)), &mut rt.stderr()),
     }
 }
 
-/// Makes a storyboard of the history, and buffers the output.
-fn work_from<R: Read>(rt: &HostRuntime, labels: Labels, name: &str, file: &mut R) -> u8 {
+/// Does the job, and buffers its output. Without a job, makes a storyboard of a history.
+fn work<R: Read>(
+    rt: &HostRuntime,
+    job: Option<Job>,
+    labels: Labels,
+    name: &str,
+    file: &mut R,
+) -> u8 {
     let alloc = rt.alloc();
     let mut err = rt.stderr();
     match BufWriter::with_capacity(alloc, WRITTEN_AT_ONCE, rt.stdout()) {
-        Ok(mut out) => perform_from(alloc, name, labels, file, &mut out, &mut err),
+        Ok(mut out) => match job {
+            Some(job) => perform(alloc, job, name, file, &mut out, &mut err),
+            None => perform_from(alloc, name, labels, file, &mut out, &mut err),
+        },
         Err(_) => report(Fault::OutOfMemory, &mut err),
     }
 }
