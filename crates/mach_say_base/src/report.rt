@@ -2,10 +2,11 @@
 use crate::list::List;
 use crate::replies::write_answer;
 use mach_lint::Nearest;
-use mach_say_fits::value_of;
 use mach_say_play::{Board, Play, PlayFault, Span, Stop};
 use mach_say_syntax::Storyboard;
-use mach_say_words::{Fault as LineFault, Line, Word, find_field, write_cause as write_line_cause};
+use mach_say_words::{
+    Fault as LineFault, Line, Word, find_field, value_of, write_cause as write_line_cause,
+};
 use mach_types::{Reply, TaskId};
 use mach_words::{Text, write_code};
 use tracer_base::split_once;

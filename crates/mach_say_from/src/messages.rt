@@ -3,7 +3,7 @@ use crate::kinds::{disposition_word, kind_word};
 use crate::label::Label;
 use crate::teller::Teller;
 use crate::words::Declared;
-use mach_say_fits::{BodyRights, CarriedRight, TOLD_AT, has_data, right_at, write_sent};
+use mach_say_words::{BodyRights, CarriedRight, TOLD_AT, has_data, right_at, write_sent};
 use mach_types::{Disposition, Name, TaskId};
 use mach_words::{Text, notice_word, word_at};
 use message_codec::{

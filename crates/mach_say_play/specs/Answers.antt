@@ -5,10 +5,10 @@ use Rattle.mach_say_syntax.specs.declared.syntax.FieldIs.{FieldIs}
 use Rattle.mach_say_syntax.specs.declared.syntax.Notice.{Notice}
 use Rattle.mach_say_syntax.specs.declared.syntax.ReceivedMessage.{ReceivedMessage}
 use Rattle.mach_say_syntax.specs.declared.syntax.ReceivedRight.{ReceivedRight}
-use Rattle.mach_say_fits.specs.declared.expected.Expected.{Expected}
-use Rattle.mach_say_fits.specs.declared.expected.ExpectedMessage.{ExpectedMessage}
-use Rattle.mach_say_fits.specs.declared.expected.ExpectedNotice.{ExpectedNotice}
-use Rattle.mach_say_fits.specs.declared.expected.FieldValue.{FieldValue}
+use Rattle.mach_say_words.specs.declared.expected.Expected.{Expected}
+use Rattle.mach_say_words.specs.declared.expected.ExpectedMessage.{ExpectedMessage}
+use Rattle.mach_say_words.specs.declared.expected.ExpectedNotice.{ExpectedNotice}
+use Rattle.mach_say_words.specs.declared.expected.FieldValue.{FieldValue}
 
 -- Each part that is said is asked for.
 pub record AsksForMessage (said : ReceivedMessage) (asked : ExpectedMessage) : Type 0 where

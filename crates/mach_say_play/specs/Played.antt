@@ -5,8 +5,8 @@ use Rattle.kernel_lock.specs.declared.entry.Entry.{Entry}
 use Rattle.mach_say_syntax.specs.declared.syntax.Said.{Said}
 use Rattle.mach_say_syntax.specs.declared.syntax.SaidCall.{SaidCall}
 use Rattle.mach_say_syntax.specs.declared.syntax.Statement.{Statement}
-use Rattle.mach_say_fits.specs.declared.expected.Expected.{Expected}
-use Rattle.mach_say_fits.specs.Fits.{Fits, Succeeds}
+use Rattle.mach_say_words.specs.declared.expected.Expected.{Expected}
+use Rattle.mach_say_words.specs.Fits.{Fits, Succeeds}
 use Rattle.mach_say_play.specs.Calls.{IsCall}
 use Rattle.mach_say_play.specs.Answers.{AsksFor}
 

@@ -2,18 +2,19 @@
 ghost use Rattle.std.specs.Prelude.{◌≡◌, List, IfOk, is_some, length, map};
 ghost use Rattle.mach_say_syntax.specs.declared.syntax.FieldIs.{FieldIs as AnyField};
 ghost use Rattle.mach_say_syntax.specs.declared.syntax.ReceivedRight.{ReceivedRight as AnyRight};
-ghost use Rattle.mach_say_fits.specs.declared.expected.FieldValue.{FieldValue as AnyValue};
+ghost use Rattle.mach_say_words.specs.declared.expected.FieldValue.{FieldValue as AnyValue};
 ghost use Rattle.mach_say_play.specs.Answers.{AsksFor, AsksForMessage, AsksForNotice};
 
 use crate::board::{Board, Thing};
 use crate::fault::PlayFault;
 use crate::label::Label;
-use mach_say_fits::{Expected, ExpectedMessage, ExpectedNotice, FieldValue, TOLD_AT, right_at};
 use mach_say_syntax::{
     Answer, Call, FieldIs, NameCall, NameIs, Notice, ReceivedMessage, ReceivedRight, SaidCall,
     SaidName, SaidNumber, Told, Under,
 };
-use mach_say_words::Kind;
+use mach_say_words::{
+    Expected, ExpectedMessage, ExpectedNotice, FieldValue, Kind, TOLD_AT, right_at,
+};
 use mach_types::{Name, Reply, TaskId, Waited};
 use mach_words::word_at;
 use message_codec::{Received, read_received};

@@ -6,11 +6,11 @@ ghost use Rattle.mach_say_play.specs.Calls.{IsCall, IsNameCall};
 
 use crate::board::{Actor, Board};
 use crate::fault::{PlayFault, span_of};
-use mach_say_fits::{BodyRights, write_sent};
 use mach_say_syntax::{
     Buffer, Call, CountOf, Forget, Give, Make, NameCall, NamedRight, Notify, Receiver, SaidCall,
     SaidName, Send, SentRights, Under,
 };
+use mach_say_words::{BodyRights, write_sent};
 use mach_types::{Bytes, Event, Name, TaskId};
 use message_codec::{PortRight, SendHeader, WriteError};
 use std::alloc::Global;

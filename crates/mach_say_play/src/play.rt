@@ -7,9 +7,8 @@ ghost use Rattle.mach_types.specs.declared.profiles.Profile.TheVariants.{Three};
 use crate::board::{Actor, Board};
 use crate::fault::{PlayFault, span_of};
 use crate::stage::Stage;
-use mach_say_fits::{Expected, Misfit};
 use mach_say_syntax::{Call, Receiver, Said, SaidCall, Statement, Storyboard};
-use mach_say_words::Word;
+use mach_say_words::{Expected, Misfit, Word};
 use mach_types::{Event, Profile, Reply};
 use std::alloc::Global;
 

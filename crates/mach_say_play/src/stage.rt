@@ -3,12 +3,12 @@ ghost use Rattle.std.specs.Prelude.{◌≡◌, ◌≢◌, [], ◌∷◌, ◌++�
 ghost use Rattle.mach_types.specs.declared.calls.Reply.{Reply as AnyReply};
 ghost use Rattle.mach_types.specs.declared.profiles.Profile.TheVariants.{Three};
 ghost use Rattle.kernel_lock.specs.History.{Legal, entry};
-ghost use Rattle.mach_say_fits.specs.Fits.{Fits};
+ghost use Rattle.mach_say_words.specs.Fits.{Fits};
 
 use kernel_core::Kernel;
 use kernel_lock::Entry;
 use mach_follow::thing_of;
-use mach_say_fits::{Expected, Misfit, compare};
+use mach_say_words::{Expected, Misfit, compare};
 use mach_types::{Event, Name, Profile, Reply, TaskId, Waited};
 use std::alloc::{AllocError, Global};
 use std::marker::Model;

@@ -2,8 +2,8 @@ use Rattle.std.proofs.Common.{rules, ◌≡◌, List, subst, sym}
 use Rattle.std.specs.Prelude.{map}
 use Rattle.mach_say_syntax.specs.declared.syntax.Answer.{Answer}
 use Rattle.mach_say_syntax.specs.declared.syntax.FieldIs.{FieldIs}
-use Rattle.mach_say_fits.specs.declared.expected.Expected.{Expected}
-use Rattle.mach_say_fits.specs.declared.expected.FieldValue.{FieldValue}
+use Rattle.mach_say_words.specs.declared.expected.Expected.{Expected}
+use Rattle.mach_say_words.specs.declared.expected.FieldValue.{FieldValue}
 use Rattle.mach_say_play.specs.Answers.{AsksFor}
 use Rattle.mach_say_play.proofs.board.Board.expected.Goals as goal
 

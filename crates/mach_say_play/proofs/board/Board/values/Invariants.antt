@@ -1,7 +1,7 @@
 use Rattle.std.proofs.Common.{◌≡◌, take}
 use Rattle.std.specs.Prelude.{map}
 use Rattle.mach_say_syntax.specs.declared.syntax.FieldIs.{FieldIs}
-use Rattle.mach_say_fits.specs.declared.expected.FieldValue.{FieldValue}
+use Rattle.mach_say_words.specs.declared.expected.FieldValue.{FieldValue}
 use Rattle.mach_say_play.proofs.board.Board.values.Given as goal
 
 -- each field so far has its value

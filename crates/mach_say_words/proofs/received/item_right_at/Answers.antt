@@ -1,5 +1,5 @@
-use Rattle.mach_say_fits.proofs.Items.{here-kinds, next-kinds}
-use Rattle.mach_say_fits.proofs.received.item_right_at.Goals as goal
+use Rattle.mach_say_words.proofs.Items.{here-kinds, next-kinds}
+use Rattle.mach_say_words.proofs.received.item_right_at.Goals as goal
 
 -- the right is one of the item's
 pub returns-in-Ok : goal.returns-in-Ok

@@ -1,7 +1,7 @@
 use Rattle.std.proofs.Common.{◌≡◌, ℕ, ◌<◌, slice_index_or}
-use Rattle.mach_say_fits.specs.declared.expected.FieldValue.{FieldValue}
-use Rattle.mach_say_fits.specs.Fits.{field_value}
-use Rattle.mach_say_fits.proofs.fits.compare_fields.Given as goal
+use Rattle.mach_say_words.specs.declared.expected.FieldValue.{FieldValue}
+use Rattle.mach_say_words.specs.Fits.{field_value}
+use Rattle.mach_say_words.proofs.fits.compare_fields.Given as goal
 
 -- each field so far has its value
 abbrev pub invariant-loop-place : goal.invariant-loop-place

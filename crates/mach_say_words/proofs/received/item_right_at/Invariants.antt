@@ -1,5 +1,5 @@
-use Rattle.mach_say_fits.proofs.Items.{LeavesKinds}
-use Rattle.mach_say_fits.proofs.received.item_right_at.Given as goal
+use Rattle.mach_say_words.proofs.Items.{LeavesKinds}
+use Rattle.mach_say_words.proofs.received.item_right_at.Given as goal
 
 -- what is left of the items, and which of their rights is looked for
 abbrev pub invariant-loop : goal.invariant-loop

@@ -1,5 +1,5 @@
 //! What a call is to answer, with its words looked up.
-use mach_say_words::{Field, Kind};
+use crate::vocabulary::{Field, Kind};
 use mach_types::{Name, Reply};
 
 /// What a call is to answer.

@@ -1,5 +1,5 @@
-use Rattle.mach_say_fits.proofs.Items.{next-data}
-use Rattle.mach_say_fits.proofs.received.have_data.Goals as goal
+use Rattle.mach_say_words.proofs.Items.{next-data}
+use Rattle.mach_say_words.proofs.received.have_data.Goals as goal
 
 -- the item's data is cut off
 pub loop-preserved : goal.loop-preserved

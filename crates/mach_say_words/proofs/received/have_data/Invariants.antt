@@ -1,5 +1,5 @@
-use Rattle.mach_say_fits.proofs.Items.{LeavesData}
-use Rattle.mach_say_fits.proofs.received.have_data.Given as goal
+use Rattle.mach_say_words.proofs.Items.{LeavesData}
+use Rattle.mach_say_words.proofs.received.have_data.Given as goal
 
 -- what is left of the items, and of the data
 abbrev pub invariant-loop : goal.invariant-loop

@@ -3,8 +3,8 @@ use Rattle.mach_types.specs.Grammar.{IsWireBody, WireBody}
 use Rattle.message_codec.specs.ReceivedShows.{BodyShows}
 use Rattle.mach_say_words.specs.declared.vocabulary.Kind.{Kind}
 use Rattle.mach_say_words.specs.Numbers.{kind_number}
-use Rattle.mach_say_fits.specs.Bodies.{kinds_of}
-use Rattle.mach_say_fits.proofs.received.has_kinds.Given as goal
+use Rattle.mach_say_words.specs.Bodies.{kinds_of}
+use Rattle.mach_say_words.proofs.received.has_kinds.Given as goal
 
 -- each right so far has its kind
 abbrev pub invariant-loop-place : goal.invariant-loop-place

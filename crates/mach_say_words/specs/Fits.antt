@@ -6,11 +6,11 @@ use Rattle.mach_types.specs.declared.calls.Status.{Status}
 use Rattle.mach_say_words.specs.declared.vocabulary.Field.{Field}
 use Rattle.mach_say_words.specs.declared.vocabulary.Kind.{Kind}
 use Rattle.mach_say_words.specs.Numbers.{kind_number}
-use Rattle.mach_say_fits.specs.declared.expected.Expected.{Expected}
-use Rattle.mach_say_fits.specs.declared.expected.ExpectedMessage.{ExpectedMessage}
-use Rattle.mach_say_fits.specs.declared.expected.ExpectedNotice.{ExpectedNotice}
-use Rattle.mach_say_fits.specs.declared.expected.FieldValue.{FieldValue}
-use Rattle.mach_say_fits.specs.Bodies.{data_of, kinds_of}
+use Rattle.mach_say_words.specs.declared.expected.Expected.{Expected}
+use Rattle.mach_say_words.specs.declared.expected.ExpectedMessage.{ExpectedMessage}
+use Rattle.mach_say_words.specs.declared.expected.ExpectedNotice.{ExpectedNotice}
+use Rattle.mach_say_words.specs.declared.expected.FieldValue.{FieldValue}
+use Rattle.mach_say_words.specs.Bodies.{data_of, kinds_of}
 
 -- The reply is no refusal, and not that no message came.
 abbrev pub Succeeds : Reply → Type 0

@@ -2,11 +2,11 @@
 ghost use Rattle.std.specs.Prelude.{◌≡◌, IsTrue, IfSome, OnOk, length};
 ghost use Rattle.mach_types.specs.Grammar.{Header, IsWireBody, WireBody};
 ghost use Rattle.message_codec.specs.ReceivedShows.{ShowsBoth};
-ghost use Rattle.mach_say_fits.specs.Fits.{Fits, HasFields, HasParts, IsMessage, IsNotice, Succeeds, field_value};
+ghost use Rattle.mach_say_words.specs.Fits.{Fits, HasFields, HasParts, IsMessage, IsNotice, Succeeds, field_value};
 
 use crate::expected::{Expected, ExpectedMessage, ExpectedNotice, FieldValue};
 use crate::received::{has_data, has_kinds};
-use mach_say_words::Field;
+use crate::vocabulary::Field;
 use mach_types::{Name, Reply, Status};
 use mach_words::word_at;
 use message_codec::{Received, read_received};

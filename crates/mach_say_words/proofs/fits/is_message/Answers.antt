@@ -1,4 +1,4 @@
-use Rattle.mach_say_fits.proofs.fits.is_message.Goals as goal
+use Rattle.mach_say_words.proofs.fits.is_message.Goals as goal
 
 -- what was read of the bytes has the parts
 pub returns-in-Some : goal.returns-in-Some

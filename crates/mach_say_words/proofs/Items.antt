@@ -5,7 +5,7 @@ use Rattle.std.proofs.lemmas.List.Elements.{All-head, All-tail}
 use Rattle.mach_types.specs.Grammar.{IsWire, Wire, wires_text}
 use Rattle.message_codec.specs.declared.reader.ReceivedItem.{ReceivedItem}
 use Rattle.message_codec.specs.ReceivedShows.{GivesFirst, ItemShows}
-use Rattle.mach_say_fits.specs.Bodies.{item_data, item_kinds, items_data, items_kinds}
+use Rattle.mach_say_words.specs.Bodies.{item_data, item_kinds, items_data, items_kinds}
 
 -- Of each list of items with the text `start` those are left whose text is `left`. If their data is `rest`, that of all is `whole`.
 abbrev pub LeavesData : (start whole left rest : List ℕ) → Type 0

@@ -4,9 +4,9 @@ ghost use Rattle.mach_types.specs.Grammar.{IsWire, IsWireBody, Wire, WireBody, w
 ghost use Rattle.message_codec.specs.ReceivedShows.{BodyShows, ItemShows};
 ghost use Rattle.mach_say_words.specs.declared.vocabulary.Kind.{Kind as AnyKind};
 ghost use Rattle.mach_say_words.specs.Numbers.{kind_number};
-ghost use Rattle.mach_say_fits.specs.Bodies.{data_of, item_data, item_kinds, items_data, items_kinds, kinds_of};
+ghost use Rattle.mach_say_words.specs.Bodies.{data_of, item_data, item_kinds, items_data, items_kinds, kinds_of};
 
-use mach_say_words::Kind;
+use crate::vocabulary::Kind;
 use mach_types::Name;
 use message_codec::{ReceivedBody, ReceivedItem, ReceivedItems};
 
