@@ -82,29 +82,3 @@ fn a_way_is_followed_to_a_task(rt: HostRuntime) {
     assert!(rt; make_all(&mut ports, &queues));
     assert!(rt; ends_at_a_task(&ports) && each_is_looked_for(&ports));
 }
-
-#[test]
-fn the_last_port_is_compared(rt: HostRuntime) {
-    let mut ports = Ports::new(rt.alloc());
-    assert!(rt; make_all(&mut ports, &[Some(1), Some(2), None]));
-    assert!(rt; closes(&ports, 0, 2));
-}
-
-/// Returns whether a circle of 0, 1 and 2, off which 3 lies, is gone round once.
-fn is_gone_round(ports: &Ports<Empty>) -> bool {
-    closes(ports, 0, 2) && closes(ports, 1, 0) && !closes(ports, 0, 3)
-}
-
-#[test]
-fn a_circle_comes_to_an_end(rt: HostRuntime) {
-    let mut ports = Ports::new(rt.alloc());
-    assert!(rt; make_all(&mut ports, &[Some(1), Some(2), Some(0), None]));
-    assert!(rt; is_gone_round(&ports));
-}
-
-#[test]
-fn a_queue_that_is_not_there_is_the_last(rt: HostRuntime) {
-    let mut ports = Ports::new(rt.alloc());
-    assert!(rt; make_all(&mut ports, &[Some(7)]));
-    assert!(rt; closes(&ports, 0, 7) && !closes(&ports, 0, 1));
-}

@@ -56,28 +56,3 @@ fn values_come_and_go(rt: HostRuntime) {
     let mut pages = Pages::new(rt.alloc());
     assert!(rt; two_are_put(&mut pages) && first_is_removed(&mut pages) && far_is_put(&mut pages));
 }
-
-fn all_are_put(pages: &mut Pages<u32>) -> bool {
-    for number in 1..=65535 {
-        if pages.reserve(1).is_err() || put_first(pages, number) != Some(number) {
-            return false;
-        }
-    }
-    pages.first_free() == 65536 && pages.reserve(1).is_ok() && put_first(pages, 7).is_none()
-}
-
-/// Returns whether the room that was made when all were used is there for the one that gets free.
-fn one_is_free(pages: &mut Pages<u32>) -> bool {
-    pages.remove(513) == Some(513)
-        && pages.first_free() == 513
-        && pages.next_used(513) == Some(514)
-        && pages.len() == 65534
-        && put_first(pages, 9) == Some(513)
-        && pages.room() == 0
-}
-
-#[test]
-fn all_numbers_are_used(rt: HostRuntime) {
-    let mut pages = Pages::new(rt.alloc());
-    assert!(rt; all_are_put(&mut pages) && one_is_free(&mut pages));
-}
