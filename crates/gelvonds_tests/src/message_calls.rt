@@ -12,12 +12,6 @@ const SEND: u32 = 0x1;
 
 const RECEIVE: u32 = 0x2;
 
-const SEND_TIMEOUT: u32 = 0x10;
-
-const RECEIVE_TIMEOUT: u32 = 0x100;
-
-const LARGE: u32 = 0x800;
-
 /// Says yes so many times, and keeps what it was told.
 #[derive(Drop)]
 struct Times {
@@ -129,18 +123,6 @@ fn calls<R: Wait>(rt: &R, alloc: Global, shared: &Shared, pass: &mut Pass, asked
     }
 }
 
-/// Five messages: as many as a new port's queue takes.
-fn fills<R: Wait>(rt: &R, alloc: Global, shared: &Shared, pass: &mut Pass)
-    requires { pass.old.table ≡ shared.now.table }
-    ensures { pass.new.table ≡ shared.now.table }
-{
-    calls(rt, alloc, shared, pass, sends(SEND, 0));
-    calls(rt, alloc, shared, pass, sends(SEND, 0));
-    calls(rt, alloc, shared, pass, sends(SEND, 0));
-    calls(rt, alloc, shared, pass, sends(SEND, 0));
-    calls(rt, alloc, shared, pass, sends(SEND, 0));
-}
-
 /// With nothing in the buffer.
 const fn empty(code: u32, len: u32, told: (u32, u32, u32)) -> Answer {
     Answer {
@@ -148,19 +130,6 @@ const fn empty(code: u32, len: u32, told: (u32, u32, u32)) -> Answer {
         room: [0xee; 24],
         told,
     }
-}
-
-#[test]
-fn options_are_judged(rt: HostRuntime) -> Result<(), Fail> {
-    let shared = Shared::new(rt.alloc())?;
-    let mut pass = one_port(&rt, &shared)?;
-    let unlawful = calls(&rt, rt.alloc(), &shared, &mut pass, receives(4, 0));
-    assert!(rt; unlawful == empty(4, 0, (0, 0, 0)));
-    let none = calls(&rt, rt.alloc(), &shared, &mut pass, sends(0, 0));
-    assert!(rt; none == empty(0, 0, (0, 0, 0)));
-    let held = shared.lock(&rt);
-    assert_eq!(rt; held.entries().len(), 2);
-    Ok(())
 }
 
 #[test]
@@ -177,57 +146,6 @@ fn a_message_comes_back(rt: HostRuntime) -> Result<(), Fail> {
     assert_eq!(rt; both.outcome, Outcome { code: 0, len: 24 });
     assert!(rt; both.room == RECEIVED);
     assert_eq!(rt; both.told, (0, 2, 2));
-    Ok(())
-}
-
-#[test]
-fn a_long_message_stays_or_is_lost(rt: HostRuntime) -> Result<(), Fail> {
-    let shared = Shared::new(rt.alloc())?;
-    let mut pass = one_port(&rt, &shared)?;
-    let sent = calls(&rt, rt.alloc(), &shared, &mut pass, sends(SEND, 0));
-    assert!(rt; sent == empty(0, 0, (0, 1, 1)));
-    let short = Asked {
-        room: 20,
-        ..receives(RECEIVE | LARGE, 0)
-    };
-    let long = calls(&rt, rt.alloc(), &shared, &mut pass, short);
-    assert!(rt; long == empty(0x1000_4004, 24, (0, 0, 1)));
-    let short = Asked {
-        room: 20,
-        ..receives(RECEIVE, 0)
-    };
-    let lost = calls(&rt, rt.alloc(), &shared, &mut pass, short);
-    assert!(rt; lost == empty(0x1000_4004, 24, (0, 1, 1)));
-    Ok(())
-}
-
-/// A refused send and a refused receive are told as calls that changed nothing.
-#[test]
-fn a_refused_call_changes_nothing(rt: HostRuntime) -> Result<(), Fail> {
-    let shared = Shared::new(rt.alloc())?;
-    let mut pass = shared.pass(&rt)?;
-    shared.call(&rt, &mut pass, Event::TaskCreate);
-    let sent = calls(&rt, rt.alloc(), &shared, &mut pass, sends(SEND, 0));
-    assert!(rt; sent == empty(0x1000_0003, 0, (0, 0, 1)));
-    let received = calls(&rt, rt.alloc(), &shared, &mut pass, receives(RECEIVE, 0));
-    assert!(rt; received == empty(0x1000_4002, 0, (0, 0, 1)));
-    Ok(())
-}
-
-#[test]
-fn a_receive_with_a_timeout_is_tried_once(rt: HostRuntime) -> Result<(), Fail> {
-    let shared = Shared::new(rt.alloc())?;
-    let mut pass = one_port(&rt, &shared)?;
-    let once = calls(
-        &rt,
-        rt.alloc(),
-        &shared,
-        &mut pass,
-        receives(RECEIVE | RECEIVE_TIMEOUT, 3),
-    );
-    assert!(rt; once == empty(0x1000_4003, 0, (0, 0, 1)));
-    let held = shared.lock(&rt);
-    assert_eq!(rt; held.entries().len(), 3);
     Ok(())
 }
 
@@ -251,7 +169,7 @@ fn are_three_tries(entries: &[Entry]) -> bool {
 }
 
 /// With a gate that says yes twice and then no, a receive from an empty port makes three calls, and tells the
-/// gate after each that nothing has changed. A call that gives up without asking its gate fails here.
+/// gate after each that nothing has changed.
 #[test]
 fn tries_listed(rt: HostRuntime) -> Result<(), Fail> {
     let shared = Shared::new(rt.alloc())?;
@@ -263,29 +181,5 @@ fn tries_listed(rt: HostRuntime) -> Result<(), Fail> {
         [_, _, tries @ ..] => assert!(rt; are_three_tries(tries)),
         _ => panic!(rt; "the calls before aren't there"),
     }
-    Ok(())
-}
-
-#[test]
-fn sends_are_tried_as_the_gate_says(rt: HostRuntime) -> Result<(), Fail> {
-    let shared = Shared::new(rt.alloc())?;
-    let mut pass = one_port(&rt, &shared)?;
-    fills(&rt, rt.alloc(), &shared, &mut pass);
-    let once = calls(
-        &rt,
-        rt.alloc(),
-        &shared,
-        &mut pass,
-        sends(SEND | SEND_TIMEOUT, 3),
-    );
-    assert!(rt; once == empty(0x1000_0004, 0, (0, 0, 1)));
-    let thrice = calls(
-        &rt,
-        rt.alloc(),
-        &shared,
-        &mut pass,
-        sends(SEND | RECEIVE, 2),
-    );
-    assert!(rt; thrice == empty(0x1000_0004, 0, (3, 0, 3)));
     Ok(())
 }
