@@ -121,6 +121,7 @@ typedef struct gelvonds_verdict {
 #define KERN_NO_SPACE 3           /* a limit of names, tasks, rights or identities */
 #define KERN_INVALID_ARGUMENT 4
 #define KERN_RESOURCE_SHORTAGE 6  /* memory was refused */
+#define KERN_ALREADY_IN_SET 11
 #define KERN_NOT_IN_SET 12
 #define KERN_NAME_EXISTS 13
 #define KERN_INVALID_NAME 15
@@ -221,11 +222,13 @@ typedef struct gelvonds_verdict {
  * holds none. */
 gelvonds_code gelvonds_make(gelvonds *kernel);
 
-/* The same, of this profile, which says how the kernel makes the fresh names that it gives a task:
+/* The same, of this profile, which says how the kernel makes the fresh names that it gives a task, and in how many sets
+ * a port may be:
  *   1  the least number, from 1, that the task doesn't use
  *   2  the least index, from 1, that no name of the task has, times 256, plus how often a fresh name was given
  *      to the task at that index before, modulo 256. The index of a name is the name / 256. So the first is 256,
  *      the next 512, and once 512 is given up 513 comes: not the same name for another right.
+ *   3  names as in 2, and a port may be in several sets (gelvonds_port_insert_member); in 1 and 2 in one at most
  * Names that a caller chooses may be any, and aren't counted. The refusals, in this order: GELVONDS_IN_USE: the
  * handle holds a kernel already, which stays, whatever the profile is; KERN_INVALID_ARGUMENT: another profile;
  * KERN_RESOURCE_SHORTAGE: memory. By the last two no kernel is made, and the handle holds none. */
@@ -234,7 +237,7 @@ gelvonds_code gelvonds_make_with_profile(gelvonds *kernel, uint32_t profile);
 /* Ends the kernel: gives back all its memory, and the handle holds none. Nothing where it holds none. */
 void gelvonds_free(gelvonds *kernel);
 
-/* The kernel's profile, 1 or 2. Makes no call, and changes nothing.
+/* The kernel's profile, 1, 2 or 3. Makes no call, and changes nothing.
  * GELVONDS_NO_KERNEL: the handle holds no kernel. */
 gelvonds_code gelvonds_profile(gelvonds *kernel, uint32_t *profile);
 
@@ -254,10 +257,12 @@ gelvonds_code gelvonds_port_identity(gelvonds *kernel, gelvonds_task task, gelvo
  * that is no receive right went to another task (gelvonds_port_insert_right, gelvonds_port_extract_right).
  * After gelvonds_port_set_qlimit, gelvonds_port_allocate and gelvonds_port_allocate_name the port under the name, if
  * one is. After gelvonds_port_move_member, and where a receive right went to another task, the port with the set that
- * it was in and the one that it is in. A message names its port and the port's set. One that was sent with one receive
- * right names that right's port too, and the set that it was in; so does one with two or three, where with
- * the sets concerned four places suffice. One that was received names the ports too whose
- * receive rights came with it: one or two, or three if its own port is in no set. A message that was destroyed as too
+ * it was in and the one that it is in. After gelvonds_port_insert_member and gelvonds_port_extract_member the port and
+ * the set. A message names its port and the port's sets, if these are three at most. It may be any where a port moved
+ * out of several sets or died there, and after a call that concerns a port in several sets and another port. A message
+ * that was sent with one receive right names that right's port too, and the set that it was in; so does one with two or
+ * three, where with the sets concerned four places suffice. One that was received names the ports too whose receive
+ * rights came with it: one or two, or three if its own port is in no set. A message that was destroyed as too
  * long names its port and the port's set, if it carried no receive right and one send-once right at most; the port
  * that this one tells is named too, with its set. gelvonds_port_request_notification names the port that the notice
  * goes to. A lost send-once right names its port, and so does a receive right that was destroyed, where nothing was
@@ -284,7 +289,7 @@ gelvonds_code gelvonds_touched(gelvonds *kernel, gelvonds_touched_places *touche
  * GELVONDS_NO_KERNEL: the handle holds no kernel. */
 gelvonds_code gelvonds_keep_entries(gelvonds *kernel);
 
-/* The line that the history begins with, "mach-history 1" or "mach-history 2" by the kernel's profile, with its line
+/* The line that the history begins with, "mach-history N" with the number of the kernel's profile, with its line
  * feed and no 0. *length is its length in bytes, also where GELVONDS_TOO_SHORT comes: the room is less than that, and
  * no text was written. GELVONDS_NO_KERNEL: the handle holds no kernel. */
 gelvonds_code gelvonds_heading(gelvonds *kernel, uint8_t *text, size_t room, size_t *length);
@@ -390,10 +395,21 @@ gelvonds_code gelvonds_port_set_seqno(gelvonds *kernel, gelvonds_task task, gelv
 
 /* ---- port sets: Port Manipulation Interface ---- */
 
-/* mach_port_move_member: the port leaves its set, and goes into this one unless after is 0.
+/* mach_port_move_member: the port leaves all its sets, and goes into this one unless after is 0.
  * KERN_INVALID_NAME: nothing under a name; KERN_INVALID_RIGHT: no receive right, or no set;
  * KERN_NOT_IN_SET: after is 0, and the port is in no set. */
 gelvonds_code gelvonds_port_move_member(gelvonds *kernel, gelvonds_task task, gelvonds_name member, gelvonds_name after);
+
+/* mach_port_insert_member of later Machs: the port goes into the set too, beside the sets that it is in.
+ * KERN_INVALID_ARGUMENT: the kernel's profile isn't 3, so a port is in one set at most; KERN_INVALID_NAME: nothing
+ * under a name; KERN_INVALID_RIGHT: no receive right, or no set; KERN_ALREADY_IN_SET: it is in the set;
+ * KERN_RESOURCE_SHORTAGE: memory, which only a port that is in a set already takes. */
+gelvonds_code gelvonds_port_insert_member(gelvonds *kernel, gelvonds_task task, gelvonds_name member, gelvonds_name set);
+
+/* mach_port_extract_member of later Machs: the port leaves the set, and stays in its others.
+ * KERN_INVALID_ARGUMENT: the kernel's profile isn't 3; KERN_INVALID_NAME: nothing under a name;
+ * KERN_INVALID_RIGHT: no receive right, or no set; KERN_NOT_IN_SET: it isn't in the set. */
+gelvonds_code gelvonds_port_extract_member(gelvonds *kernel, gelvonds_task task, gelvonds_name member, gelvonds_name set);
 
 /* mach_port_get_set_status: the task's names of the members, rising. *count as of gelvonds_port_names.
  * KERN_INVALID_NAME: nothing there; KERN_INVALID_RIGHT: no set; KERN_RESOURCE_SHORTAGE: memory;

@@ -20,13 +20,15 @@ static void fails(const char *what)
 
 void gm_open_history(void)
 {
+    uint32_t profile = 1;
     file = getenv("GELVONDS_HISTORY");
     if (file == NULL || *file == 0)
         return;
+    gelvonds_profile(&gm_kernel, &profile);
     gm_history = fopen(file, "we");
     if (gm_history == NULL)
         fails("opened");
-    else if (fputs("mach-history 1\n", gm_history) < 0)
+    else if (fprintf(gm_history, "mach-history %" PRIu32 "\n", profile) < 0)
         fails("written");
 }
 

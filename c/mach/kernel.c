@@ -56,9 +56,21 @@ static void at_exit(void)
     pthread_mutex_unlock(&gm_mutex);
 }
 
+/* The profile that GELVONDS_PROFILE names; else 1. */
+static uint32_t profile(void)
+{
+    const char *const value = getenv("GELVONDS_PROFILE");
+    if (value == NULL || *value == 0)
+        return 1;
+    if (*value >= '1' && *value <= '3' && value[1] == 0)
+        return (uint32_t)(*value - '0');
+    fprintf(stderr, "gelvonds: GELVONDS_PROFILE=%s is ignored: it can only be 1, 2 or 3\n", value);
+    return 1;
+}
+
 static void prepare(void)
 {
-    refusal = gelvonds_make(&gm_kernel);
+    refusal = gelvonds_make_with_profile(&gm_kernel, profile());
     if (refusal == KERN_SUCCESS && (pthread_key_create(&ending, thread_ends) != 0
                                     || pthread_atfork(before_fork, after_fork, in_child) != 0 || atexit(at_exit) != 0))
         refusal = KERN_RESOURCE_SHORTAGE;

@@ -169,6 +169,28 @@ kern_return_t mach_port_move_member(task_t task, mach_port_name_t member, mach_p
     return gm_end(code, GM_CHANGES);
 }
 
+kern_return_t mach_port_insert_member(task_t task, mach_port_name_t name, mach_port_name_t pset)
+{
+    const gelvonds_task number = gm_number(task);
+    kern_return_t code = gm_begin();
+    if (code != KERN_SUCCESS)
+        return code;
+    code = gelvonds_port_insert_member(&gm_kernel, number, name, pset);
+    gm_record_code(code, "insmember %u %u %u", number, name, pset);
+    return gm_end(code, GM_CHANGES);
+}
+
+kern_return_t mach_port_extract_member(task_t task, mach_port_name_t name, mach_port_name_t pset)
+{
+    const gelvonds_task number = gm_number(task);
+    kern_return_t code = gm_begin();
+    if (code != KERN_SUCCESS)
+        return code;
+    code = gelvonds_port_extract_member(&gm_kernel, number, name, pset);
+    gm_record_code(code, "exmember %u %u %u", number, name, pset);
+    return gm_end(code, GM_CHANGES);
+}
+
 /* ---- rights from task to task, and notices ---- */
 
 kern_return_t mach_port_insert_right(task_t task, mach_port_name_t name, mach_port_t poly,

@@ -54,7 +54,7 @@ static const struct {
     NAMED(KERN_NO_SPACE),
     NAMED(KERN_INVALID_ARGUMENT),
     NAMED(KERN_RESOURCE_SHORTAGE),
-    { "KERN_ALREADY_IN_SET", 11 },
+    NAMED(KERN_ALREADY_IN_SET),
     NAMED(KERN_NOT_IN_SET),
     NAMED(KERN_NAME_EXISTS),
     NAMED(KERN_INVALID_NAME),
@@ -152,7 +152,7 @@ static void kernels(void) {
     ends_with("task", task);
     tell_identity(&kernel, 0, 1);
     tell_touched(&kernel);
-    CALL(gelvonds_make_with_profile, &kernel, 3);
+    CALL(gelvonds_make_with_profile, &kernel, 4);
     ends();
     CALL(gelvonds_make_with_profile, &kernel, 2);
     ends();
@@ -312,6 +312,10 @@ static void sets(gelvonds *kernel) {
     CALL(gelvonds_port_move_member, kernel, 0, 9, SET);
     ends();
     CALL(gelvonds_port_move_member, kernel, 0, PORT, SET);
+    ends();
+    CALL(gelvonds_port_insert_member, kernel, 0, PORT, SET);
+    ends();
+    CALL(gelvonds_port_extract_member, kernel, 0, PORT, SET);
     ends();
     tell_members(kernel, SET, 1);
     tell_members(kernel, SET, 2);
@@ -615,7 +619,7 @@ static void histories(void) {
     check("mach-history 2\n0 task -> task 0\n1 alloc 0 1 -> name 256\n");
     check("mach-history 1\n0 task -> task 0\n1 alloc 0 1 -> name 256\n");
     check("mach-history 2\n0 task -> task 0\n1 alloc 0 1 -> name 256");
-    check("mach-history 3\n");
+    check("mach-history 4\n");
 }
 
 int main(void) {

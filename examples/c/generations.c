@@ -70,13 +70,13 @@ int main(void) {
     gelvonds_name port;
 
     make(&kernel, 0);
-    make(&kernel, 3);
+    make(&kernel, 4);
     tell_code(gelvonds_task_create(&kernel, &task));
     make(&kernel, 2);
     if (done(gelvonds_task_create(&kernel, &task)))
         printf("task %" PRIu32 "\n", task);
     make(&kernel, 1);
-    make(&kernel, 3);
+    make(&kernel, 4);
     port = allocate(&kernel, task, MACH_PORT_RIGHT_RECEIVE);
     names_come_again(&kernel, task);
     send_and_receive(&kernel, task, port);

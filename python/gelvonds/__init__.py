@@ -53,6 +53,7 @@ KERN_SUCCESS = 0
 KERN_NO_SPACE = 3
 KERN_INVALID_ARGUMENT = 4
 KERN_RESOURCE_SHORTAGE = 6
+KERN_ALREADY_IN_SET = 11
 KERN_NOT_IN_SET = 12
 KERN_NAME_EXISTS = 13
 KERN_INVALID_NAME = 15
@@ -532,6 +533,8 @@ _FUNCTIONS: Dict[str, Tuple[Any, ...]] = {
     "port_set_mscount": (_WORD, _WORD, _WORD),
     "port_set_seqno": (_WORD, _WORD, _WORD),
     "port_move_member": (_WORD, _WORD, _WORD),
+    "port_insert_member": (_WORD, _WORD, _WORD),
+    "port_extract_member": (_WORD, _WORD, _WORD),
     "port_get_set_status": (_WORD, _WORD, _WORDS, _SIZE, _LENGTH),
     "port_insert_right": (_WORD, _WORD, _WORD, _WORD, _WORD),
     "port_extract_right": (_WORD, _WORD, _WORD, _WORD, _WORDS, _WORDS),
@@ -640,7 +643,8 @@ class Kernel:
     """
 
     def __init__(self, profile: int = 1) -> None:
-        """Makes a kernel. The profile says how fresh names are made: 1, or 2 for names with a generation."""
+        """Makes a kernel. Profile 1 makes the least fresh names, 2 gives them a generation, and 3 also lets a port be in
+        several sets."""
         self._lock = threading.Lock()
         self._handle = _Handle(None)
         self._library = _library()
@@ -675,7 +679,7 @@ class Kernel:
 
     @property
     def profile(self) -> int:
-        """The kernel's profile, 1 or 2. Refused with `GELVONDS_NO_KERNEL` where the kernel was closed."""
+        """The kernel's profile, 1, 2 or 3. Refused with `GELVONDS_NO_KERNEL` where the kernel was closed."""
         profile = _WORD()
         self._call("profile", ctypes.byref(profile))
         return profile.value
@@ -822,8 +826,16 @@ class Kernel:
     # -- sets
 
     def port_move_member(self, task: int, member: int, after: int) -> None:
-        """mach_port_move_member: takes the port out of its set, and puts it into `after` unless that is 0."""
+        """mach_port_move_member: takes the port out of all its sets, and puts it into `after` unless that is 0."""
         self._call("port_move_member", _u32(task, "the task"), _u32(member, "the member"), _u32(after, "the set"))
+
+    def port_insert_member(self, task: int, member: int, set: int) -> None:
+        """mach_port_insert_member of later Machs: puts the port into the set, beside the sets that it is in. Profile 3."""
+        self._call("port_insert_member", _u32(task, "the task"), _u32(member, "the member"), _u32(set, "the set"))
+
+    def port_extract_member(self, task: int, member: int, set: int) -> None:
+        """mach_port_extract_member of later Machs: takes the port out of the set alone. Profile 3."""
+        self._call("port_extract_member", _u32(task, "the task"), _u32(member, "the member"), _u32(set, "the set"))
 
     def port_get_set_status(self, task: int, name: int) -> List[int]:
         """mach_port_get_set_status: the task's names of the members, rising."""

@@ -80,6 +80,8 @@ static void test_receive_rights(void)
     WANT(mach_port_move_member(self, port, port), KERN_INVALID_RIGHT);
     MUST(mach_port_move_member(self, port, MACH_PORT_NULL));
     WANT(mach_port_move_member(self, port, MACH_PORT_NULL), KERN_NOT_IN_SET);
+    WANT(mach_port_insert_member(self, port, set), KERN_INVALID_ARGUMENT);
+    WANT(mach_port_extract_member(self, port, set), KERN_INVALID_ARGUMENT);
     MUST(mach_port_destroy(self, set));
     MUST(mach_port_destroy(self, port));
 }

@@ -1,7 +1,7 @@
 -- A right that is copied in: what the tables do is what the machine does.
 use Rattle.std.proofs.Common.{◌≡◌, ℕ, Option, Some, refl, sym, ap, ◌∙◌, zero, suc, ◌+◌, ◌%◌, ◌^◌, ◌<◌, ◌∷◌, None, subst, arith, true, false, ◌⊎◌, inl, inr, List, [], Bool, ◌-◌}
 use Rattle.std.specs.Prelude.{is_some, if◌then◌else◌, ◌==◌, ◌&&◌, slice_set, ◌||◌, nat_lt}
-use Rattle.std.specs.Option.{option_to_list, option_map}
+use Rattle.std.specs.Option.{option_map}
 use Rattle.std.specs.FinMap as map
 use Rattle.std.proofs.lemmas.Bool.{ne_eqb, ltb-true, ltb-false}
 use Rattle.std.proofs.Math.Bool.{or-false as or_false, or-true as or_true}
@@ -23,12 +23,12 @@ use Rattle.name_space.specs.Entry.{port_named, has_receive, send_references}
 use Rattle.name_space.specs.Names.{SpaceView}
 use Rattle.name_space.specs.declared.Entry.TheVariants as entry_of
 use Rattle.name_space.specs.declared.Entry.TheVariants.{Receive, Send, ReceiveAndSend, SendOnce, DeadName}
-use Rattle.port.specs.Ports.{PortView, PortsView}
+use Rattle.port.specs.Ports.{PortView, PortsView, sets_in}
 use Rattle.copyin_base.specs.Kept.{Kept, mark_of}
 use Rattle.copyin_base.specs.Worlds.{WorldView, port_at, put, space_at}
 use Rattle.copyin_base.specs.Shows.{ShowsPort, Agrees, onces_queued, target_of, HasCount, ShowsCounts, RequestsStand, CountsAgree}
 use Rattle.copyin_base.proofs.Agreeing.{live_put}
-use Rattle.copyin_base.proofs.AttributesSet.{IsAt, attributes_put, is_at, is_same}
+use Rattle.copyin_base.proofs.AttributesSet.{IsAt, view_put, is_at, is_same}
 use Rattle.copyin_base.specs.declared.Mark.TheVariants as mark
 use Rattle.copyin_base.specs.Requests.{requests_after}
 use Rattle.copyin_base.proofs.Counting.{right_made, counts_same}
@@ -37,18 +37,18 @@ use Rattle.copyin_base.proofs.Changing.{named_no_set, Rest, target_found, held_b
 use Rattle.copyin_base.proofs.Requesting.{stands_after}
 use Rattle.copyin_base.proofs.Taking.{Without, take_held}
 use Rattle.dispositions.specs.Copies.{copied_from, one_less}
-use Rattle.copyin.specs.Copies.{attributes_copied, port_copied, ports_copied, ledger_copied}
+use Rattle.copyin.specs.Copies.{view_copied, port_copied, ports_copied, ledger_copied}
 use Rattle.dispositions.specs.declared.Copied.{Copied}
 
--- ---- The ports' attributes after a right was copied in.
+-- ---- The ports after a right was copied in.
 
--- The attributes of one port changed as a right went by the disposition.
+-- One port changed as a right went by the disposition.
 module _ (w : WorldView) (s : State) (a : Agrees w s) (d : Disposition) (p : ℕ) (v : PortView Kept) (there : port_at w p ≡ Some v) where
   abbrev pub ports2 : PortsView Kept
   ports2 = port_copied d p w.ports (map.get w.ports.ports p)
 
   abbrev v2 : PortView Kept
-  v2 = record v { attributes = attributes_copied d v.attributes }
+  v2 = view_copied d v
 
   ports_are : ports2.ports ≡ map.insert w.ports.ports p v2
   ports_are = ap (λ (o : Option (PortView Kept)). (port_copied d p w.ports o).ports) there
@@ -59,16 +59,21 @@ module _ (w : WorldView) (s : State) (a : Agrees w s) (d : Disposition) (p : ℕ
   pub ports_live : (q : ℕ) → is_some (map.get ports2.ports q) ≡ is_some (port_at w q)
   ports_live q = ap (λ m. is_some (map.get m q)) ports_are ∙ live_put w.ports.ports p v2 (λ x. is_some (port_at w x)) (ap is_some there) (λ x. refl) q
 
-  limit_same : (x : Disposition) → (attributes_copied x v.attributes).limit ≡ v.attributes.limit
+  limit_same : (x : Disposition) → (view_copied x v).attributes.limit ≡ v.attributes.limit
   limit_same MakeSend = refl
   limit_same MoveReceive = refl
   limit_same x = refl
 
+  queue_same : (x : Disposition) → (view_copied x v).queue ≡ v.queue
+  queue_same MakeSend = refl
+  queue_same MoveReceive = refl
+  queue_same x = refl
+
   pub port_changed : (t : State) → t ≡ shape s t → IsAt s.make_send t.make_send p v2.attributes.make_send → IsAt s.sequence t.sequence p v2.attributes.sequence →
-      IsAt s.sets_of t.sets_of p (option_to_list v2.attributes.set) → (q : ℕ) (x : PortView Kept) → map.get ports2.ports q ≡ Some x → ShowsPort x t q
+      IsAt s.sets_of t.sets_of p (sets_in v2) → (q : ℕ) (x : PortView Kept) → map.get ports2.ports q ≡ Some x → ShowsPort x t q
   port_changed t rest make_send sequence sets q x is =
       let limit : (r : ℕ) → t.limit r ≡ s.limit r = λ r. ap (λ (y : State). y.limit r) rest in
-      attributes_put w s t a p v there v2.attributes (λ r. ap (λ (y : State). queue y r) rest)
+      view_put w s t a p v v2 there (queue_same d) (λ r. ap (λ (y : State). queue y r) rest)
       (record { own = limit_same d ∙ (a.ports p v there).limit ∙ sym (limit p); other = λ r not. limit r }) make_send sequence sets q x
       (ap (λ m. map.get m q) (sym ports_are) ∙ is)
 

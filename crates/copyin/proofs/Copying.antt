@@ -28,7 +28,8 @@ use Rattle.port.specs.Ports.{IsLive, PortsView}
 use Rattle.copyin_base.specs.declared.Carried.{Carried}
 use Rattle.copyin_base.specs.declared.Mark.{Mark}
 use Rattle.copyin_base.specs.Worlds.{WorldView, with_space, entry_in, entry_at, put, space_at, NoneLost}
-use Rattle.copyin_base.specs.Requests.{requests_after, RequestTablesView}
+use Rattle.request_table.specs.Tables.{RequestTablesView}
+use Rattle.copyin_base.specs.Requests.{requests_after}
 use Rattle.copyin_base.specs.Shows.{RequestsStand, Agrees}
 use Rattle.copyin_base.proofs.Gets.{same_found}
 use Rattle.copyin_base.proofs.Requested.{requested_left, requested_ports}

@@ -21,7 +21,8 @@ use Rattle.dispositions.specs.Copies.{copied_from}
 use Rattle.copyin.specs.Copies.{ports_copied, ledger_copied, CopiesRight}
 use Rattle.copyin.specs.Judging.{made_by, made_by_mark}
 use Rattle.copyin_base.specs.Kept.{Kept}
-use Rattle.copyin_base.specs.Requests.{RequestTablesView, requests_after}
+use Rattle.request_table.specs.Tables.{RequestTablesView}
+use Rattle.copyin_base.specs.Requests.{requests_after}
 use Rattle.copyin.specs.Planned.{CanGo, CanCopy, CopiesAll}
 use Rattle.copyin.specs.Plans.{ChangesWord, ChangesWords}
 use Rattle.copyin_base.specs.Stands.{AreTied}

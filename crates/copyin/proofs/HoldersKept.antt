@@ -17,7 +17,6 @@ use Rattle.name_space.specs.declared.Entry.{Entry}
 use Rattle.name_space.specs.declared.Entry.TheVariants as entry
 use Rattle.name_space.specs.Entry.{port_named, has_receive}
 use Rattle.name_space.specs.Names.{SpaceView, Names}
-use Rattle.port.specs.declared.Attributes.{Attributes}
 use Rattle.port.specs.Ports.{PortView, PortsView, IsLive}
 use Rattle.port.specs.declared.Holder.TheVariants as by
 use Rattle.copyin_base.specs.declared.Carried.{Carried}
@@ -37,7 +36,7 @@ use Rattle.copyin_base.specs.Changes.{PutsLeft}
 use Rattle.copyin_base.specs.Requests.{requests_after}
 use Rattle.dispositions.specs.declared.Copied.{Copied}
 use Rattle.dispositions.specs.Copies.{copied_from}
-use Rattle.copyin.specs.Copies.{attributes_copied, ports_copied, port_copied, CopiesRight}
+use Rattle.copyin.specs.Copies.{view_copied, ports_copied, port_copied, CopiesRight}
 use Rattle.copyin.specs.Plans.{destination_word, reply_words, option_list, Judged, ChangesWord, ChangesWords, Commits, message_for, made_in}
 use Rattle.copyin.proofs.Holding.{held_holders, held_made, held_carriers, all_held}
 use Rattle.copyin.proofs.Keeping.{keeps, if_either, else_copied}
@@ -111,17 +110,17 @@ left_receive d e k is = had_receive e k.left (keeps d e k is).named (subst (HasN
 
 -- ---- ports
 
-holder_copied : (d : Disposition) (a : Attributes) → (attributes_copied d a).holder ≡ a.holder
-holder_copied MoveReceive a = refl
-holder_copied MoveSend a = refl
-holder_copied MoveSendOnce a = refl
-holder_copied CopySend a = refl
-holder_copied MakeSend a = refl
-holder_copied MakeSendOnce a = refl
+holder_copied : (d : Disposition) (v : PortView Kept) → (view_copied d v).attributes.holder ≡ v.attributes.holder
+holder_copied MoveReceive v = refl
+holder_copied MoveSend v = refl
+holder_copied MoveSendOnce v = refl
+holder_copied CopySend v = refl
+holder_copied MakeSend v = refl
+holder_copied MakeSendOnce v = refl
 
 port_holders : (d : Disposition) (p : ℕ) (ports : PortsView Kept) (o : Option (PortView Kept)) → map.get ports.ports p ≡ o → KeepHolders ports.ports (port_copied d p ports o).ports
 port_holders d p ports None is = same_holders ports.ports
-port_holders d p ports (Some v) is = put_holders ports.ports p v (record v { attributes = attributes_copied d v.attributes }) is (holder_copied d v.attributes)
+port_holders d p ports (Some v) is = put_holders ports.ports p v (view_copied d v) is (holder_copied d v)
 
 pub copied_ports : (d : Disposition) (m : Mark) (ports : PortsView Kept) → KeepHolders ports.ports (ports_copied d m ports).ports
 copied_ports MakeSend (mark.Port p) ports = port_holders MakeSend p ports (map.get ports.ports p) refl
@@ -176,9 +175,14 @@ commits_holders old task parsed written j bytes new c gone a =
 
 -- ---- ports
 
+queue_copied : (d : Disposition) (v : PortView Kept) (m : Kept) → Contains (view_copied d v).queue m → Contains v.queue m
+queue_copied MoveReceive v m c = c
+queue_copied MakeSend v m c = c
+queue_copied d v m c = c
+
 port_queues : (d : Disposition) (p : ℕ) (ports : PortsView Kept) (o : Option (PortView Kept)) → map.get ports.ports p ≡ o → KeepQueues ports.ports (port_copied d p ports o).ports
 port_queues d p ports None is = same_queues ports.ports
-port_queues d p ports (Some v) is = put_queue ports.ports p v (record v { attributes = attributes_copied d v.attributes }) is (λ m queued. queued)
+port_queues d p ports (Some v) is = put_queue ports.ports p v (view_copied d v) is (queue_copied d v)
 
 copied_queues : (d : Disposition) (m : Mark) (ports : PortsView Kept) → KeepQueues ports.ports (ports_copied d m ports).ports
 copied_queues MakeSend (mark.Port p) ports = port_queues MakeSend p ports (map.get ports.ports p) refl

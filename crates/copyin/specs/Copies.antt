@@ -5,8 +5,7 @@ use Rattle.mach_types.specs.declared.rights.Disposition.{Disposition}
 use Rattle.mach_types.specs.declared.rights.Disposition.TheVariants.{MoveReceive, CopySend, MakeSend, MakeSendOnce}
 use Rattle.name_space.specs.declared.Entry.{Entry}
 use Rattle.name_space.specs.Names.{SpaceView}
-use Rattle.port.specs.declared.Attributes.{Attributes}
-use Rattle.port.specs.Ports.{PortView, PortsView, with_port}
+use Rattle.port.specs.Ports.{PortView, PortsView, restarted, with_port}
 use Rattle.rights.specs.Ledger.{LedgerView, made, shifted}
 use Rattle.rights.specs.declared.RightKind.TheVariants as right
 use Rattle.copyin_base.specs.declared.Mark.{Mark}
@@ -17,13 +16,13 @@ use Rattle.copyin_base.specs.Worlds.{WorldView, put, space_at}
 use Rattle.dispositions.specs.Copies.{copied_from}
 use Rattle.dispositions.specs.declared.Copied.{Copied}
 
-abbrev pub attributes_copied : Disposition → Attributes → Attributes
-attributes_copied MakeSend a = record a { make_send = (a.make_send + 1) % 2 ^ 32 }
-attributes_copied MoveReceive a = record a { make_send = 0; sequence = 0; set = None }
-attributes_copied d a = a
+abbrev pub view_copied : Disposition → PortView Kept → PortView Kept
+view_copied MakeSend v = record v { attributes = record v.attributes { make_send = (v.attributes.make_send + 1) % 2 ^ 32 } }
+view_copied MoveReceive v = restarted v
+view_copied d v = v
 
 abbrev pub port_copied : Disposition → (port : ℕ) → PortsView Kept → Option (PortView Kept) → PortsView Kept
-port_copied d p ports (Some v) = with_port ports p (record v { attributes = attributes_copied d v.attributes })
+port_copied d p ports (Some v) = with_port ports p (view_copied d v)
 port_copied d p ports None = ports
 
 -- the ports after a right went by the disposition

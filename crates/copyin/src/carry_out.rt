@@ -23,26 +23,15 @@ use copyin_base::{Carried, Mark, Message, World};
 use dispositions::copy_right;
 use mach_types::{Disposition, Name, PortId, TaskId};
 use message_codec::PortWord;
-use port::{Attributes, Holder};
+use port::Holder;
 use rights::RightKind;
 
-// The receive right goes from its port, whose counts start again and which is in no set. Its holder is
+// The receive right goes from its port, whose counts start again and which leaves all its sets. Its holder is
 // set where it is given, or where a message that carries it is queued.
 fn leave_port(world: &mut World, port: PortId)
     ensures { world.new ≡ record world.old { ports = ports_copied disposition_of.MoveReceive (mark_of.Port port) world.old.ports } }
 {
-    let Some(attributes) = world.find_attributes(port) else {
-        return;
-    };
-    world.set_attributes(
-        port,
-        Attributes {
-            make_send: 0,
-            sequence: 0,
-            set: None,
-            ..attributes
-        },
-    );
+    world.restart_port(port);
 }
 
 // Sets what a right changes of its port when it goes.

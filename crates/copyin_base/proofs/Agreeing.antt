@@ -19,7 +19,8 @@ use Rattle.port.specs.Ports.{PortView}
 use Rattle.port_set.specs.Sets.{SetsView}
 use Rattle.tables_base.specs.Kept.{Kept}
 use Rattle.copyin_base.specs.Worlds.{WorldView, space_in, space_at, entry_in, port_at, put}
-use Rattle.copyin_base.specs.Requests.{RequestTablesView, notify_of, RequestsAgree}
+use Rattle.request_table.specs.Tables.{RequestTablesView}
+use Rattle.copyin_base.specs.Requests.{notify_of, RequestsAgree}
 use Rattle.copyin_base.specs.Shows.{target_of, HasCount, GivenAgrees, ShowsPort, ShowsCounts, SpacesAgree, ReferencesAgree, SetsAgree, Agrees}
 use Rattle.copyin_base.proofs.Requesting.{requests_stay}
 use Rattle.copyin_base.proofs.Gets.{length-set, of_some, same_found}
@@ -89,7 +90,7 @@ module _ (spaces : List (Option SpaceView)) (task : ℕ) (space space2 : SpaceVi
             (λ y is. ap (λ (z : SpaceView). map.len z.names) (same_found (Some space2) y space2 is refl) ∙ now.kept)
             (λ u not y is. a.names_kept u y is ∙ ap (λ (z : Names). map.len z) (sym (others u not)));
         counted = each (λ u x. (n : ℕ) (e : Entry) → entry_in x n ≡ Some e → HasCount e) now.counted (λ u not. a.counted u);
-        profiles = a.profiles;
+        same_profile = a.same_profile;
         counts_given = each (λ u x. (y : SpaceView) → x ≡ Some y → GivenAgrees profile y.given (given2 u))
             (λ y is. subst (λ (z : SpaceView). GivenAgrees profile z.given (given2 task)) (same_found (Some space2) space2 y refl is) counts)
             (λ u not y is. subst (GivenAgrees profile y.given) (sym (given_others u not)) (a.counts_given u y is));

@@ -1,23 +1,23 @@
 -- Which queue holds the receive rights that messages carry, after queues and ports have changed.
-use Rattle.std.proofs.Common.{◌≡◌, ℕ, ◌+◌, ◌<◌, ◌≤◌, List, [], ◌∷◌, ◌++◌, Some, None, sym, ap, subst, ◌∙◌, arith, inl, inr}
+use Rattle.std.proofs.Common.{◌≡◌, ℕ, ◌+◌, ◌<◌, ◌≤◌, List, [], ◌∷◌, ◌++◌, Option, Some, None, refl, sym, ap, subst, ◌∙◌, arith, ◌⊎◌, inl, inr}
 use Rattle.std.specs.Prelude.{Contains}
 use Rattle.std.specs.FinMap as map
 use Rattle.std.specs.Ordering.{nat_cmp}
 use Rattle.std.proofs.lemmas.List.Elements.{Contains-append_cases}
 use Rattle.mach_types.specs.declared.profiles.Profile.{Profile}
+use Rattle.member_lists.specs.Lists.{without}
 use Rattle.port.specs.declared.Attributes.{Attributes}
 use Rattle.port.specs.declared.Holder.{Holder}
 use Rattle.port.specs.declared.Holder.TheVariants as by
-use Rattle.port.specs.Ports.{PortView, PortsView}
+use Rattle.port.specs.Ports.{PortView, PortsView, sets_in, with_sets}
 use Rattle.port_set.specs.Sets.{IsDisbanded}
 use Rattle.tables_base.specs.Kept.{Kept}
 use Rattle.copyin_base.specs.Changes.{HasAttributes, SetsAttributes, SetsHolder}
 use Rattle.copyin_base.specs.Worlds.{WorldView, no_world, port_at}
 use Rattle.copyin_base.specs.Shows.{CarriesReceive, CarriersAgree}
-use Rattle.copyin_base.proofs.Changing.{same_port}
 use Rattle.copyin_base.proofs.Gets.{of_some, same_found}
 use Rattle.copyin_base.proofs.Holders.{KeepHolders, put_holders, disbanded_holders}
-use Rattle.copyin_base.proofs.Listed.{none_listed, listed_one, listed_later}
+use Rattle.copyin_base.proofs.Listed.{is_listed, none_listed, listed_one, listed_later}
 use Rattle.copyin_base.proofs.Putting.{each_put, put_other}
 
 abbrev Ports : Type 0
@@ -43,9 +43,24 @@ module _ (ports : map.FinMap nat_cmp (PortView Kept)) where
       (of_some v2 (λ x. Contains x.queue m → IsQueuedAt ports p m) (λ c. record { v = v; there = there; queued = fewer m c }))
       (λ q not x is c. record { v = x; there = is; queued = c }) q x at queued
 
--- the members of a set are in none now
+-- the members of a set have left it
 pub disbanded_queues : (old new : PortsView Kept) (set : ℕ) → IsDisbanded old new set → KeepQueues old.ports new.ports
-disbanded_queues old new set d q v m is queued = grind (arith, same_found, same_port)
+disbanded_queues old new set d q v m is queued = go (map.get old.ports q) refl
+  where
+    was : (x : PortView Kept) → map.get old.ports q ≡ Some x → (now : PortView Kept) → map.get new.ports q ≡ Some now → now.queue ≡ x.queue → IsQueuedAt old.ports q m
+    was x at now there same = record {
+      v = x;
+      there = at;
+      queued = subst (λ (ms : List Kept). Contains ms m) (ap (λ (y : PortView Kept). y.queue) (same_found (map.get new.ports q) v now is there) ∙ same) queued;
+    }
+
+    member : (x : PortView Kept) → map.get old.ports q ≡ Some x → Contains (sets_in x) set ⊎ (Contains (sets_in x) set → ⊥) → IsQueuedAt old.ports q m
+    member x at (inl e) = was x at (with_sets x (without set (sets_in x))) (d.members q x at e) refl
+    member x at (inr not) = was x at x (d.others q x at not) refl
+
+    go : (o : Option (PortView Kept)) → map.get old.ports q ≡ o → IsQueuedAt old.ports q m
+    go None at = absurd (let e : None ≡ Some v = sym (d.gone q at) ∙ is in cc)
+    go (Some x) at = member x at (is_listed (sets_in x) set)
 
 -- ---- in the tables
 

@@ -1,42 +1,29 @@
--- A set was disbanded, in the tables and in the machine alike: its members are in none.
-use Rattle.std.proofs.Common.{◌≡◌, ℕ, [], ◌∷◌, Option, Some, None, refl, sym, ap, subst, ◌∙◌, ◌⊎◌, inl, inr}
-use Rattle.std.specs.Prelude.{◌==◌, not, filter, is_some}
-use Rattle.std.specs.Option.{option_to_list}
+-- A set was disbanded, in the tables and in the machine alike: its members are in their other sets alone.
+use Rattle.std.proofs.Common.{◌≡◌, ℕ, List, [], ◌∷◌, Option, Some, None, refl, sym, ap, subst, ◌∙◌, ◌⊎◌, inl, inr, arith}
+use Rattle.std.specs.Prelude.{◌==◌, Contains, not, filter, is_some}
 use Rattle.std.specs.FinMap as map
 use Rattle.std.proofs.lemmas.Bool.Decides.{eqb_tells}
 use Rattle.mach_model.specs.State.{State}
-use Rattle.port.specs.Ports.{PortView, PortsView}
-use Rattle.port_set.specs.Sets.{in_set, IsDisbanded}
+use Rattle.member_lists.specs.Lists.{without}
+use Rattle.port.specs.Ports.{PortView, PortsView, sets_in, with_sets}
+use Rattle.port_set.specs.Sets.{IsDisbanded}
 use Rattle.tables_base.specs.Kept.{Kept}
 use Rattle.copyin_base.specs.Requests.{notify_of, RequestsAgree}
 use Rattle.copyin_base.specs.Worlds.{WorldView, port_at}
 use Rattle.copyin_base.specs.Shows.{ShowsPort, Agrees}
 use Rattle.copyin_base.proofs.Gets.{seen, same_found}
+use Rattle.copyin_base.proofs.Listed.{is_listed, listed_later}
+use Rattle.copyin_base.proofs.SetsChanged.{in_these}
 
 no_some : {A : Type 0} (x : A) → None ≡ Some x → ⊥
 no_some x e = cc
 
--- ---- the sets that a port is in
-
-others_of : (set : ℕ) (o : Option ℕ) → (o ≡ Some set → ⊥) → filter (λ t. not (t == set)) (option_to_list o) ≡ option_to_list o
-others_of set None differs = refl
-others_of set (Some k) differs = elim (eqb_tells k set) [
-  | inl h ↦ absurd (differs (ap Some h.1))
-  | inr h ↦ rw h.0 refl
-]
-
-none_of : (set : ℕ) → filter (λ t. not (t == set)) (set ∷ []) ≡ []
-none_of set = elim (eqb_tells set set) [
-  | inl h ↦ rw h.0 refl
-  | inr h ↦ absurd (h.1 refl)
-]
-
--- a port is in the set, or not
-decided : (o : Option ℕ) (set : ℕ) → (o ≡ Some set) ⊎ (o ≡ Some set → ⊥)
-decided None set = inr (λ e. no_some set e)
-decided (Some k) set = elim (eqb_tells k set) [
-  | inl h ↦ inl (ap Some h.1)
-  | inr h ↦ inr (λ e. h.1 (let f : Some k ≡ Some set = e in cc))
+-- a port that isn't in the set stays in all its sets
+others_stay : (set : ℕ) (sets : List ℕ) → (Contains sets set → ⊥) → without set sets ≡ sets
+others_stay set [] apart = refl
+others_stay set (k ∷ ks) apart = elim (eqb_tells k set) [
+  | inl h ↦ absurd (apart (0, omega arith, h.1))
+  | inr h ↦ rw h.0 (ap (λ (xs : List ℕ). k ∷ xs) (others_stay set ks (λ c. apart (listed_later k ks set c))))
 ]
 
 -- ---- the members go
@@ -52,16 +39,16 @@ module _ (w : WorldView) (s : State) (a : Agrees w s) (set : ℕ) (ports2 : Port
     pub shows : ShowsPort now t p
 
   left : (p : ℕ) (x : PortView Kept) → port_at w p ≡ Some x → Left p x
-  left p x is = let shown = a.ports p x is in elim (decided x.attributes.set set) [
+  left p x is = let shown = a.ports p x is in elim (is_listed (sets_in x) set) [
     | inl member ↦ record {
-      now = in_set x None;
+      now = with_sets x (without set (sets_in x));
       there = d.members p x is member;
       shows = record {
         waiting = shown.waiting;
         limit = shown.limit;
         make_send = shown.make_send;
         sequence = shown.sequence;
-        sets = sym (ap (filter (λ k. not (k == set))) (sym shown.sets ∙ ap option_to_list member) ∙ none_of set);
+        sets = in_these x (without set (sets_in x)) ∙ ap (without set) shown.sets;
       };
     }
     | inr differs ↦ record {
@@ -72,7 +59,7 @@ module _ (w : WorldView) (s : State) (a : Agrees w s) (set : ℕ) (ports2 : Port
         limit = shown.limit;
         make_send = shown.make_send;
         sequence = shown.sequence;
-        sets = sym (ap (filter (λ k. not (k == set))) (sym shown.sets) ∙ others_of set x.attributes.set differs);
+        sets = sym (others_stay set (sets_in x) differs) ∙ ap (without set) shown.sets;
       };
     }
   ]

@@ -15,7 +15,7 @@ use Rattle.rights.specs.Ledger.{LedgerView}
 use Rattle.tables_base.specs.Kept.{Kept}
 use Rattle.copyin_base.specs.Changes.{AddsSend, MovesEntry}
 use Rattle.copyin_base.specs.Reading.{reading, read_names, read_space, live_in, AreGiven}
-use Rattle.copyin_base.specs.Requests.{RequestTablesView}
+use Rattle.request_table.specs.Tables.{RequestTablesView}
 use Rattle.copyin_base.specs.Worlds.{WorldView, entry_in, put, space_at}
 use Rattle.copyin_base.proofs.Gets.{same_found, of_some}
 use Rattle.copyin_base.proofs.Putting.{each_put}

@@ -7,8 +7,8 @@ use Rattle.mach_types.specs.declared.calls.Reply.{Reply}
 use Rattle.mach_types.specs.declared.codes.KernReturn.{KernReturn}
 use Rattle.mach_types.specs.Codes.{kern_number}
 use Rattle.mach_model.specs.Refusals.{call_guards}
-use Rattle.copyin_base.specs.declared.code.Code.{Code}
-use Rattle.copyin_base.specs.declared.code.Code.TheVariants.{Kern}
+use Rattle.mach_types.specs.declared.codes.Code.{Code}
+use Rattle.mach_types.specs.declared.codes.Code.TheVariants.{Kern}
 use Rattle.copyin_base.specs.Worlds.{WorldView}
 use Rattle.copyin_base.specs.Serving.{HasTasks, IsRefused, Serves}
 use Rattle.copyin_base.proofs.Acting.{refused}

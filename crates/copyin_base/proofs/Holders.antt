@@ -1,10 +1,11 @@
 -- Who holds each port's receive right, after names and ports have changed: the task whose name has it, if one does.
 use Rattle.std.proofs.Common.{◌≡◌, ℕ, ◌<◌, ◌≤◌, List, [], ◌∷◌, ◌++◌, Option, Some, None, refl, sym, ap, subst, ◌∙◌, arith, ◌⊎◌, inl, inr, true, false, length}
-use Rattle.std.specs.Prelude.{◌≢◌, ◌-◌, slice_set, if◌then◌else◌}
+use Rattle.std.specs.Prelude.{◌≢◌, ◌-◌, Contains, slice_set, if◌then◌else◌}
 use Rattle.std.specs.FinMap as map
 use Rattle.std.specs.Ordering.{nat_cmp}
 use Rattle.std.proofs.lemmas.Bool.Decides.{eqb_tells}
 use Rattle.mach_types.specs.declared.profiles.Profile.{Profile}
+use Rattle.member_lists.specs.Lists.{without}
 use Rattle.mach_types.specs.Tokens.{receive, in_message, token, count, is_of, is_held}
 use Rattle.mach_model.specs.State.{State, held}
 use Rattle.mach_model.specs.Telling.{one_if}
@@ -18,15 +19,15 @@ use Rattle.name_space.specs.Names.{Names as TableNames}
 use Rattle.port.specs.declared.Attributes.{Attributes}
 use Rattle.port.specs.declared.Holder.{Holder}
 use Rattle.port.specs.declared.Holder.TheVariants as by
-use Rattle.port.specs.Ports.{PortView, PortsView, with_port}
-use Rattle.port_set.specs.Sets.{in_set, IsDisbanded}
+use Rattle.port.specs.Ports.{PortView, PortsView, sets_in, with_port, with_sets}
+use Rattle.port_set.specs.Sets.{IsDisbanded}
 use Rattle.tables_base.specs.Kept.{Kept}
 use Rattle.copyin_base.specs.Changes.{PutsLeft, InsertsEntry, HasAttributes, SetsAttributes, SetsHolder}
 use Rattle.copyin_base.specs.Worlds.{WorldView, no_world, space_in, space_at, entry_in, entry_at, port_at, put}
 use Rattle.copyin_base.specs.Shows.{Agrees, HoldersAgree}
-use Rattle.copyin_base.proofs.Changing.{same_port}
 use Rattle.copyin_base.proofs.Counting.{one_of}
 use Rattle.copyin_base.proofs.Gets.{of_some, same_found}
+use Rattle.copyin_base.proofs.Listed.{is_listed}
 use Rattle.copyin_base.proofs.Putting.{each_put, put_own, put_other}
 use Rattle.copyin_base.proofs.Spaces.{each-space-set, space-push_same, space-push_other}
 use Rattle.copyin_base.proofs.Taking.{take_lying}
@@ -128,17 +129,17 @@ module _ (ports : map.FinMap nat_cmp (PortView Kept)) where
     others = λ q v not is. record { v = v; there = sym (put_other ports p (Some v2) q not) ∙ is; is = refl };
   }
 
--- the members of a set are in none now
+-- the members of a set have left it
 pub disbanded_holders : (old new : PortsView Kept) (set : ℕ) → IsDisbanded old new set → KeepHolders old.ports new.ports
 disbanded_holders old new set d p v is = go (map.get old.ports p) refl
   where
-    member : (x : PortView Kept) → map.get old.ports p ≡ Some x → (x.attributes.set ≡ Some set) ⊎ (x.attributes.set ≡ Some set → ⊥) → IsHeldBy old.ports p v.attributes.holder
-    member x at (inl e) = record { v = x; there = at; is = ap (λ (y : PortView Kept). y.attributes.holder) (same_found (map.get new.ports p) (in_set x None) v (d.members p x at e) is) }
+    member : (x : PortView Kept) → map.get old.ports p ≡ Some x → Contains (sets_in x) set ⊎ (Contains (sets_in x) set → ⊥) → IsHeldBy old.ports p v.attributes.holder
+    member x at (inl e) = record { v = x; there = at; is = ap (λ (y : PortView Kept). y.attributes.holder) (same_found (map.get new.ports p) (with_sets x (without set (sets_in x))) v (d.members p x at e) is) }
     member x at (inr not) = record { v = x; there = at; is = ap (λ (y : PortView Kept). y.attributes.holder) (same_found (map.get new.ports p) x v (d.others p x at not) is) }
 
     go : (o : Option (PortView Kept)) → map.get old.ports p ≡ o → IsHeldBy old.ports p v.attributes.holder
     go None at = absurd (let e : None ≡ Some v = sym (d.gone p at) ∙ is in cc)
-    go (Some x) at = member x at (same_port x.attributes.set set)
+    go (Some x) at = member x at (is_listed (sets_in x) set)
 
 -- ---- in the tables
 

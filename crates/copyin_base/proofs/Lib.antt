@@ -33,4 +33,6 @@ pub mod Idle
 pub mod Noting
 pub mod KeptEntries
 pub mod Disbanded
+pub mod InSets
+pub mod SetsChanged
 pub mod FreshNames

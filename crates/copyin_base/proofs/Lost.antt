@@ -14,7 +14,7 @@ use Rattle.rights.specs.Ledger.{LedgerView, IsEntered, counts_of, shifted, taken
 use Rattle.tables_base.specs.Kept.{Kept}
 use Rattle.copyin_base.specs.Losing.{CanLose, LosesPort, DropsSet}
 use Rattle.copyin_base.specs.Reading.{AreGiven}
-use Rattle.copyin_base.specs.Requests.{RequestTablesView}
+use Rattle.request_table.specs.Tables.{RequestTablesView}
 use Rattle.copyin_base.specs.Worlds.{WorldView, port_at}
 use Rattle.copyin_base.proofs.Reading.{SamePorts, same_put}
 use Rattle.copyin_base.proofs.Written.{tables, changed_given, changed_written}

@@ -16,7 +16,8 @@ use Rattle.name_space.specs.Names.{Names as TableNames}
 use Rattle.port_set.specs.declared.SetRecord.{SetRecord}
 use Rattle.port_set.specs.Sets.{SetsView, renamed}
 use Rattle.copyin_base.specs.Worlds.{WorldView, space_at, with_space}
-use Rattle.copyin_base.specs.Requests.{RequestTablesView, notify_of, RequestsAgree, requests_after}
+use Rattle.request_table.specs.Tables.{RequestTablesView}
+use Rattle.copyin_base.specs.Requests.{notify_of, RequestsAgree, requests_after}
 use Rattle.copyin_base.specs.Shows.{target_of, HasCount, SetsAgree, Agrees, RequestsStand}
 use Rattle.copyin_base.proofs.Counting.{counts_same}
 use Rattle.copyin_base.proofs.Requesting.{same_key, stands_after, requests_left}

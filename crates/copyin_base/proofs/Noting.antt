@@ -10,7 +10,7 @@ use Rattle.rights.specs.Ledger.{LedgerView}
 use Rattle.tables_base.specs.Kept.{Kept}
 use Rattle.copyin_base.specs.Changes.{IsSenderless, NotesSenderless}
 use Rattle.copyin_base.specs.Reading.{AreGiven}
-use Rattle.copyin_base.specs.Requests.{RequestTablesView}
+use Rattle.request_table.specs.Tables.{RequestTablesView}
 use Rattle.copyin_base.specs.Worlds.{WorldView}
 use Rattle.copyin_base.proofs.Listed.{is_listed, listed_one}
 use Rattle.copyin_base.proofs.Reading.{SamePorts, same_given}

@@ -1,24 +1,26 @@
 -- A message was queued, taken or destroyed, or other ones hold a port: what that writes of the tables.
-use Rattle.std.proofs.Common.{◌≡◌, ℕ, ◌+◌, ◌%◌, ◌^◌, ◌++◌, [], ◌∷◌, List, Option, Some, None, refl, sym, ap, subst, ◌∙◌, Bool, true, false}
+use Rattle.std.proofs.Common.{◌≡◌, ℕ, ◌+◌, ◌%◌, ◌^◌, ◌++◌, [], ◌∷◌, List, Option, Some, None, Ok, Err, OnOk, refl, sym, ap, subst, ◌∙◌, Bool, true, false, inl, inr}
 use Rattle.std.specs.FinMap as map
 use Rattle.std.specs.Option.{option_and_then}
-use Rattle.std.specs.Prelude.{MatchBool, drop, slice_get}
+use Rattle.std.specs.Prelude.{MatchBool, OnErr, Result, drop, slice_get}
 use Rattle.member_lists.specs.Lists.{without}
 use Rattle.mach_types.specs.declared.profiles.Profile.{Profile}
 use Rattle.name_space.specs.Names.{SpaceView}
 use Rattle.port.specs.declared.Holder.{Holder}
 use Rattle.port.specs.declared.Holder.TheVariants.{Doomed}
 use Rattle.port.specs.Holding.{held}
-use Rattle.port.specs.Ports.{PortView, PortsView, with_port, DestroysFirst, NoneQueued}
+use Rattle.port.specs.Ports.{PortView, PortsView, with_port, DestroysFirst, NoneQueued, PassesTurn}
+use Rattle.port.specs.Turns.{turns_of}
 use Rattle.port_set.specs.Sets.{SetsView}
 use Rattle.rights.specs.Ledger.{LedgerView}
 use Rattle.tables_base.specs.Kept.{Kept}
 use Rattle.copyin_base.specs.Losing.{DestroysNext}
 use Rattle.copyin_base.specs.Reading.{AreGiven}
-use Rattle.copyin_base.specs.Requests.{RequestTablesView}
+use Rattle.request_table.specs.Tables.{RequestTablesView}
 use Rattle.copyin_base.specs.Worlds.{WorldView}
+use Rattle.copyin_base.proofs.Changing.{same_port}
 use Rattle.copyin_base.proofs.Reading.{SamePorts, same_given, same_put}
-use Rattle.copyin_base.proofs.Written.{tables, changed_written, port_given, ports_written}
+use Rattle.copyin_base.proofs.Written.{tables, changed_written, port_given, port_written, ports_written}
 
 -- the front message was taken
 abbrev pub with_taken : PortsView Kept → (p : ℕ) → PortView Kept → PortsView Kept
@@ -40,6 +42,13 @@ holder_keeps h p v x at = record { live = same_put x p v (held v h) at; made = r
 
 pub doomed_keeps : (p : ℕ) (v : PortView Kept) (x : PortsView Kept) → map.get x.ports p ≡ Some v → SamePorts x (with_doomed x p v)
 doomed_keeps p v x at = record { live = same_put x p v (held v Doomed) at; made = refl }
+
+-- a turn in a set was passed, or was another port's
+pub turn_passed : (old : PortsView Kept) (set p : ℕ) (new : PortsView Kept) → PassesTurn old set p new → SamePorts old new
+turn_passed old set p new passes = elim (same_port (slice_get (turns_of old.ready set) 0) p) [
+  | inl h ↦ subst (SamePorts old) (sym (passes.its h)) record { live = λ q. refl; made = refl }
+  | inr h ↦ subst (SamePorts old) (sym (passes.other h)) record { live = λ q. refl; made = refl }
+]
 
 module _ (old : WorldView) {profile : Profile} (spaces : List (Option SpaceView)) (ports : PortsView Kept) (ledger : LedgerView) (sets : SetsView) (requests : RequestTablesView)
     (view : tables profile spaces ports ledger sets requests ≡ old) (p : ℕ) (new : PortsView Kept) where
@@ -75,6 +84,22 @@ module _ (old : WorldView) {profile : Profile} (spaces : List (Option SpaceView)
 
     pub none_put : map.get old.ports.ports p ≡ None → tables profile spaces new ledger sets requests ≡ old
     none_put none = stays_written (gone (ap (λ (w : WorldView). map.get w.ports.ports p) view ∙ none))
+
+  -- ---- a port that is there was put again, if there was memory
+
+  pub given_if_ok : {T E : Type 0} (r : Result T E) (v v2 : PortView Kept) → map.get old.ports.ports p ≡ Some v → (map.get ports.ports p ≡ Some v → OnOk r (new ≡ with_port ports p v2)) → OnErr r (new ≡ ports) →
+      AreGiven spaces ports → AreGiven spaces new
+  given_if_ok (Ok x) v v2 there ok err g = port_given old spaces ports ledger sets requests view p v v2 new there ok g
+  given_if_ok (Err e) v v2 there ok err g = subst (AreGiven spaces) (sym err) g
+
+  pub put_if_ok : {T E : Type 0} (r : Result T E) (v v2 : PortView Kept) → map.get old.ports.ports p ≡ Some v → (map.get ports.ports p ≡ Some v → OnOk r (new ≡ with_port ports p v2)) →
+      OnOk r (tables profile spaces new ledger sets requests ≡ record old { ports = with_port old.ports p v2 })
+  put_if_ok (Ok x) v v2 there ok = port_written old spaces ports ledger sets requests view p v v2 new there ok
+  put_if_ok (Err e) v v2 there ok = tt
+
+  pub stays_if_err : {T E : Type 0} (r : Result T E) → OnErr r (new ≡ ports) → OnErr r (tables profile spaces new ledger sets requests ≡ old)
+  stays_if_err (Ok x) err = tt
+  stays_if_err (Err e) err = stays_written err
 
   -- ---- the front message was destroyed
 

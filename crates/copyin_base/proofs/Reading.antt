@@ -150,7 +150,7 @@ given_put spaces ports g task space space2 there own = record {
 }
 
 -- nothing was made
-pub given_none : AreGiven [] (record { ports = map.empty; ready = map.empty; made = 0; spare = 0; destroyed = []; lost = []; doomed = []; noted = [] })
+pub given_none : {several : Bool} → AreGiven [] (record { ports = map.empty; ready = map.empty; made = 0; spare = 0; destroyed = []; lost = []; doomed = []; noted = []; several = several })
 given_none = record {
   kept = λ task name space entry p there. absurd (let e : None ≡ Some space = there in cc);
   there = λ p lives. absurd (let e : false ≡ true = ap is_some (sym (map.get-empty nat_cmp p)) ∙ lives in cc);

@@ -15,7 +15,7 @@ use Rattle.rights.specs.Ledger.{LedgerView, left}
 use Rattle.tables_base.specs.Kept.{Kept}
 use Rattle.copyin_base.specs.Leaving.{port_removed, without_port}
 use Rattle.copyin_base.specs.Reading.{reading, read_names, read_space, read_spaces, live_in, AreGiven}
-use Rattle.copyin_base.specs.Requests.{RequestTablesView}
+use Rattle.request_table.specs.Tables.{RequestTablesView}
 use Rattle.copyin_base.specs.Worlds.{WorldView, space_in}
 use Rattle.copyin_base.proofs.Putting.{get_removed}
 use Rattle.tables_base.proofs.Reading.{get_read}

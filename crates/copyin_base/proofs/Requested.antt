@@ -18,7 +18,7 @@ use Rattle.request_table.specs.declared.Request.{Request}
 use Rattle.request_table.specs.Requests.{name_key, key_of}
 use Rattle.tables_base.specs.Kept.{Kept}
 use Rattle.copyin_base.specs.Changes.{PutsLeft, InsertsEntry, SetsAttributes, SetsHolder, SameButNaming}
-use Rattle.copyin_base.specs.Requests.{RequestTablesView, left_by}
+use Rattle.request_table.specs.Tables.{RequestTablesView, left_by}
 use Rattle.copyin_base.specs.Worlds.{WorldView, no_world, space_in, space_at, entry_in, entry_at, put}
 use Rattle.copyin_base.specs.Shows.{IsOnName, RequestsStand}
 use Rattle.copyin_base.proofs.Putting.{each_put, get_removed, put_own, put_other}

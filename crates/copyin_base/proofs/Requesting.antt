@@ -12,8 +12,8 @@ use Rattle.mach_model.proofs.Names.{removed_own}
 use Rattle.mach_model.proofs.Settling.{request_refl}
 use Rattle.request_table.specs.declared.Request.{Request as NameRequest}
 use Rattle.request_table.specs.Requests.{name_key}
-use Rattle.copyin_base.specs.Requests.{RequestTablesView, notify_of, rights_kept, was_on, rights_went, AreMade, AreEnded, RequestsAgree, left_by, request_left, requests_after}
-use Rattle.copyin_base.specs.Asking.{renamed_by, request_moved}
+use Rattle.request_table.specs.Tables.{RequestTablesView, left_by, request_left, renamed_by, request_moved}
+use Rattle.copyin_base.specs.Requests.{notify_of, rights_kept, was_on, rights_went, AreMade, AreEnded, RequestsAgree, requests_after}
 use Rattle.copyin_base.proofs.Gets.{of_some}
 use Rattle.copyin_base.proofs.Putting.{get_removed}
 
@@ -157,11 +157,3 @@ module _ (v : RequestTablesView) (task name : ℕ) (small : name < 2 ^ 32)
         RequestsAgree (notify_of (requests_after v task name left)) (requests_after v task name left).names.went made (stands_after stands task name left) live tokens
     requests_left (Some e) = a
     requests_left None = requests_end
-
--- where none is kept, none ends
-pub empty_left : (v : RequestTablesView) → v.names.requests ≡ map.empty → (task name : ℕ) → v ≡ request_left v task name
-empty_left v none task name = ap (λ (o : Option NameRequest). record v { names = left_by v.names o }) (sym (ap (λ m. map.get m (name_key task name)) none ∙ map.get-empty nat_cmp (name_key task name)))
-
--- where no request stands, none goes along
-pub none_moves : (v : RequestTablesView) → v.names.requests ≡ map.empty → (task from_moved to_moved : ℕ) → v ≡ request_moved v task from_moved to_moved
-none_moves v none task from_moved to_moved = ap (λ (o : Option NameRequest). record v { names = renamed_by v.names to_moved o }) (sym (ap (λ m. map.get m (name_key task from_moved)) none ∙ map.get-empty nat_cmp (name_key task from_moved)))

@@ -9,7 +9,7 @@ use Rattle.name_space.specs.Names.{Names, SpaceView, given_after}
 use Rattle.port.specs.Ports.{PortsView}
 use Rattle.rights.specs.Ledger.{LedgerView}
 use Rattle.tables_base.specs.Kept.{Kept}
-use Rattle.copyin_base.specs.Requests.{RequestTablesView}
+use Rattle.request_table.specs.Tables.{RequestTablesView}
 use Rattle.copyin_base.specs.Worlds.{WorldView, HasTask, IsIdle, space_at, with_space, entry_in, entry_at}
 use Rattle.copyin_base.specs.Shows.{GivenAgrees, Agrees, HoldersAgree, CarriersAgree, SlotsSuffice, RequestsStand, Shows, target_of}
 use Rattle.copyin_base.specs.Changes.{MakesRoom, KeepsPlace, SameButNaming, SameButRoom, with_slots}
@@ -67,7 +67,7 @@ module _ (w v : WorldView) (s t : State) (same : SameButNaming w v) (a : Agrees 
             let y = same_names (space_at v task) (space_at w task) x (same.names task) is in
             ap (λ (m : Names). map.len m) y.2 ∙ a.names_kept task y.0 y.1;
         counted = λ task name x is. a.counted task name x (sym (entries task name) ∙ is);
-        profiles = a.profiles;
+        same_profile = a.same_profile;
         counts_given = c.counts;
         none_given = c.none;
       };

@@ -1,6 +1,6 @@
 -- The names that one task keeps were read and replaced in the tables.
 use Rattle.std.proofs.Common.{◌≡◌, ℕ, ◌+◌, ◌<◌, List, [], ◌∷◌, ◌++◌, Option, Some, None, refl, sym, ap, subst, ◌∙◌, true, get_or, ◌⊎◌, inl, inr}
-use Rattle.std.specs.Prelude.{slice_set, is_some, IfSome}
+use Rattle.std.specs.Prelude.{Contains, slice_set, is_some, IfSome}
 use Rattle.std.specs.Option.{option_map}
 use Rattle.std.specs.FinMap as map
 use Rattle.std.specs.Ordering.{nat_cmp}
@@ -9,16 +9,16 @@ use Rattle.member_lists.specs.Lists.{without}
 use Rattle.name_space.specs.declared.Entry.{Entry}
 use Rattle.name_space.specs.Entry.{port_of}
 use Rattle.name_space.specs.Names.{SpaceView}
-use Rattle.port.specs.Ports.{PortView, PortsView, IsLive, with_port}
+use Rattle.port.specs.Ports.{PortView, PortsView, IsLive, sets_in, with_port}
 use Rattle.port_set.specs.Sets.{SetsView, IsDisbanded}
 use Rattle.rights.specs.Ledger.{LedgerView}
 use Rattle.tables_base.specs.Kept.{Kept}
 use Rattle.copyin_base.specs.Changes.{IsForLive}
-use Rattle.copyin_base.specs.Requests.{RequestTablesView}
+use Rattle.request_table.specs.Tables.{RequestTablesView}
 use Rattle.copyin_base.specs.Reading.{reading, read_names, read_space, read_spaces, live_in, AreGiven}
 use Rattle.copyin_base.specs.Worlds.{WorldView, space_in, space_at, with_space, put}
-use Rattle.copyin_base.proofs.Changing.{same_port}
 use Rattle.copyin_base.proofs.Gets.{same_found}
+use Rattle.copyin_base.proofs.Listed.{is_listed}
 use Rattle.copyin_base.proofs.Putting.{each_put}
 use Rattle.tables_base.proofs.Reading.{get_read, read_lives}
 use Rattle.copyin_base.proofs.Reading.{kept_there, read_set, given_put, SamePorts, same_read, same_given, same_put, read_more, given_more, read_pushed, given_pushed, none_read}
@@ -112,17 +112,17 @@ held_put ports p v2 new none is =
 pub noted_ports : (ports : PortsView Kept) (noted : List ℕ) → SamePorts ports (record ports { noted = noted })
 noted_ports ports noted = record { live = λ p. refl; made = refl }
 
--- the members of a set are in none now
+-- the members of a set have left it
 pub disbanded_ports : (old new : PortsView Kept) (set : ℕ) → IsDisbanded old new set → SamePorts old new
 disbanded_ports old new set d = record { live = λ p. go p (map.get old.ports p) refl; made = d.made }
   where
-    member : (p : ℕ) (x : PortView Kept) → map.get old.ports p ≡ Some x → (x.attributes.set ≡ Some set) ⊎ (x.attributes.set ≡ Some set → ⊥) → is_some (map.get new.ports p) ≡ true
+    member : (p : ℕ) (x : PortView Kept) → map.get old.ports p ≡ Some x → Contains (sets_in x) set ⊎ (Contains (sets_in x) set → ⊥) → is_some (map.get new.ports p) ≡ true
     member p x at (inl e) = ap is_some (d.members p x at e)
     member p x at (inr not) = ap is_some (d.others p x at not)
 
     go : (p : ℕ) (o : Option (PortView Kept)) → map.get old.ports p ≡ o → is_some (map.get new.ports p) ≡ is_some (map.get old.ports p)
     go p None at = ap is_some (d.gone p at ∙ sym at)
-    go p (Some x) at = member p x at (same_port x.attributes.set set) ∙ sym (ap is_some at)
+    go p (Some x) at = member p x at (is_listed (sets_in x) set) ∙ sym (ap is_some at)
 
 module _ (old : WorldView) {profile : Profile} (spaces : List (Option SpaceView)) (ports : PortsView Kept) (ledger : LedgerView) (sets : SetsView) (requests : RequestTablesView) (view : tables profile spaces ports ledger sets requests ≡ old) where
   -- The tables are those of before, but for the ports: as many were made, and the same are there.

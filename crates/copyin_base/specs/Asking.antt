@@ -1,10 +1,10 @@
--- A request is made, goes along, or ends: the room for it, and the requests after that.
+-- A request is made, or ends: the room for it, and the requests after that.
 use Rattle.std.specs.Prelude.{◌≡◌, ℕ, ◌+◌, ◌-◌, max, Option, Some, None, []}
 use Rattle.std.specs.FinMap as map
 use Rattle.number_map.specs.Maps.{MapView}
 use Rattle.request_table.specs.declared.Request.{Request}
-use Rattle.request_table.specs.Requests.{RequestsView, name_key, with_request, without_request}
-use Rattle.copyin_base.specs.Requests.{RequestTablesView}
+use Rattle.request_table.specs.Requests.{with_request}
+use Rattle.request_table.specs.Tables.{RequestTablesView}
 use Rattle.copyin_base.specs.Worlds.{WorldView}
 
 -- ---- with room for one
@@ -31,16 +31,7 @@ with_port_destroyed w port notify = record w { requests = record w.requests { po
 abbrev pub with_on_name : WorldView → Request → WorldView
 with_on_name w r = record w { requests = record w.requests { names = with_request w.requests.names r } }
 
--- ---- a request goes along, or ends
-
--- the dead-name requests after one, if there is one, comes to this name: it is the last of its port's then
-abbrev pub renamed_by : RequestsView → (name : ℕ) → Option Request → RequestsView
-renamed_by names name (Some r) = with_request (without_request names r) (record r { name = name })
-renamed_by names name None = names
-
--- the requests after what was under the first name of the task comes under the second
-abbrev pub request_moved : RequestTablesView → (task from to : ℕ) → RequestTablesView
-request_moved v task from to = record v { names = renamed_by v.names to (map.get v.names.requests (name_key task from)) }
+-- ---- a request ends
 
 abbrev pub taken_at : MapView ℕ → (port : ℕ) → Option ℕ → MapView ℕ
 taken_at m p (Some notify) = record { map = map.remove m.map p; room = m.room + 1 }

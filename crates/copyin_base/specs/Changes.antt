@@ -1,5 +1,5 @@
 -- What the verbs of the tables change: what stands under one name, or the attributes of one port. All else stays.
-use Rattle.std.specs.Prelude.{◌≤◌, ◌≡◌, ◌⊎◌, ℕ, ◌-◌, ◌<◌, List, Option, Some, None, IfSome, length, max, true, Contains}
+use Rattle.std.specs.Prelude.{◌≤◌, ◌≡◌, ◌⊎◌, ℕ, ◌-◌, ◌<◌, List, [], Option, Some, None, IfSome, length, max, true, Contains}
 use Rattle.std.specs.Option.{option_map}
 use Rattle.std.specs.FinMap as map
 use Rattle.mach_types.specs.Numbers.{most_names}
@@ -129,11 +129,12 @@ pub record SetsHolder (old : WorldView) (port : ℕ) (holder : Holder) (new : Wo
   pub there : port_at old port ≡ Some v
   pub rest : new ≡ record old { ports = with_port old.ports port (record v { attributes = record v.attributes { holder = holder } }) }
 
--- These are the attributes of a port that is there.
+-- These are the attributes of a port that is there. Where they tell of no set it is in none.
 pub record HasAttributes (w : WorldView) (port : ℕ) (attributes : Attributes) : Type 0 where
   pub v : PortView Kept
   pub there : port_at w port ≡ Some v
   pub are : v.attributes ≡ attributes
+  pub none : attributes.set ≡ None → v.more ≡ []
 
 -- ---- send rights that go
 

@@ -16,7 +16,7 @@ HasRoomForPort w = (w.ledger.total < most_rights) × (w.ports.made < most_identi
 
 -- a new port, whose receive right the task holds
 abbrev pub first_port : (task : ℕ) → PortView Kept
-first_port task = record { queue = []; attributes = first_attributes task }
+first_port task = record { queue = []; attributes = first_attributes task; more = [] }
 
 -- one more port and its receive right, which the task holds and no name is for yet
 abbrev pub with_new_port : WorldView → (task : ℕ) → WorldView

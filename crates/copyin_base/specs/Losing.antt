@@ -55,7 +55,7 @@ pub record LosesPort (old : WorldView) (port : ℕ) (new : WorldView) : Type 0 w
 abbrev pub LosesSends : WorldView → (port number : ℕ) → WorldView → Type 0
 LosesSends old port number new = NotesSenderless (record old { ledger = taken old.ledger port Send number }) port new
 
--- A set goes, and its members are in none now.
+-- A set goes, and its members are in their other sets alone.
 pub record DropsSet (old : WorldView) (set : ℕ) (new : WorldView) : Type 0 where
   pub disbanded : IsDisbanded old.ports new.ports set
   pub rest : new ≡ record old { ports = new.ports; sets = removed old.sets set }

@@ -1,36 +1,12 @@
 -- The requests for notices that the tables keep, each with its notify port.
-use Rattle.std.specs.Prelude.{◌≡◌, ℕ, ◌+◌, ◌<◌, ◌^◌, Bool, false, List, [], ◌∷◌, Option, Some, None, is_some, if◌then◌else◌, nat_lt, ◌==◌, ◌&&◌, refl}
+use Rattle.std.specs.Prelude.{◌≡◌, ℕ, ◌+◌, ◌<◌, ◌^◌, Bool, false, List, [], ◌∷◌, Option, Some, None, is_some, if◌then◌else◌, nat_lt, ◌==◌, ◌&&◌}
 use Rattle.std.specs.Option.{option_map}
-use Rattle.std.specs.Coded.{Coded, code_by, coded×}
 use Rattle.std.specs.FinMap as map
-use Rattle.number_map.specs.Maps.{MapView, map_code}
 use Rattle.request_table.specs.declared.Request.{Request as NameRequest}
-use Rattle.request_table.specs.Requests.{RequestsView, requests_code, no_requests as no_name_requests, name_key, with_name_gone}
+use Rattle.request_table.specs.Requests.{name_key}
+use Rattle.request_table.specs.Tables.{RequestTablesView, request_left}
 use Rattle.mach_types.specs.Tokens.{Kind, receive, send, send_once, Request, no_senders, port_destroyed, dead_name, in_request, Token}
 use Rattle.mach_model.specs.Carried.{lying_among}
-
-pub record RequestTablesView : Type 0 where
-  -- the dead-name requests, by names and by ports
-  pub names : RequestsView
-  -- the notify ports of the two requests on a port, by ports
-  pub no_senders : MapView ℕ
-  pub port_destroyed : MapView ℕ
-
-abbrev pub request_tables_code : Coded NameRequest → Coded ℕ → Coded RequestTablesView
-request_tables_code request port =
-    code_by
-    (RequestsView × (MapView ℕ × MapView ℕ))
-    (coded× (requests_code request) (coded× (map_code port) (map_code port)))
-    (λ v. (v.names, (v.no_senders, v.port_destroyed)))
-    (λ x. record { names = x.0; no_senders = x.1.0; port_destroyed = x.1.1 })
-    (λ _. refl)
-
-abbrev pub none_requested : RequestTablesView
-none_requested = record {
-  names = no_name_requests;
-  no_senders = record { map = map.empty; room = 0 };
-  port_destroyed = record { map = map.empty; room = 0 };
-}
 
 -- the notify port of a request that stands; no name is 2^32 or more
 abbrev pub notify_of : RequestTablesView → Request → Option ℕ
@@ -75,14 +51,6 @@ pub record RequestsAgree (notify : Request → Option ℕ) (went : List NameRequ
   pub ended_went : AreEnded stands went
 
 -- ---- a name goes
-
-abbrev pub left_by : RequestsView → Option NameRequest → RequestsView
-left_by names (Some r) = with_name_gone names r
-left_by names None = names
-
--- The request on the name ends, if there is one, as the name goes.
-abbrev pub request_left : RequestTablesView → (task name : ℕ) → RequestTablesView
-request_left v task name = record v { names = left_by v.names (map.get v.names.requests (name_key task name)) }
 
 -- the requests after this was left under a name: it goes where nothing is
 abbrev pub requests_after : {A : Type 0} → RequestTablesView → (task name : ℕ) → (left : Option A) → RequestTablesView

@@ -2,7 +2,7 @@
 use Rattle.std.specs.Prelude.{ℕ, List, [], ◌∷◌, Result, Ok, Err}
 use Rattle.mach_types.specs.declared.calls.Event.{Event}
 use Rattle.mach_types.specs.declared.calls.Reply.{Reply}
-use Rattle.mach_types.specs.Codes.{kern_number, msg_number}
+use Rattle.mach_types.specs.Codes.{code_number}
 use Rattle.mach_types.specs.Guards.{Guards, FirstIs, NoneHolds}
 use Rattle.mach_model.specs.State.{State}
 use Rattle.mach_model.specs.Notices.{Owed}
@@ -10,16 +10,11 @@ use Rattle.mach_model.specs.Midway.{MidLawful}
 use Rattle.mach_model.specs.Refusals.{Refuses, guards, tasks_of}
 use Rattle.mach_model.specs.Acts.{Does}
 use Rattle.mach_model.specs.Machine.{Judged}
-use Rattle.copyin_base.specs.declared.code.Code.{Code}
-use Rattle.copyin_base.specs.declared.code.Code.TheVariants.{Kern, Message}
+use Rattle.mach_types.specs.declared.codes.Code.{Code}
 use Rattle.copyin_base.specs.Changes.{NotesSenders, MakesNoSends}
 use Rattle.copyin_base.specs.Posted.{with_posted, IsLeft}
 use Rattle.copyin_base.specs.Worlds.{WorldView, HasTask}
 use Rattle.copyin_base.specs.Shows.{Agrees, HoldersAgree, CarriersAgree, SlotsSuffice, RequestsStand, Shows}
-
-abbrev pub code_number : Code → ℕ
-code_number (Kern code) = kern_number code
-code_number (Message code) = msg_number code
 
 -- ---- a step's own part
 

@@ -1,6 +1,6 @@
 -- When the kernel's tables show a state of the machine: they agree with it at each task, name, port and request.
 use Rattle.std.specs.Prelude.{◌≡◌, ℕ, ◌+◌, ◌<◌, ◌≤◌, ◌^◌, ◌%◌, Bool, true, List, [], ◌∷◌, length, Option, Some, is_some, Contains}
-use Rattle.std.specs.Option.{option_map, option_to_list}
+use Rattle.std.specs.Option.{option_map}
 use Rattle.std.specs.FinMap as map
 use Rattle.mach_types.specs.declared.profiles.Profile.{Profile}
 use Rattle.mach_types.specs.declared.rights.Disposition.TheVariants.{MoveReceive}
@@ -10,14 +10,13 @@ use Rattle.mach_model.specs.State.{State, Target, Names, queue}
 use Rattle.mach_model.specs.Telling.{one_if}
 pub use Rattle.mach_model.specs.Unused.{came_by_once, onces_queued}
 use Rattle.mach_model.specs.Lawful.{IsLawful}
-use Rattle.mach_model.specs.NameGuards.{HasSeveral}
 use Rattle.name_space.specs.declared.Entry.{Entry as Named}
 use Rattle.name_space.specs.declared.Entry.TheVariants as named
 use Rattle.name_space.specs.Entry.{port_named, port_of, has_receive, send_references}
 use Rattle.name_space.specs.Names.{SpaceView}
 use Rattle.tagged_names.specs.Names.{Given, count_of}
 use Rattle.port.specs.declared.Holder.TheVariants as Holder
-use Rattle.port.specs.Ports.{PortView, IsLive}
+use Rattle.port.specs.Ports.{PortView, IsLive, sets_in}
 use Rattle.port_set.specs.declared.SetRecord.{SetRecord}
 use Rattle.port_set.specs.Sets.{SetsView}
 use Rattle.request_table.specs.declared.Request.{Request as NameRequest}
@@ -56,20 +55,14 @@ pub record GivenAgrees (profile : Profile) (counts : Option Given) (given : ℕ 
   pub kind : is_some counts ≡ has_generations profile
   pub same : (c : Given) → counts ≡ Some c → (index : ℕ) → count_of c index ≡ given index % 256
 
--- The tables go by the profile of the machine, in which a port is in one set at most.
-pub record ProfilesAgree (own profile : Profile) : Type 0 where
-  pub same_profile : own ≡ profile
-  pub one_set : HasSeveral profile → ⊥
-
--- Tasks and their names are those of the machine, and fresh names are counted as there.
+-- Tasks and their names are those of the machine, as is the profile, and fresh names are counted as there.
 pub record SpacesAgree (own : Profile) (spaces : List (Option SpaceView)) (live : ℕ → Bool) (number : ℕ) (names : ℕ → Names) (profile : Profile) (given : ℕ → ℕ → ℕ) : Type 0 where
   pub live_task : (task : ℕ) → is_some (space_in spaces task) ≡ live task
   pub tasks_made : length spaces ≡ number
   pub naming : (task name : ℕ) → map.get (names task) name ≡ option_map target_of (entry_in (space_in spaces task) name)
   pub names_kept : (task : ℕ) (space : SpaceView) → space_in spaces task ≡ Some space → map.len space.names ≡ map.len (names task)
   pub counted : (task name : ℕ) (entry : Named) → entry_in (space_in spaces task) name ≡ Some entry → HasCount entry
-  pub profiles : ProfilesAgree own profile
-  pub open profiles use *
+  pub same_profile : own ≡ profile
   pub counts_given : (task : ℕ) (space : SpaceView) → space_in spaces task ≡ Some space → GivenAgrees profile space.given (given task)
   -- a task that wasn't made was given none
   pub none_given : (task index : ℕ) → number ≤ task → given task index ≡ 0
@@ -85,7 +78,7 @@ pub record PortAgrees (v : PortView Kept) (p : ℕ) (entries : List Entry) (of_l
   pub limit : v.attributes.limit ≡ of_limit
   pub make_send : v.attributes.make_send ≡ of_make_send
   pub sequence : v.attributes.sequence ≡ of_sequence
-  pub sets : option_to_list v.attributes.set ≡ of_sets
+  pub sets : sets_in v ≡ of_sets
 
 abbrev pub ShowsPort : PortView Kept → State → ℕ → Type 0
 ShowsPort v s p = PortAgrees v p (queue s p) (s.limit p) (s.make_send p) (s.sequence p) (s.sets_of p)

@@ -2,16 +2,17 @@
 use Rattle.std.specs.Prelude.{◌≡◌, ℕ, Bool, List, [], Option, Some, None, true, false, is_some, get_or, slice_set, refl}
 use Rattle.std.specs.Coded.{Coded, code_by, coded×, coded_list, coded_option}
 use Rattle.std.specs.FinMap as map
+use Rattle.std.specs.Option.{option_map_or}
 use Rattle.std.specs.Ordering.{nat_cmp}
 use Rattle.mach_types.specs.declared.profiles.Profile.{Profile}
 use Rattle.mach_types.specs.declared.profiles.Profile.TheVariants.{One, Two, Three}
 use Rattle.name_space.specs.declared.Entry.{Entry}
 use Rattle.name_space.specs.Names.{SpaceView}
-use Rattle.port.specs.Ports.{PortView, PortsView}
+use Rattle.port.specs.Ports.{PortView, PortsView, sets_in}
 use Rattle.port_set.specs.Sets.{SetsView, no_sets}
 use Rattle.rights.specs.Ledger.{LedgerView}
 use Rattle.tables_base.specs.Kept.{Kept}
-use Rattle.copyin_base.specs.Requests.{RequestTablesView, none_requested}
+use Rattle.request_table.specs.Tables.{RequestTablesView, none_requested}
 
 pub record WorldView : Type 0 where
   -- the names of each task, by the task's number, and nothing where the task has ended
@@ -38,11 +39,17 @@ has_generations One = false
 has_generations Two = true
 has_generations Three = true
 
+-- whether a port may be in several sets
+abbrev pub has_several_sets : Profile → Bool
+has_several_sets One = false
+has_several_sets Two = false
+has_several_sets Three = true
+
 -- the tables before anything was made
 abbrev pub no_world : Profile → WorldView
 no_world profile = record {
   spaces = [];
-  ports = record { ports = map.empty; ready = map.empty; made = 0; spare = 0; destroyed = []; lost = []; doomed = []; noted = [] };
+  ports = record { ports = map.empty; ready = map.empty; made = 0; spare = 0; destroyed = []; lost = []; doomed = []; noted = []; several = has_several_sets profile };
   ledger = record { counts = map.empty; total = 0; unused = 0 };
   sets = no_sets;
   requests = none_requested;
@@ -74,6 +81,10 @@ entry_at w task name = entry_in (space_at w task) name
 
 abbrev pub port_at : WorldView → ℕ → Option (PortView Kept)
 port_at w p = map.get w.ports.ports p
+
+-- the sets that the port is in, if it is there
+abbrev pub sets_at : WorldView → ℕ → List ℕ
+sets_at w p = option_map_or sets_in (port_at w p) []
 
 -- the map with this under the name, or with nothing there
 abbrev pub put : {V : Type 0} → map.FinMap nat_cmp V → (name : ℕ) → Option V → map.FinMap nat_cmp V

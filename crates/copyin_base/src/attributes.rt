@@ -1,6 +1,6 @@
 //! The attributes of a port, read and set.
 ghost use Rattle.std.specs.Prelude.{◌≡◌, true, is_some};
-ghost use Rattle.port.specs.Holding.{CanHold, KeepsHolder};
+ghost use Rattle.port.specs.Holding.{CanHold, KeepsHolder, KeepsSet};
 ghost use Rattle.copyin_base.specs.Changes.{HasAttributes, SetsAttributes, SetsHolder};
 ghost use Rattle.copyin_base.specs.Worlds.{NoneLost, port_at};
 
@@ -20,11 +20,12 @@ impl World {
         attributes
     }
 
-    /// Sets the attributes of a port that is there; who holds its receive right stays. Takes no memory.
-    /// Constant time.
+    /// Sets the limit and the counts of a port that is there; its sets stay, and who holds its receive right.
+    /// Takes no memory. Constant time.
     pub fn set_attributes(&mut self, port: PortId, attributes: Attributes)
         requires there { is_some (port_at self.old port) ≡ true }
         requires holder { KeepsHolder self.old.ports port attributes }
+        requires set { KeepsSet self.old.ports port attributes }
         ensures { SetsAttributes self.old port attributes self.new }
     {
         self.ports.set_attributes(port, attributes);

@@ -94,7 +94,7 @@ impl World {
     }
 
     /// Dooms the port that was lost first: nobody can hold its receive right again, and it is to be removed, as
-    /// the last of those that are doomed. Until then it stays in its set, and keeps its messages. Returns whether
+    /// the last of those that are doomed. Until then it stays in its sets, and keeps its messages. Returns whether
     /// it has any. Takes no memory. Constant time.
     #[inline(always)]
     pub fn doom_first(&mut self) -> bool

@@ -7,7 +7,6 @@
 #![tactic(auto)]
 
 mod attributes;
-mod code;
 mod counts;
 mod dying;
 mod entries;
@@ -21,7 +20,6 @@ mod sets;
 mod tasks;
 mod world;
 
-pub use code::Code;
 pub use tables_base::{
     BodyRights, Carried, CarriedRights, Envelope, Mark, Message, Notice, Queued, Slot, TaskNames,
 };

@@ -67,7 +67,7 @@ impl World {
         self.note_senderless(port);
     }
 
-    /// Removes the set, and its members are in none. Takes no memory. Linear in the members.
+    /// Removes the set; its members stay in their other sets. Takes no memory. Linear in the members.
     pub fn drop_set(&mut self, set: SetId)
         ensures { DropsSet self.old set self.new }
     {

@@ -1,11 +1,13 @@
 //! The ports, to read: what is kept of each, its messages, and the members of sets.
-ghost use Rattle.std.specs.Prelude.{◌≡◌, ◌↔◌, ◌<◌, ◌≤◌, ℕ, IfNone, IfOk, IfSome, IsTrue, None, Some, is_some, length, option_copied, slice_get, true, false};
+ghost use Rattle.std.specs.Prelude.{◌≡◌, ◌↔◌, ◌<◌, ◌≤◌, [], ℕ, IfNone, IfOk, IfSome, IsTrue, None, Some, is_some, length, option_copied, slice_get, true, false};
 ghost use Rattle.std.specs.List.{Contains};
 ghost use Rattle.std.specs.Option.{option_and_then, option_map};
 ghost use Rattle.std.specs.FinMap as map;
 ghost use Rattle.mach_types.specs.Numbers.{most_identities};
 ghost use Rattle.circularity.specs.Chains.{LeadsToAny};
-ghost use Rattle.port.specs.Ports.{IsIn, IsNumberedFront, NoneIn, NoneQueued, PortView};
+ghost use Rattle.port.specs.Ports.{IsIn, IsNumberedFront, NoneIn, NoneQueued, PortView, sets_in};
+ghost use Rattle.port_base.specs.Memberships.{membership_in};
+ghost use Rattle.port_base.specs.declared.Membership.TheVariants as AnyMembership;
 ghost use Rattle.port.specs.Turns.{turns_of};
 ghost use Rattle.port_set.specs.Sets.{IsReady, NoneReady};
 ghost use Rattle.tables_base.specs.Kept.{Kept};
@@ -13,7 +15,7 @@ ghost use Rattle.copyin_base.specs.Worlds.{port_at};
 
 use crate::world::World;
 use mach_types::{PortId, SetId};
-use port::{Attributes, Standing};
+use port::{Attributes, Membership, PortSets, Standing};
 use std::alloc::{AllocError, Global};
 use std::collections::LinkedList;
 use tables_base::Queued;
@@ -27,10 +29,11 @@ impl World {
         self.ports.contains(port)
     }
 
-    /// The attributes of a port, if it is there. Constant time.
+    /// The attributes of a port, if it is there. Where they name no set it is in none. Constant time.
     #[inline(always)]
     pub fn find_attributes(&self, port: PortId) -> Option<Attributes>
-        ensures { result ≡ option_map (λ p. p.attributes) (port_at self.now port) }
+        ensures is { result ≡ option_map (λ p. p.attributes) (port_at self.now port) }
+        ensures none { (p : PortView Kept) → port_at self.now port ≡ Some p → p.attributes.set ≡ None → p.more ≡ [] }
     {
         self.ports.attributes(port)
     }
@@ -110,6 +113,7 @@ impl World {
         ensures some { IfSome result (λ s. (p : PortView Kept) → port_at self.now port ≡ Some p → (s.is_member ≡ is_some p.attributes.set) × (s.queued ≡ length p.queue)) }
         ensures none { IfNone result (port_at self.now port ≡ None) }
         ensures there { IfSome result (λ _. is_some (port_at self.now port) ≡ true) }
+        ensures nowhere { (p : PortView Kept) → port_at self.now port ≡ Some p → p.attributes.set ≡ None → p.more ≡ [] }
     {
         self.ports.standing(port)
     }
@@ -135,6 +139,31 @@ impl World {
         circularity::closes_loop(&self.ports, destination, carried)
     }
 
+    /// In how many sets a port is, with the first of them; in none, where the port is gone. Constant time.
+    #[inline(always)]
+    pub fn membership(&self, port: PortId) -> Membership
+        ensures live { (p : PortView Kept) → port_at self.now port ≡ Some p → result ≡ membership_in (sets_in p) }
+        ensures gone { port_at self.now port ≡ None → result ≡ AnyMembership.Nowhere }
+    {
+        self.ports.membership(port)
+    }
+
+    /// Returns whether a port is there and in the set. Takes no memory. Linear in the port's sets.
+    #[inline(always)]
+    pub fn is_in(&self, port: PortId, set: SetId) -> bool
+        ensures { IsTrue result ↔ IsIn self.now.ports set port }
+    {
+        self.ports.is_in(port, set)
+    }
+
+    /// A port's sets, in the order in which it entered them; `None` where the port is gone. Constant time.
+    #[inline(always)]
+    pub fn sets_of(&self, port: PortId) -> Option<PortSets<'_>>
+        ensures { result ≡ option_map sets_in (port_at self.now port) }
+    {
+        self.ports.sets_of(port)
+    }
+
     /// A port of the set, if there is one. Constant time.
     #[inline(always)]
     pub fn first_member(&self, set: SetId) -> Option<PortId>
@@ -150,7 +179,7 @@ impl World {
     #[inline(always)]
     pub fn members(&self, set: SetId, alloc: Global) -> Result<Vec<PortId>, AllocError>
         ensures only { IfOk result (λ ports. (port : ℕ) → Contains ports.items port → IsIn self.now.ports set port) }
-        ensures all { IfOk result (λ ports. (port : ℕ) (p : PortView Kept) → port_at self.now port ≡ Some p → p.attributes.set ≡ Some set → Contains ports.items port) }
+        ensures all { IfOk result (λ ports. (port : ℕ) (p : PortView Kept) → port_at self.now port ≡ Some p → Contains (sets_in p) set → Contains ports.items port) }
     {
         self.ports.members(set, alloc)
     }

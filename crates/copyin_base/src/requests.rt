@@ -3,79 +3,15 @@ ghost use Rattle.std.specs.Prelude.{◌≡◌, ◌↔◌, ◌<◌, [], IfNone, I
 ghost use Rattle.std.specs.Option.{option_and_then};
 ghost use Rattle.std.specs.FinMap as map;
 ghost use Rattle.request_table.specs.Requests.{IsOn, NoneOn, key_of as key_in, name_key, names_of};
-ghost use Rattle.copyin_base.specs.Asking.{HasNone, port_taken, request_moved, with_no_senders, with_on_name, with_port_destroyed, with_room_no_senders, with_room_on_name, with_room_port_destroyed};
+ghost use Rattle.request_table.specs.Tables.{request_moved, request_left};
+ghost use Rattle.copyin_base.specs.Asking.{HasNone, port_taken, with_no_senders, with_on_name, with_port_destroyed, with_room_no_senders, with_room_on_name, with_room_port_destroyed};
 ghost use Rattle.copyin_base.specs.Leaving.{TakesWent, without_no_senders, without_on_name, without_port_destroyed};
-ghost use Rattle.copyin_base.specs.Requests.{request_left};
 
 use crate::world::World;
 use mach_types::{Name, PortId, TaskId};
 use number_map::NumberMap;
-use request_table::{Request, Requests};
-use std::alloc::{AllocError, Global};
-use std::marker::Model;
-
-/// The requests for notices that stand, each with its notify port (Port Manipulation Interface,
-/// `mach_port_request_notification`).
-///
-/// A notify port may have died: it is then in no table of ports.
-#[derive(Drop)]
-pub struct RequestTables {
-    /// Those for the death of a name's port, by names and by ports.
-    pub names: Requests,
-    /// The notify ports of those for no senders, by ports.
-    pub no_senders: NumberMap<PortId>,
-    /// The notify ports of those for a port's receive right, by ports.
-    pub port_destroyed: NumberMap<PortId>,
-}
-
-impl Model for RequestTables {
-    ghost use Rattle.mach_types.specs.contracts.identities.PortId as port_id;
-    ghost use Rattle.request_table.specs.contracts.Request as request;
-    ghost use Rattle.copyin_base.specs.Requests.{RequestTablesView, request_tables_code};
-
-    ghost Value = { RequestTablesView };
-
-    ghost coded = { request_tables_code request.the_row.coded port_id.the_row.coded };
-
-    ghost view = { λ a. record { names = a.names; no_senders = a.no_senders; port_destroyed = a.port_destroyed } };
-}
-
-impl RequestTables {
-    ghost use Rattle.std.specs.Prelude.{◌≡◌};
-    ghost use Rattle.copyin_base.specs.Requests.{none_requested, request_left};
-
-    /// No requests. Takes no memory.
-    pub fn new(alloc: Global) -> RequestTables
-        ensures { result ≡ none_requested }
-    {
-        RequestTables {
-            names: Requests::new(alloc),
-            no_senders: NumberMap::new(alloc),
-            port_destroyed: NumberMap::new(alloc),
-        }
-    }
-
-    /// The task's name goes: the request on it, if there is one, ends, and is the last of those whose
-    /// right waits to pay. Takes no memory. Constant time.
-    pub fn leave(&mut self, task: TaskId, name: Name)
-        ensures { self.new ≡ request_left self.old task name }
-    {
-        if !self.names.is_empty() {
-            self.names.leave(task, name);
-        }
-    }
-
-    /// The request on a task's name, if there is one, goes along to another name, which has none. Takes no
-    /// memory. Constant time.
-    pub fn rename(&mut self, task: TaskId, from: Name, to: Name)
-        requires { map.get self.old.names.requests (name_key task to) ≡ None }
-        ensures { self.new ≡ request_moved self.old task from to }
-    {
-        if !self.names.is_empty() {
-            self.names.rename(task, from, to);
-        }
-    }
-}
+use request_table::Request;
+use std::alloc::AllocError;
 
 // Takes a notify port away, if one is kept for the port; its place stays.
 fn take_port(map: &mut NumberMap<PortId>, port: PortId)

@@ -4,13 +4,13 @@ ghost use Rattle.rights.specs.Unused.{IsUnusedOfAll};
 ghost use Rattle.copyin_base.specs.Changes.{IsForLive, with_slots};
 ghost use Rattle.copyin_base.specs.Shows.{SlotsSuffice};
 ghost use Rattle.copyin_base.specs.Wanted.{LacksSlots};
-ghost use Rattle.copyin_base.specs.Worlds.{HasTask, entry_at, has_generations, no_world, space_at};
+ghost use Rattle.copyin_base.specs.Worlds.{HasTask, entry_at, has_generations, has_several_sets, no_world, space_at};
 
-use crate::requests::RequestTables;
 use mach_types::{Name, Profile, TaskId};
 use name_space::{Entry, Space};
 use port::Ports;
 use port_set::Sets;
+use request_table::RequestTables;
 use rights::Ledger;
 use std::alloc::{AllocError, Global};
 use std::marker::Model;
@@ -29,7 +29,7 @@ pub struct World {
     pub(crate) ports: Ports<Queued>,
     /// How many rights there are.
     pub(crate) ledger: Ledger,
-    /// The port sets. Which ports are in one is an attribute of the ports.
+    /// The port sets. Which ports are in one is kept with the ports.
     pub(crate) sets: Sets,
     /// The requests for notices.
     pub(crate) requests: RequestTables,
@@ -48,7 +48,7 @@ impl Model for World {
     ghost use Rattle.port_set.specs.contracts.SetRecord as set_record;
     ghost use Rattle.mach_types.specs.contracts.identities.PortId as port_id;
     ghost use Rattle.request_table.specs.contracts.Request as request;
-    ghost use Rattle.copyin_base.specs.Requests.{request_tables_code};
+    ghost use Rattle.request_table.specs.Tables.{request_tables_code};
     ghost use Rattle.tables_base.specs.Kept.{kept_code};
     ghost use Rattle.tables_base.specs.contracts.message.Carried as carried;
     ghost use Rattle.mach_types.specs.contracts.profiles.Profile as profile_of;
@@ -85,7 +85,7 @@ impl World {
     {
         World {
             spaces: Vec::new(alloc),
-            ports: Ports::new(alloc),
+            ports: Ports::new(alloc, profile == Profile::Three),
             ledger: Ledger::new(alloc),
             sets: Sets::new(alloc),
             requests: RequestTables::new(alloc),
@@ -101,6 +101,24 @@ impl World {
             Profile::One => false,
             Profile::Two | Profile::Three => true,
         }
+    }
+
+    /// The profile of the kernel. Constant time.
+    pub fn profile(&self) -> Profile
+        ensures { result ≡ self.now.profile }
+    {
+        match self.profile {
+            Profile::One => Profile::One,
+            Profile::Two => Profile::Two,
+            Profile::Three => Profile::Three,
+        }
+    }
+
+    /// Returns whether a port may be in several sets. Constant time.
+    pub fn has_several_sets(&self) -> bool
+        ensures { result ≡ has_several_sets self.now.profile }
+    {
+        self.profile == Profile::Three
     }
 
     /// Returns whether the task lives. Constant time.

@@ -8,7 +8,6 @@ use Rattle.std.proofs.lemmas.List.{length-drop}
 use Rattle.std.proofs.lemmas.List.Elements.{All-drop}
 use Rattle.mach_types.specs.Tokens.{Kind, receive, send, send_once, same_kind, Place, in_message, in_request, Token, token, weigh, count, is_of, is_held, Moves}
 use Rattle.mach_types.specs.Messages.{to_port, Entry, Mark, Message}
-use Rattle.mach_types.specs.declared.calls.Waited.{Waited}
 use Rattle.mach_types.specs.Numbers.{kind_number, most_bytes}
 use Rattle.mach_types.specs.Grammar.{WireBody, Spells, IsHeader, body_text}
 use Rattle.mach_types.specs.Grammar as wire
@@ -16,10 +15,9 @@ use Rattle.mach_types.specs.Bodies.{reply_words, body_words, message_rights, Sam
 use Rattle.mach_model.specs.State.{State, held, queue, Target, lookup}
 use Rattle.mach_model.specs.Death.{same_place}
 use Rattle.mach_model.specs.Carried.{lying, mark_count, message_count, rights_count}
-use Rattle.mach_model.specs.Receive.{with_taken, TakesFrom, Receives}
+use Rattle.mach_model.specs.Receive.{with_taken, Receives}
 use Rattle.mach_model.specs.Lawful.{IsLawful, tally}
 use Rattle.mach_model.proofs.Names.{both_test, length-weigh, at_own, at_other}
-use Rattle.mach_model.specs.Telling.{one_if}
 use Rattle.mach_model.specs.CopyOut.{GiveWord}
 use Rattle.mach_model.specs.ReceivedMeans.{IsReceived}
 use Rattle.mach_model.proofs.Moving.{IsMoving, IsOutside}
@@ -33,7 +31,7 @@ use Rattle.rights.specs.declared.RightKind.{RightKind}
 use Rattle.rights.specs.declared.RightKind.TheVariants as right
 use Rattle.rights.specs.Ledger.{taken}
 use Rattle.name_space.specs.declared.Entry.{Entry as Named}
-use Rattle.name_space.specs.Entry.{port_named, has_receive}
+use Rattle.name_space.specs.Entry.{port_named}
 use Rattle.name_space.specs.Names.{SpaceView}
 use Rattle.port.specs.Ports.{PortView, with_port}
 use Rattle.copyin_base.specs.Kept.{Kept, message_of, body_given}
@@ -128,7 +126,7 @@ module _ (w : WorldView) (s : State) (a : Agrees w s) (l : IsLawful s) (p : ℕ)
   held_same task kind q = let m = tokens_for (is_held task kind q) in let z = both_test (is_of kind q going) false (inr refl) in omega (arith, m, z)
 
   abbrev shorter : PortView Kept
-  shorter = record { queue = f.behind; attributes = record f.v.attributes { sequence = (f.v.attributes.sequence + 1) % 2 ^ 32 } }
+  shorter = record f.v { queue = f.behind; attributes = record f.v.attributes { sequence = (f.v.attributes.sequence + 1) % 2 ^ 32 } }
 
   abbrev after : WorldView
   after = record w {
@@ -196,7 +194,7 @@ front_holders w p w' f h = grind (arith, holders_ports, put_holders)
 -- ... and so does each whose receive right a message carries that is queued behind it
 pub front_carriers : (w : WorldView) (p : ℕ) (w' : WorldView) → TakesFront w p w' → CarriersAgree w → CarriersAgree w'
 front_carriers w p w' f c = carriers_taken w w' c p f.v
-    (record { queue = f.behind; attributes = record f.v.attributes { sequence = (f.v.attributes.sequence + 1) % 2 ^ 32 } }) f.front f.there
+    (record f.v { queue = f.behind; attributes = record f.v.attributes { sequence = (f.v.attributes.sequence + 1) % 2 ^ 32 } }) f.front f.there
     (ap (λ (x : WorldView). x.ports.made) f.rest) (ap (λ (x : WorldView). x.ports.ports) f.rest) f.queue refl
 
 -- Requests stand where they stood.
@@ -446,11 +444,3 @@ module _ (w : WorldView) (s : State) (sh : Shows w s) (task port local : ℕ) (b
         -- each port that lives has its receive right
         on_way_still : IsMoving all.t port (s.taken port)
         on_way_still = (Receives-removes task port room bytes s all.t l lives is_task receives).keeps
-
-  -- The port may be taken from: the task has its receive right, and it is in no set.
-  pub takes_from : has_receive x ≡ true → m.takes.v.attributes.set ≡ None → TakesFrom s task (Waited.Port port) port
-  takes_from has none =
-      let r = a.references task local x port found named in
-      let one : one_if (has_receive x) ≡ 1 = ap one_if has in
-      let h = r.0 in
-      (refl, omega (arith, h, one), sym (a.ports port m.takes.v m.takes.there).sets ∙ ap (λ (o : Option ℕ). option_to_list o) none)

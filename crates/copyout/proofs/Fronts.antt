@@ -350,7 +350,7 @@ abbrev pub front_waits : (w : WorldView) (port : ℕ) (x : Waits w port) → Has
 front_waits w port x = record { v = x.v; there = x.there; behind = x.behind; queue = x.queue }
 
 abbrev pub takes_front : (w w1 w2 : WorldView) (port : ℕ) (x : Waits w port) →
-    w1 ≡ record w { ports = record (with_port w.ports port (record { queue = x.behind; attributes = record x.v.attributes { sequence = (x.v.attributes.sequence + 1) % 2 ^ 32 } })) { spare = w.ports.spare + 1 } } →
+    w1 ≡ record w { ports = record (with_port w.ports port (record x.v { queue = x.behind; attributes = record x.v.attributes { sequence = (x.v.attributes.sequence + 1) % 2 ^ 32 } })) { spare = w.ports.spare + 1 } } →
     w2 ≡ record w1 { ledger = taken w1.ledger port (destination_right x.front) 1 } →
     TakesFront w port w2
 takes_front w w1 w2 port x e1 e2 = record {

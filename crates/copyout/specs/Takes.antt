@@ -27,7 +27,7 @@ pub record TakesFront (old : WorldView) (port : ℕ) (new : WorldView) : Type 0 
   pub behind : List Kept
   pub queue : v.queue ≡ front ∷ behind
   pub rest : new ≡ record old {
-    ports = record (with_port old.ports port (record { queue = behind; attributes = record v.attributes { sequence = (v.attributes.sequence + 1) % 2 ^ 32 } })) { spare = old.ports.spare + 1 };
+    ports = record (with_port old.ports port (record v { queue = behind; attributes = record v.attributes { sequence = (v.attributes.sequence + 1) % 2 ^ 32 } })) { spare = old.ports.spare + 1 };
     ledger = taken old.ledger port (destination_right front) 1;
   }
 

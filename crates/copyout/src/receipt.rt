@@ -74,7 +74,7 @@ pub(crate) fn header_bits(reply: &Option<Carried>, by_once: bool, is_complex: bo
 fn dequeue(world: &mut World, port: PortId) -> Queued
     requires { (m : Kept) × HasFront world.old port m }
     ensures { (m : Kept) (f : HasFront world.old port m) → (result ≡ m)
-        × (world.new ≡ record world.old { ports = record (with_port world.old.ports port (record { queue = f.behind; attributes = record f.v.attributes { sequence = (f.v.attributes.sequence + 1) % 2 ^ 32 } })) { spare = world.old.ports.spare + 1 } }) }
+        × (world.new ≡ record world.old { ports = record (with_port world.old.ports port (record f.v { queue = f.behind; attributes = record f.v.attributes { sequence = (f.v.attributes.sequence + 1) % 2 ^ 32 } })) { spare = world.old.ports.spare + 1 } }) }
 {
     world.take_front(port)
 }

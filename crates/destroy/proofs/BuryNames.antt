@@ -36,7 +36,8 @@ use Rattle.copyin_base.proofs.Putting.{get_removed, put_own, put_other}
 use Rattle.copyin_base.proofs.Written.{tables}
 use Rattle.copyin_base.specs.declared.Notice.TheVariants as notice
 use Rattle.copyin_base.specs.Queued.{notice_kept}
-use Rattle.copyin_base.specs.Requests.{RequestTablesView, notify_of}
+use Rattle.request_table.specs.Tables.{RequestTablesView}
+use Rattle.copyin_base.specs.Requests.{notify_of}
 use Rattle.copyin_base.specs.Shows.{target_of, CarriesReceive, IsOnName}
 use Rattle.tables_base.proofs.Reading.{named_port}
 use Rattle.copyin_base.proofs.Requesting.{same_key}

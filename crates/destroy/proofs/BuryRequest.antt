@@ -17,7 +17,8 @@ use Rattle.name_space.specs.Entry.{port_of, port_named}
 use Rattle.name_space.specs.Names.{SpaceView}
 use Rattle.rights.specs.Ledger.{counts_of}
 use Rattle.mach_model.specs.Unused.{onces_queued}
-use Rattle.copyin_base.specs.Requests.{RequestTablesView, notify_of, rights_kept, rights_went, AreMade, AreEnded}
+use Rattle.request_table.specs.Tables.{RequestTablesView}
+use Rattle.copyin_base.specs.Requests.{notify_of, rights_kept, rights_went, AreMade, AreEnded}
 use Rattle.copyin_base.specs.Shows.{target_of, HasCount}
 use Rattle.copyin_base.specs.Worlds.{WorldView, space_at, with_space, entry_in, put}
 use Rattle.copyin_base.proofs.Agreeing.{NamesAgree, CountRights, put_names, put_rights, spaces_agree, references_agree, sets_stay}

@@ -172,7 +172,7 @@ module _ (live : ℕ → Bool) (spaces : List (Option SpaceView)) where
           let k = kept_there live spaces task space is in
           ap (λ (x : SpaceView). map.len x.names) k.2 ∙ len_read live k.0.names ∙ a.names_kept task k.0 k.1 ∙ sym (mapped_len (left_target live (references task)) (names task));
       counted = λ task n e is. let k = read_from task n e is in subst HasCount (sym k.2) (counted_read live k.0 (a.counted task n k.0 k.1));
-      profiles = a.profiles;
+      same_profile = a.same_profile;
       counts_given = λ task space is.
           let k = kept_there live spaces task space is in
           subst (λ (x : SpaceView). GivenAgrees profile x.given (given task)) (sym k.2) (a.counts_given task k.0 k.1);

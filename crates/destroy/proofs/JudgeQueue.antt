@@ -405,12 +405,13 @@ module _ (now : ℕ) (tables : WorldView) (old mid : State) (owed : Owed) (e : E
         found : port_at w q ≡ Some y
         own : q ≡ p → u.queue ≡ behind
         other : (q ≡ p → ⊥) → u.queue ≡ y.queue
+        more : u.more ≡ y.more
         attributes : (u.attributes ≡ y.attributes) ⊎ ((x : ℕ) × (y.attributes.holder ≡ holder.QueueOf x) × Carried q × (u.attributes ≡ record y.attributes { holder = holder.Nobody }))
 
       was_next : (q : ℕ) (u : PortView Kept) → port_at next q ≡ Some u → Was q u
       was_next = each_put w.ports.ports p (Some (record v { queue = behind })) (λ q o. (u : PortView Kept) → o ≡ Some u → Was q u)
-          (of_some (record v { queue = behind }) (λ u. Was p u) record { y = v; found = there; own = λ same. refl; other = λ differs. absurd (differs refl); attributes = inl refl })
-          (λ q differs u is. record { y = u; found = is; own = λ same. absurd (differs same); other = λ differs. refl; attributes = inl refl })
+          (of_some (record v { queue = behind }) (λ u. Was p u) record { y = v; found = there; own = λ same. refl; other = λ differs. absurd (differs refl); more = refl; attributes = inl refl })
+          (λ q differs u is. record { y = u; found = is; own = λ same. absurd (differs same); other = λ differs. refl; more = refl; attributes = inl refl })
 
       was : (q : ℕ) (u : PortView Kept) → map.get P q ≡ Some u → Was q u
       was q u is = go (each q)
@@ -420,7 +421,7 @@ module _ (now : ℕ) (tables : WorldView) (old mid : State) (owed : Owed) (e : E
           go (inr (z, x, at_next, queued, now_is, c)) =
               let same : u ≡ held z holder.Nobody = same_found (map.get P q) u (held z holder.Nobody) is now_is in
               let a = was_next q z at_next in
-              subst (Was q) (sym same) record { y = a.y; found = a.found; own = a.own; other = a.other; attributes = lose a.y a.attributes }
+              subst (Was q) (sym same) record { y = a.y; found = a.found; own = a.own; other = a.other; more = a.more; attributes = lose a.y a.attributes }
             where
               lose : (y : PortView Kept) → (z.attributes ≡ y.attributes) ⊎ ((x : ℕ) × (y.attributes.holder ≡ holder.QueueOf x) × Carried q × (z.attributes ≡ record y.attributes { holder = holder.Nobody })) →
                   ((held z holder.Nobody).attributes ≡ y.attributes) ⊎ ((x : ℕ) × (y.attributes.holder ≡ holder.QueueOf x) × Carried q × ((held z holder.Nobody).attributes ≡ record y.attributes { holder = holder.Nobody }))
@@ -456,7 +457,7 @@ module _ (now : ℕ) (tables : WorldView) (old mid : State) (owed : Owed) (e : E
         limit = (by (λ x. x.limit) (λ x. refl)) ∙ o.limit;
         make_send = (by (λ x. x.make_send) (λ x. refl)) ∙ o.make_send;
         sequence = (by (λ x. x.sequence) (λ x. refl)) ∙ o.sequence;
-        sets = ap (λ (x : Option ℕ). option_to_list x) (by (λ x. x.set) (λ x. refl)) ∙ o.sets;
+        sets = ap (λ (x : Option ℕ). option_to_list x ++ u.more) (by (λ x. x.set) (λ x. refl)) ∙ ap (λ (xs : List ℕ). option_to_list a.y.attributes.set ++ xs) a.more ∙ o.sets;
       }
         where
           by : {A : Type 0} (field : Attributes → A) → ((x : Attributes) → field (record x { holder = holder.Nobody }) ≡ field x) → field u.attributes ≡ field a.y.attributes

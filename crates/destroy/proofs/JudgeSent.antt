@@ -30,7 +30,7 @@ use Rattle.rights.specs.Ledger.{LedgerView, counts_of, shifted, IsEntered, made}
 use Rattle.rights.specs.declared.RightKind.TheVariants.{Receive}
 use Rattle.port.specs.declared.Holder.TheVariants as holder
 use Rattle.port.specs.Holding.{held, IsHeldBy}
-use Rattle.port.specs.Ports.{PortView, IsLive}
+use Rattle.port.specs.Ports.{PortView, IsLive, restarted}
 use Rattle.port.specs.Turns.{ReadyLists}
 use Rattle.port.specs.declared.Holder.{Holder}
 use Rattle.request_table.specs.declared.Request.{Request as NameRequest}
@@ -43,7 +43,8 @@ use Rattle.copyin_base.proofs.Putting.{each_put, put_own, put_other}
 use Rattle.copyin_base.specs.Changes.{IsSenderless}
 use Rattle.copyin_base.specs.Shows.{HoldersAgree, CarriersAgree, CarriesReceive, RequestsStand, SlotsSuffice, CountsAgree, ShowsPort}
 use Rattle.copyin_base.proofs.Listed.{listed_one}
-use Rattle.copyin_base.specs.Requests.{RequestTablesView, notify_of, rights_kept, rights_went, RequestsAgree}
+use Rattle.request_table.specs.Tables.{RequestTablesView}
+use Rattle.copyin_base.specs.Requests.{notify_of, rights_kept, rights_went, RequestsAgree}
 use Rattle.copyin_base.proofs.Counting.{counts_agree, counts_same}
 use Rattle.copyin_base.proofs.Requesting.{ended_more}
 use Rattle.copyin_base.specs.Leaving.{without_port_destroyed}
@@ -96,8 +97,8 @@ module _ (w : WorldView) (p n : ℕ) (c : CanSend w p n) where
     module _ (w3 : WorldView) (resets : ResetsPort w2 p w3) where
       pub held_then : IsHeldBy w3.ports p holder.Nobody
       held_then = record {
-        view = record resets.v { attributes = record resets.v.attributes { make_send = 0; sequence = 0; set = None } };
-        there = ap (λ (x : WorldView). port_at x p) resets.rest ∙ put_own w2.ports.ports p (Some (record resets.v { attributes = record resets.v.attributes { make_send = 0; sequence = 0; set = None } }));
+        view = restarted resets.v;
+        there = ap (λ (x : WorldView). port_at x p) resets.rest ∙ put_own w2.ports.ports p (Some (restarted resets.v));
         holder_is = ap (λ (v : PortView Kept). v.attributes.holder) (same_found (port_at w2 p) resets.v c.lost.view resets.there port_then) ∙ c.lost.holder_is;
       }
 
@@ -161,7 +162,7 @@ module _ (w : WorldView) (p n : ℕ) (c : CanSend w p n) where
                 ∙ ap (λ (x : WorldView). is_undoomed (port_at x q)) holds.rest
                 ∙ undoomed_put w3.ports.ports p holds.v (held holds.v (holder.QueueOf n)) holds.there (sym (ap can_be_doomed was_nobody)) q
                 ∙ ap (λ (x : WorldView). is_undoomed (port_at x q)) resets.rest
-                ∙ undoomed_put w2.ports.ports p resets.v (record resets.v { attributes = record resets.v.attributes { make_send = 0; sequence = 0; set = None } }) resets.there refl q
+                ∙ undoomed_put w2.ports.ports p resets.v (restarted resets.v) resets.there refl q
                 ∙ ap (λ (x : WorldView). is_undoomed (port_at x q)) ends
                 ∙ ap (λ (x : WorldView). is_undoomed (port_at x q)) posts.rest
                 ∙ undoomed_put w.ports.ports n posts.v (record posts.v { queue = posts.v.queue ++ notice_kept (PortDestroyed p) ∷ [] }) posts.there refl q
@@ -178,7 +179,7 @@ module _ (now : ℕ) (tables : WorldView) (old mid : State) (owed : Owed) (e : E
 
   -- the port, and the one that is told
   abbrev pub own : PortView Kept
-  own = record lost.view { attributes = record lost.view.attributes { make_send = 0; sequence = 0; set = None; holder = holder.QueueOf n } }
+  own = held (restarted lost.view) (holder.QueueOf n)
 
   abbrev pub told : PortView Kept
   told = record u { queue = u.queue ++ notice_kept (PortDestroyed p) ∷ [] }
@@ -448,9 +449,6 @@ module _ (now : ℕ) (tables : WorldView) (old mid : State) (owed : Owed) (e : E
 
 -- ---- The tables after the verbs by which a port is sent away.
 
-abbrev reset_view : PortView Kept → PortView Kept
-reset_view v = record v { attributes = record v.attributes { make_send = 0; sequence = 0; set = None } }
-
 module _ (w : WorldView) (p n : ℕ) (c : CanSend w p n) (w1 : WorldView) (posts : Posts w n (PortDestroyed p) w1) (w2 : WorldView) (ends : w2 ≡ without_port_destroyed w1 p) (w3 : WorldView) (resets : ResetsPort w2 p w3)
     (w4 : WorldView) (holds : HoldsPort w3 p n w4) (w5 : WorldView) (is : w5 ≡ record w4 { ledger = brought w4.ledger p }) where
   apart_after : p ≡ n → ⊥
@@ -462,7 +460,7 @@ module _ (w : WorldView) (p n : ℕ) (c : CanSend w p n) (w1 : WorldView) (posts
       ap (λ (x : WorldView). port_at x q) is ∙ ap (λ (x : WorldView). port_at x q) holds.rest
       ∙ put_other w3.ports.ports p (Some (held holds.v (holder.QueueOf n))) q differs
       ∙ ap (λ (x : WorldView). port_at x q) resets.rest
-      ∙ put_other w2.ports.ports p (Some (reset_view resets.v)) q differs
+      ∙ put_other w2.ports.ports p (Some (restarted resets.v)) q differs
       ∙ ap (λ (x : WorldView). port_at x q) ends
 
   pub others_after : (q : ℕ) → q ≢ p → q ≢ n → port_at w5 q ≡ port_at w q
@@ -477,8 +475,8 @@ module _ (w : WorldView) (p n : ℕ) (c : CanSend w p n) (w1 : WorldView) (posts
   pub own_after : port_at w5 p ≡ Some (own c.at.now c.at.tables c.at.old c.at.mid c.at.owed c.at.ending w c.at.between p n c.lost c.goes)
   own_after =
       let reset_is : resets.v ≡ c.lost.view = same_found (port_at w2 p) resets.v c.lost.view resets.there (port_then w p n c w1 posts w2 ends) in
-      let held_is : holds.v ≡ reset_view c.lost.view = same_found (port_at w3 p) holds.v (reset_view c.lost.view) holds.there
-      (ap (λ (x : WorldView). port_at x p) resets.rest ∙ put_own w2.ports.ports p (Some (reset_view resets.v)) ∙ ap (λ (v : PortView Kept). Some (reset_view v)) reset_is) in
+      let held_is : holds.v ≡ restarted c.lost.view = same_found (port_at w3 p) holds.v (restarted c.lost.view) holds.there
+      (ap (λ (x : WorldView). port_at x p) resets.rest ∙ put_own w2.ports.ports p (Some (restarted resets.v)) ∙ ap (λ (v : PortView Kept). Some (restarted v)) reset_is) in
       ap (λ (x : WorldView). port_at x p) is ∙ ap (λ (x : WorldView). port_at x p) holds.rest ∙ put_own w3.ports.ports p (Some (held holds.v (holder.QueueOf n)))
       ∙ ap (λ (v : PortView Kept). Some (held v (holder.QueueOf n))) held_is
 
@@ -500,6 +498,7 @@ module _ (w : WorldView) (p n : ℕ) (c : CanSend w p n) (w1 : WorldView) (posts
       lost = w5.ports.lost;
       doomed = w5.ports.doomed;
       noted = (same_field (λ x. x.ports.noted) refl (ap (λ (x : WorldView). x.ports.noted) holds.rest) (ap (λ (x : WorldView). x.ports.noted) resets.rest) (ap (λ (x : WorldView). x.ports.noted) ends) ∙ ap (λ (x : WorldView). x.ports.noted) posts.rest) i;
+      several = (same_field (λ x. x.ports.several) refl (ap (λ (x : WorldView). x.ports.several) holds.rest) (ap (λ (x : WorldView). x.ports.several) resets.rest) (ap (λ (x : WorldView). x.ports.several) ends) ∙ ap (λ (x : WorldView). x.ports.several) posts.rest) i;
     };
     ledger = (ap (λ (x : WorldView). x.ledger) is ∙ ap (λ (l : LedgerView). brought l p) (ap (λ (x : WorldView). x.ledger) holds.rest ∙ ap (λ (x : WorldView). x.ledger) resets.rest ∙ ap (λ (x : WorldView). x.ledger) ends ∙ ap (λ (x : WorldView). x.ledger) posts.rest)) i;
     sets = (same_field (λ x. x.sets) refl (ap (λ (x : WorldView). x.sets) holds.rest) (ap (λ (x : WorldView). x.sets) resets.rest) (ap (λ (x : WorldView). x.sets) ends) ∙ ap (λ (x : WorldView). x.sets) posts.rest) i;
@@ -664,7 +663,7 @@ module _ (v : RequestTablesView) (went : List NameRequest) (made_ports : ℕ) (s
 
 module _ (lives : ℕ → Bool) (w : WorldView) (s_agrees : State) (a : AgreesOf lives w s_agrees) (p : ℕ) (x : PortView Kept) (there : port_at w p ≡ Some x) (h : Holder)
     (P : map.FinMap nat_cmp (PortView Kept)) (R : ReadyLists) (L D : List ℕ)
-    (own_at : map.get P p ≡ Some (record x { attributes = record x.attributes { make_send = 0; sequence = 0; set = None; holder = h } }))
+    (own_at : map.get P p ≡ Some (held (restarted x) h))
     (at_others : (q : ℕ) → q ≢ p → map.get P q ≡ port_at w q) (l : LedgerView) (v : RequestTablesView) (tokens : List Token) (stands : Request → Bool) where
   abbrev next : WorldView
   next = record w { ports = record w.ports { ports = P; ready = R; lost = L; doomed = D }; ledger = l; requests = v }
@@ -673,16 +672,16 @@ module _ (lives : ℕ → Bool) (w : WorldView) (s_agrees : State) (a : AgreesOf
   t_agrees = record s_agrees { ledger = tokens; stands = stands; sets_of = at s_agrees.sets_of p []; make_send = at s_agrees.make_send p 0; sequence = at s_agrees.sequence p 0 }
 
   -- what is true of this port and of each other is true of all
-  each_agrees : (Q : ℕ → Option (PortView Kept) → Type 0) → Q p (Some (record x { attributes = record x.attributes { make_send = 0; sequence = 0; set = None; holder = h } })) →
+  each_agrees : (Q : ℕ → Option (PortView Kept) → Type 0) → Q p (Some (held (restarted x) h)) →
       ((q : ℕ) → q ≢ p → Q q (port_at w q)) → (q : ℕ) → Q q (map.get P q)
   each_agrees Q one others q = grind arith
 
   pub reset_agrees : ((task : ℕ) (kind : Kind) (q : ℕ) → count (is_held task kind q) tokens ≡ count (is_held task kind q) s_agrees.ledger) →
       ((q : ℕ) → CountsAgree l s_agrees.live_port tokens (λ q. if lives q then onces_queued s_agrees q else (counts_of l q).destination) q) → l.total ≡ length tokens →
       RequestsAgree (notify_of v) v.names.went w.ports.made stands lives (filter (λ x. lives x.port) tokens) → AgreesOf lives next t_agrees
-  reset_agrees held counts total of_requests = record {
+  reset_agrees stay counts total of_requests = record {
     spaces = a.spaces;
-    rights = record { references = λ task name e q is named. let r = a.rights.references task name e q is named in (held task receive q ∙ r.0, held task send q ∙ r.1) };
+    rights = record { references = λ task name e q is named. let r = a.rights.references task name e q is named in (stay task receive q ∙ r.0, stay task send q ∙ r.1) };
     live_port = each_agrees (λ q o. is_some o ≡ s_agrees.live_port q) (ap is_some (sym there) ∙ a.live_port p) (λ q not. a.live_port q);
     ports_made = a.ports_made;
     ports = λ q y is. each_agrees (λ q o. (y : PortView Kept) → o ≡ Some y → PortShown q y) (of_some _ (PortShown p) own_port) (λ q not y is. other_port q not y (a.ports q y is)) q y is;
@@ -695,7 +694,7 @@ module _ (lives : ℕ → Bool) (w : WorldView) (s_agrees : State) (a : AgreesOf
       PortShown : ℕ → PortView Kept → Type 0
       PortShown q y = ShowsPort y t_agrees q
 
-      own_port : PortShown p (record x { attributes = record x.attributes { make_send = 0; sequence = 0; set = None; holder = h } })
+      own_port : PortShown p (held (restarted x) h)
       own_port = let b = a.ports p x there in record {
         waiting = b.waiting;
         limit = b.limit;

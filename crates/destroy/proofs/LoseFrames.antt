@@ -35,7 +35,7 @@ use Rattle.copyin_base.proofs.Putting.{get_removed, put_own, put_other}
 use Rattle.copyin_base.proofs.Requested.{requested_stay, requested_put, keeps_same}
 use Rattle.copyin_base.specs.declared.Notice.{Notice}
 use Rattle.copyin_base.specs.Queued.{notice_kept, notice_of}
-use Rattle.copyin_base.specs.Requests.{RequestTablesView}
+use Rattle.request_table.specs.Tables.{RequestTablesView}
 use Rattle.copyin_base.proofs.Counting.{counts_same}
 use Rattle.copyin_base.proofs.SendersNoted.{counts_own, counts_other}
 use Rattle.notifications.specs.SoFar.{due_so_far, entries_at, posted_so_far, posted_from, buried_alone, seen_for, IsSoFar, AgreesOf, IsWithNobody, IsHolder, HoldersTell}

@@ -34,7 +34,8 @@ use Rattle.port.specs.Holding.{IsHeldBy, NoneHeldBy}
 use Rattle.request_table.specs.declared.Request.{Request as NameRequest}
 use Rattle.request_table.specs.Requests.{without_first_went}
 use Rattle.copyin_base.specs.Posted.{with_notice, with_posted}
-use Rattle.copyin_base.specs.Requests.{RequestTablesView, notify_of, rights_kept, was_on, RequestsAgree, AreEnded}
+use Rattle.request_table.specs.Tables.{RequestTablesView}
+use Rattle.copyin_base.specs.Requests.{notify_of, rights_kept, was_on, RequestsAgree, AreEnded}
 use Rattle.copyin_base.specs.declared.Notice.TheVariants.{PortDeleted}
 use Rattle.copyin_base.specs.Serving.{ShowsMid}
 use Rattle.copyin_base.specs.Kept.{Kept}

@@ -26,7 +26,8 @@ use Rattle.copyin_base.specs.declared.Notice.{Notice}
 use Rattle.copyin_base.specs.Changes.{IsSenderless}
 use Rattle.copyin_base.specs.Kept.{Kept}
 use Rattle.copyin_base.specs.Queued.{notice_kept, notice_of}
-use Rattle.copyin_base.specs.Requests.{RequestTablesView, notify_of, rights_kept, rights_went}
+use Rattle.request_table.specs.Tables.{RequestTablesView}
+use Rattle.copyin_base.specs.Requests.{notify_of, rights_kept, rights_went}
 use Rattle.copyin_base.specs.Shows.{CarriesReceive}
 use Rattle.copyin_base.specs.Worlds.{WorldView, port_at}
 use Rattle.copyin_base.proofs.Gets.{same_found}

@@ -13,7 +13,8 @@ use Rattle.mach_model.proofs.TurnsMade.{same_request_is}
 use Rattle.mach_model.proofs.TurnsCounted.{one_all}
 use Rattle.rights.specs.Ledger.{counts_of}
 use Rattle.port.specs.declared.Attributes.{Attributes}
-use Rattle.copyin_base.specs.Requests.{RequestTablesView, notify_of}
+use Rattle.request_table.specs.Tables.{RequestTablesView}
+use Rattle.copyin_base.specs.Requests.{notify_of}
 use Rattle.copyin_base.specs.Worlds.{WorldView}
 use Rattle.copyin_base.proofs.Putting.{get_removed}
 use Rattle.copyin_base.specs.declared.Notice.TheVariants.{NoSenders}

@@ -11,7 +11,7 @@ use Rattle.mach_model.specs.Work.{number}
 use Rattle.port.specs.declared.Holder.{Holder}
 use Rattle.port.specs.declared.Holder.TheVariants as holder
 use Rattle.port.specs.Holding.{held, IsHeldBy}
-use Rattle.port.specs.Ports.{PortView, with_port}
+use Rattle.port.specs.Ports.{PortView, restarted, with_port}
 use Rattle.rights.specs.declared.RightKind.TheVariants.{Receive}
 use Rattle.rights.specs.Ledger.{LedgerView, counts_of, made}
 use Rattle.copyin_base.specs.declared.Carried.{Carried}
@@ -139,11 +139,11 @@ pub record CanSend (w : WorldView) (port notify : ℕ) : Type 0 where
   pub lost : IsHeldBy w.ports port holder.Nobody
   pub goes : GoesTo w port notify
 
--- It leaves its set, and its counts start again.
+-- It leaves all its sets, and its counts start again.
 pub record ResetsPort (old : WorldView) (port : ℕ) (new : WorldView) : Type 0 where
   pub v : PortView Kept
   pub there : port_at old port ≡ Some v
-  pub rest : new ≡ record old { ports = with_port old.ports port (record v { attributes = record v.attributes { make_send = 0; sequence = 0; set = None } }) }
+  pub rest : new ≡ record old { ports = with_port old.ports port (restarted v) }
 
 -- The queue has its receive right now.
 pub record HoldsPort (old : WorldView) (port queue : ℕ) (new : WorldView) : Type 0 where

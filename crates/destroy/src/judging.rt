@@ -12,7 +12,7 @@ ghost use Rattle.destroy.specs.Stages.{IsStarted, IsJudged, IsAt, Continues};
 
 use copyin_base::{Mark, Notice, Slot, World};
 use mach_types::PortId;
-use port::{Attributes, Holder};
+use port::Holder;
 use rights::RightKind;
 
 /// Judges each port that lost its receive right, and those whose receive rights are lost with a doomed port's
@@ -82,7 +82,7 @@ fn is_with_task(world: &World, port: PortId) -> bool
     }
 }
 
-// The port leaves its set, its counts start again, and its receive right goes in a notice.
+// The port leaves its sets, its counts start again, and its receive right goes in a notice.
 fn send_away(world: &mut World, port: PortId, notify: PortId)
     requires { CanSend world.old port notify }
     ensures continues { Continues IsStarted IsStarted world.old 1 world.new }
@@ -96,21 +96,12 @@ fn send_away(world: &mut World, port: PortId, notify: PortId)
     bring_receive(world, port);
 }
 
-// The port leaves its set, and its counts start again.
+// The port leaves its sets, and its counts start again.
 fn reset(world: &mut World, port: PortId)
     requires { IsLive world.old.ports port }
     ensures { ResetsPort world.old port world.new }
 {
-    let attributes = world.attributes(port);
-    world.set_attributes(
-        port,
-        Attributes {
-            make_send: 0,
-            sequence: 0,
-            set: None,
-            ..attributes
-        },
-    );
+    world.restart_port(port);
 }
 
 // The queue has the port's receive right now; the port is no longer among those that were lost.

@@ -25,7 +25,7 @@ use Rattle.mach_model.specs.RequestRefusals.{RequestRefuses, noted_guards}
 use Rattle.mach_model.specs.TransferRefusals.{CopyRefuses, extracted_guards, inserted_guards}
 use Rattle.mach_model.specs.Refusals.{Refuses, guards}
 use Rattle.mach_model.specs.Acts.{Does}
-use Rattle.copyin_base.specs.declared.code.Code.TheVariants as code
+use Rattle.mach_types.specs.declared.codes.Code.TheVariants as code
 use Rattle.copyin_base.specs.Worlds.{WorldView}
 use Rattle.copyin_base.specs.Shows.{Shows}
 use Rattle.copyin_base.specs.Stands.{Stands}

@@ -3,9 +3,8 @@ use Rattle.std.specs.Prelude.{◌≡◌, ◌≢◌, ℕ, ◌⊎◌}
 use Rattle.mach_types.specs.declared.calls.Event.{Event}
 use Rattle.mach_types.specs.declared.calls.Reply.{Reply}
 use Rattle.mach_types.specs.declared.codes.KernReturn.{KernReturn}
-use Rattle.mach_types.specs.Codes.{kern_number}
-use Rattle.copyin_base.specs.declared.code.Code.{Code}
-use Rattle.copyin_base.specs.Serving.{code_number}
+use Rattle.mach_types.specs.Codes.{kern_number, code_number}
+use Rattle.mach_types.specs.declared.codes.Code.{Code}
 
 -- the number is the code by which a kernel call is refused
 pub record IsKern (number : ℕ) : Type 0 where

@@ -6,14 +6,13 @@ use Rattle.mach_types.specs.declared.codes.KernReturn.{KernReturn}
 use Rattle.mach_types.specs.declared.rights.Disposition.TheVariants.{MakeSendOnce}
 use Rattle.mach_types.specs.Numbers.{null_word}
 use Rattle.mach_types.specs.Rights.{disposition_number}
-use Rattle.mach_types.specs.Codes.{kern_number}
+use Rattle.mach_types.specs.Codes.{kern_number, code_number}
 use Rattle.message_codec.specs.declared.writer.PortRight.{PortRight}
 use Rattle.mach_types.specs.declared.codes.MsgReturn.TheVariants.{SendNoBuffer}
 use Rattle.message_codec.specs.declared.writer.WriteError.{WriteError}
 use Rattle.message_codec.specs.declared.writer.WriteError.TheVariants.{Refused, OutOfMemory}
-use Rattle.copyin_base.specs.declared.code.Code.{Code}
-use Rattle.copyin_base.specs.declared.code.Code.TheVariants as code_of
-use Rattle.copyin_base.specs.Serving.{code_number}
+use Rattle.mach_types.specs.declared.codes.Code.{Code}
+use Rattle.mach_types.specs.declared.codes.Code.TheVariants as code_of
 use Rattle.kernel_core.specs.Kernels.{KernelView}
 use Rattle.gelvonds.specs.Steps.{IsStep}
 use Rattle.gelvonds.specs.declared.results.Receipt.{Receipt}

@@ -1,5 +1,5 @@
 //! A kernel with a call for each call of a task.
-ghost use Rattle.std.specs.Prelude.{◌≡◌, ◌≢◌, ◌≤◌, ℕ, None, IfOk, IfErr};
+ghost use Rattle.std.specs.Prelude.{◌≡◌, ◌≤◌, ℕ, None, IfOk, IfErr};
 ghost use Rattle.mach_types.specs.declared.calls.Event.TheVariants as AnyEvent;
 ghost use Rattle.mach_types.specs.declared.calls.Reply.{Reply as OneReply};
 ghost use Rattle.mach_types.specs.declared.calls.Reply.TheVariants as AnyReply;
@@ -9,7 +9,7 @@ ghost use Rattle.mach_model.specs.State.{State, opening_in};
 ghost use Rattle.mach_model.specs.Machine.{opening, Run, RunIn, Step};
 ghost use Rattle.mach_laws.specs.Headline.{Headline};
 ghost use Rattle.mach_laws.specs.JudgedPaths.{JudgedPath};
-ghost use Rattle.mach_types.specs.declared.profiles.Profile.TheVariants.{One, Three};
+ghost use Rattle.mach_types.specs.declared.profiles.Profile.TheVariants.{One};
 ghost use Rattle.mach_laws.specs.Queued.{SlotsWithin, unused_onces};
 ghost use Rattle.copyin_base.specs.Shows.{Shows};
 ghost use Rattle.kernel_change.specs.Changing.{few};
@@ -20,9 +20,8 @@ ghost use Rattle.gelvonds.specs.Fits.{Fits};
 
 use crate::notification::NotificationRequest;
 use crate::results::{self, ExtractedRight, Receipt, SendError};
-use copyin_base::Code;
 use mach_types::{
-    Bytes, Disposition, Event, KernReturn, Name, NameList, NameTypes, Profile, Reply, Right,
+    Bytes, Code, Disposition, Event, KernReturn, Name, NameList, NameTypes, Profile, Reply, Right,
     Status, TaskId, Touched, Waited,
 };
 use message_codec::PortRight;
@@ -85,7 +84,6 @@ pub fn run_with(
     profile: Profile,
     events: Vec<Event>,
 ) -> Result<(Kernel, Vec<Reply>), AllocError>
-    requires one_set { profile ≢ Three }
     ensures { IfOk result (λ made. (s : State) × RunIn profile events.items made.1.items s × Shows made.0.tables s
         × (h : Headline profile events.items made.1.items s) × JudgedPath profile h.stages s
         × SlotsWithin made.0.tables.ports.spare h.stages s
@@ -106,10 +104,10 @@ impl Kernel {
         Kernel::with_profile(alloc, Profile::One)
     }
 
-    /// A kernel of this profile, the first or the second, in which nothing was made yet. In the second a fresh name
-    /// has a generation, so that a name that was given up doesn't come back at once as another right. Takes no memory.
+    /// A kernel of this profile, in which nothing was made yet. In the second and the third a fresh name has a
+    /// generation, so that a name that was given up doesn't come back at once as another right. In the third a port
+    /// may be in several sets. Takes no memory.
     pub fn with_profile(alloc: Global, profile: Profile) -> Kernel
-        requires one_set { profile ≢ Three }
         ensures shows { Shows result.tables (opening_in profile) }
         ensures none { result.tables.ports.spare ≡ 0 }
         ensures turns { result.turns ≡ 0 }
@@ -162,7 +160,9 @@ impl Kernel {
     ///
     /// After [`Kernel::set_qlimit`], [`Kernel::allocate`] and [`Kernel::allocate_name`] the port under the name, if one
     /// is. After [`Kernel::move_member`], and where a receive right went to another task, the port with the set that it
-    /// was in and the one that it is in. A message names its port and the port's set. One that was sent with one receive
+    /// was in and the one that it is in. After [`Kernel::insert_member`] and [`Kernel::extract_member`] the port and the
+    /// set. A message names its port and the port's sets, up to three. Where a port is in several sets and more than it
+    /// and they are named, it is `All`. A message that was sent with one receive
     /// right names that right's port too, and the set that it was in; so does one with two or three, where with
     /// the sets concerned four places suffice. One that was received names the ports too whose
     /// receive rights came with it: one or two, or three if its own port is in no set. A message that was
@@ -366,8 +366,8 @@ impl Kernel {
         results::members(self.step(&Event::SetStatus(task, name)))
     }
 
-    /// `mach_port_move_member`: the port leaves the set that it is in, and goes into this one unless `after`
-    /// is the null name. Takes no memory.
+    /// `mach_port_move_member`: the port leaves all sets that it is in, and goes into this one unless `after`
+    /// is the null name. In a set that it is in already it keeps its turn. Takes no memory.
     ///
     /// # Errors
     /// `InvalidName`: nothing under a name; `InvalidRight`: no receive right, or no set; `NotInSet`: `after`
@@ -376,6 +376,36 @@ impl Kernel {
         ensures { Answered self.old (AnyEvent.MoveMember task member after) done result self.new }
     {
         results::done(self.step(&Event::MoveMember(task, member, after)))
+    }
+
+    /// `mach_port_insert_member` of later Machs: puts the port into the set, beside the sets that it is in. Only a port
+    /// that is in a set already takes memory for that.
+    ///
+    /// # Errors
+    /// `InvalidArgument`: the kernel's profile isn't the third, so a port is in one set at most; `InvalidName`: nothing
+    /// under a name; `InvalidRight`: no receive right, or no set; `AlreadyInSet`: the port is in the set;
+    /// `ResourceShortage`: out of memory.
+    pub fn insert_member(&mut self, task: TaskId, member: Name, set: Name) -> Result<(), KernReturn>
+        ensures { Answered self.old (AnyEvent.InsertMember task member set) done result self.new }
+    {
+        results::done(self.step(&Event::InsertMember(task, member, set)))
+    }
+
+    /// `mach_port_extract_member` of later Machs: takes the port out of the set. It stays in its other sets, in its
+    /// turns there. Takes no memory.
+    ///
+    /// # Errors
+    /// `InvalidArgument`: the kernel's profile isn't the third; `InvalidName`: nothing under a name; `InvalidRight`: no
+    /// receive right, or no set; `NotInSet`: the port isn't in the set.
+    pub fn extract_member(
+        &mut self,
+        task: TaskId,
+        member: Name,
+        set: Name,
+    ) -> Result<(), KernReturn>
+        ensures { Answered self.old (AnyEvent.ExtractMember task member set) done result self.new }
+    {
+        results::done(self.step(&Event::ExtractMember(task, member, set)))
     }
 
     /// `mach_port_insert_right`: gives the task, under the name, the right that the task `from` has, by its

@@ -1,7 +1,7 @@
 //! Mach 3 port IPC for a program that builds on it: a kernel, its calls, and messages.
 //!
 //! [`Kernel`] is one kernel: tasks, their names, ports and queued messages. It has a method for each call of a
-//! task, in Mach's order of arguments, except for `insmember` and `exmember`, which a kernel always refuses.
+//! task, in Mach's order of arguments.
 //! [`messages::write_message`] makes a message of its fields, and [`messages::read_received`] reads one:
 //!
 //! ```text
@@ -24,7 +24,8 @@
 //! task doesn't use. [`Kernel::with_profile`], [`run_with`] and `Shared::with_profile` of [`threads`] take the profile.
 //! In [`Profile::Two`] a fresh name is the least unused index from 1, times 256, plus in its low 8 bits how many fresh
 //! names the task was given at this index before, modulo 256. So a name that was given up doesn't come back at once as
-//! another right. No kernel has [`Profile::Three`] yet.
+//! another right. [`Profile::Three`] is the second with ports that may be in several sets:
+//! [`Kernel::insert_member`] puts a port into a set beside those that it is in.
 //!
 //! # What is promised
 //! Each method makes one step of the machine of `mach_model`, on the event of its arguments. Its result is the
@@ -49,11 +50,10 @@ mod notification;
 mod results;
 pub mod threads;
 
-pub use copyin_base::Code;
 pub use kernel::{Kernel, run, run_with};
 pub use mach_types::{
-    Bytes, Disposition, Event, KernReturn, MsgReturn, Name, NameList, NameTypes, PortId, Profile,
-    Reply, Right, SetId, Status, TaskId, Touched, Waited, limits,
+    Bytes, Code, Disposition, Event, KernReturn, MsgReturn, Name, NameList, NameTypes, PortId,
+    Profile, Reply, Right, SetId, Status, TaskId, Touched, Waited, limits,
 };
 pub use message_codec::PortRight;
 pub use notification::{Notification, NotificationRequest};

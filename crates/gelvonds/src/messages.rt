@@ -7,8 +7,7 @@
 ghost use Rattle.std.specs.Prelude.{◌≡◌};
 ghost use Rattle.gelvonds.specs.Results.{unwritten};
 
-use copyin_base::Code;
-use mach_types::MsgReturn;
+use mach_types::{Code, MsgReturn};
 pub use message_codec::{
     PortRight, Received, ReceivedBody, ReceivedData, ReceivedHeader, ReceivedItem, ReceivedItems,
     ReceivedPorts, SendBody, SendHeader, SendItem, WriteError, read_received, write_message,

@@ -1,14 +1,12 @@
 //! What typed calls answer, and how a reply says it.
 ghost use Rattle.std.specs.Prelude.{◌≡◌, ◌≢◌, IfErr};
 ghost use Rattle.mach_types.specs.declared.calls.Reply.TheVariants as AnyReply;
-ghost use Rattle.mach_types.specs.Codes.{kern_number};
-ghost use Rattle.copyin_base.specs.Serving.{code_number};
+ghost use Rattle.mach_types.specs.Codes.{kern_number, code_number};
 ghost use Rattle.gelvonds.specs.Fits.{IsKern, IsCode, IsDone, IsTask, IsName, IsRefs, IsNameType, IsNames, IsStatus, IsMembers, IsRight, IsPrevious, IsReceived};
 ghost use Rattle.gelvonds.specs.Results.{reply_of, done, extracted, receipt_reply};
 
-use copyin_base::Code;
 use mach_types::{
-    Bytes, KernReturn, MsgReturn, Name, NameList, NameTypes, Reply, Status, TaskId, Waited,
+    Bytes, Code, KernReturn, MsgReturn, Name, NameList, NameTypes, Reply, Status, TaskId, Waited,
 };
 
 /// What came of a receive that wasn't refused (IPC Interface, `mach_msg` with `MACH_RCV_MSG`).

@@ -1,7 +1,6 @@
 -- What C is told of a history's text.
-use Rattle.std.specs.Prelude.{◌≡◌, ◌≢◌, ◌⊎◌, ℕ, ℤ, List, All, length}
+use Rattle.std.specs.Prelude.{◌≡◌, ◌⊎◌, ℕ, ℤ, List, All, length}
 use Rattle.mach_types.specs.declared.profiles.Profile.{Profile}
-use Rattle.mach_types.specs.declared.profiles.Profile.TheVariants.{Three}
 use Rattle.mach_types.specs.declared.codes.KernReturn.TheVariants.{ResourceShortage}
 use Rattle.mach_types.specs.Codes.{kern_number}
 use Rattle.kernel_lock.specs.declared.entry.Entry.{Entry}
@@ -13,7 +12,6 @@ use Rattle.gelvonds_c_base.specs.Codes.{signed}
 
 -- The text is the history of these entries by the profile.
 pub record IsHistory (text : List ℕ) (profile : Profile) (entries : List Entry) : Type 0 where
-  pub had : profile ≢ Three
   pub fit : All FitsLine entries
   pub text_is : history_text profile entries ≡ text
 

@@ -6,4 +6,3 @@ pub mod Touching
 pub mod Trying
 pub mod Recording
 pub mod Checking
-pub mod Texts

@@ -1,7 +1,6 @@
 -- A kernel is made, by its profile, in a handle that holds none.
-use Rattle.std.specs.Prelude.{◌≡◌, ◌==◌, ℕ, ℤ, Option, None, Some, if◌then◌else◌}
+use Rattle.std.specs.Prelude.{◌≡◌, ℕ, ℤ, Option, None, Some}
 use Rattle.mach_types.specs.declared.profiles.Profile.{Profile}
-use Rattle.mach_types.specs.declared.profiles.Profile.TheVariants.{One, Two}
 use Rattle.mach_types.specs.declared.codes.KernReturn.TheVariants.{Success, InvalidArgument, ResourceShortage}
 use Rattle.mach_types.specs.Codes.{kern_number}
 use Rattle.mach_model.specs.State.{State, opening_in}
@@ -10,10 +9,7 @@ use Rattle.copyin_base.specs.Worlds.{WorldView}
 use Rattle.kernel_record.specs.declared.recorded.LastCall.TheVariants.{NotKept}
 use Rattle.gelvonds_c.specs.Held.{Kept}
 use Rattle.gelvonds_c_base.specs.Codes.{signed, in_use, no_kernel}
-
--- the profile that a kernel can have of this number, if any
-abbrev pub profile_numbered : ℕ → Option Profile
-profile_numbered number = if number == 1 then Some One else if number == 2 then Some Two else None
+use Rattle.gelvonds_c_base.specs.Profiles.{profile_numbered}
 
 -- A kernel stays, whatever is asked for. A handle without one has after success a kernel of the profile in which nothing was
 -- made yet, whose calls are not kept. Else it has still none, for want of a profile or of memory.

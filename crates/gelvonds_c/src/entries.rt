@@ -10,7 +10,7 @@ use crate::handle::Handle;
 use gelvonds_c_base::codes::{NO_ENTRY, NO_KERNEL, SUCCESS, TOO_SHORT};
 use kernel_lock::Entry;
 use kernel_record::{LastCall, RecordedKernel};
-use mach_types::{KernReturn, Profile};
+use mach_types::KernReturn;
 use std::alloc::Global;
 use tracer::{heading_line, line};
 
@@ -77,11 +77,7 @@ pub extern "C" fn gelvonds_entry(
 fn heading_of(kernel: &RecordedKernel) -> &'static [u8]
     ensures { IsHeadingOf kernel.now.kernel.tables result.now }
 {
-    if kernel.tables().has_generations() {
-        heading_line(Profile::Two)
-    } else {
-        heading_line(Profile::One)
-    }
+    heading_line(kernel.tables().profile())
 }
 
 /// Writes the line of the kernel's last call, where there is one, and returns the code.

@@ -5,12 +5,13 @@
 //! answered as a code. `specs/Held` says what a handle owns, `specs/Calls` what a call by one does.
 #![tactic(auto)]
 
-ghost use Rattle.std.specs.Prelude.{◌≡◌, ◌≢◌, IfSome, None, Some};
-ghost use Rattle.mach_types.specs.declared.profiles.Profile.TheVariants.{One, Three};
+ghost use Rattle.std.specs.Prelude.{◌≡◌, IfSome, None, Some};
+ghost use Rattle.mach_types.specs.declared.profiles.Profile.TheVariants.{One};
 ghost use Rattle.mach_model.specs.State.{opening_in};
 ghost use Rattle.copyin_base.specs.Shows.{Shows};
 ghost use Rattle.kernel_record.specs.declared.recorded.LastCall.TheVariants.{NotKept};
-ghost use Rattle.gelvonds_c.specs.Making.{IsProfileOf, Makes, TellsProfile, profile_numbered};
+ghost use Rattle.gelvonds_c_base.specs.Profiles.{profile_numbered};
+ghost use Rattle.gelvonds_c.specs.Making.{Makes, TellsProfile};
 
 mod call;
 mod checking;
@@ -21,7 +22,7 @@ mod messages;
 mod names;
 mod notices;
 mod parts;
-mod receive_right;
+mod receive_rights;
 mod sets;
 mod texts;
 mod touched;
@@ -30,6 +31,7 @@ mod tries;
 
 use crate::handle::Handle;
 use gelvonds_c_base::codes::{IN_USE, NO_KERNEL, SUCCESS};
+use gelvonds_c_base::{number_of, profile_of};
 use kernel_record::RecordedKernel;
 use mach_types::{KernReturn, Profile};
 use std::alloc::Global;
@@ -42,7 +44,7 @@ pub extern "C" fn gelvonds_make(alloc: Global, handle: &mut Handle) -> i32
     make(alloc, handle, Some(Profile::One))
 }
 
-/// Makes a kernel of the profile of this number, 1 or 2, in which nothing was made yet, where the handle holds none.
+/// Makes a kernel of the profile of this number, 1 to 3, in which nothing was made yet, where the handle holds none.
 #[unsafe(no_mangle)]
 pub extern "C" fn gelvonds_make_with_profile(
     alloc: Global,
@@ -54,7 +56,7 @@ pub extern "C" fn gelvonds_make_with_profile(
     make(alloc, handle, profile_of(profile))
 }
 
-/// Writes the number of the kernel's profile, 1 or 2.
+/// Writes the number of the kernel's profile, 1 to 3.
 ///
 /// Where the handle holds no kernel the code says so, and nothing is written. No call is made, and the kernel
 /// stays. Takes no memory. Constant time.
@@ -65,7 +67,7 @@ pub extern "C" fn gelvonds_profile(alloc: Global, handle: &mut Handle, profile: 
     let Some(kernel) = handle.take(alloc) else {
         return NO_KERNEL;
     };
-    *profile = number_of(&kernel);
+    *profile = number_of(kernel.tables().profile());
     handle.put(kernel);
     SUCCESS
 }
@@ -80,7 +82,6 @@ pub extern "C" fn gelvonds_free(alloc: Global, handle: &mut Handle)
 
 /// Makes a kernel, and returns the code for C; where the handle holds one that stays, and `None` makes none.
 fn make(alloc: Global, handle: &mut Handle, profile: Option<Profile>) -> i32
-    requires one_set { profile ≢ Some Three }
     ensures { Makes profile handle.old.kernel result handle.new.kernel }
 {
     if let Some(kernel) = handle.take(alloc) {
@@ -101,32 +102,8 @@ fn make(alloc: Global, handle: &mut Handle, profile: Option<Profile>) -> i32
 
 /// A kernel of this profile, in which nothing was made yet; `None` where memory is refused.
 fn new_kernel(alloc: Global, profile: Profile) -> Option<Box<RecordedKernel>>
-    requires one_set { profile ≢ Three }
     ensures shows { IfSome result (λ kernel. Shows kernel.value.kernel.tables (opening_in profile)) }
     ensures last { IfSome result (λ kernel. kernel.value.last ≡ NotKept) }
 {
     Box::new(alloc, RecordedKernel::new(alloc, profile)).ok()
-}
-
-/// The profile that a kernel can have of this number.
-fn profile_of(number: u32) -> Option<Profile>
-    ensures numbered { result ≡ profile_numbered number }
-    ensures one_set { result ≢ Some Three }
-{
-    match number {
-        1 => Some(Profile::One),
-        2 => Some(Profile::Two),
-        _ => None,
-    }
-}
-
-/// The number of the kernel's profile.
-fn number_of(kernel: &RecordedKernel) -> u32
-    ensures { IsProfileOf kernel.now.kernel.tables result }
-{
-    if kernel.tables().has_generations() {
-        2
-    } else {
-        1
-    }
 }

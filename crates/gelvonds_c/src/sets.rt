@@ -1,6 +1,6 @@
 //! Calls of port sets.
 ghost use Rattle.std.specs.Prelude.{◌≡◌, length, if◌then◌else◌, nat_lt};
-ghost use Rattle.mach_types.specs.declared.calls.Event.TheVariants.{MoveMember, SetStatus};
+ghost use Rattle.mach_types.specs.declared.calls.Event.TheVariants.{ExtractMember, InsertMember, MoveMember, SetStatus};
 ghost use Rattle.gelvonds_c_base.specs.Codes.{signed, too_short};
 ghost use Rattle.gelvonds_c.specs.Calls.{Asks, ListsMembers, put_list};
 
@@ -22,6 +22,36 @@ pub extern "C" fn gelvonds_port_move_member(
     ensures { Asks handle.old.kernel (MoveMember task member after) result handle.new.kernel }
 {
     let event = Event::MoveMember(TaskId::new(task), Name::new(member), Name::new(after));
+    code(alloc, handle, &event)
+}
+
+/// `mach_port_insert_member` of later Machs.
+#[unsafe(no_mangle)]
+pub extern "C" fn gelvonds_port_insert_member(
+    alloc: Global,
+    handle: &mut Handle,
+    task: u32,
+    member: u32,
+    set: u32,
+) -> i32
+    ensures { Asks handle.old.kernel (InsertMember task member set) result handle.new.kernel }
+{
+    let event = Event::InsertMember(TaskId::new(task), Name::new(member), Name::new(set));
+    code(alloc, handle, &event)
+}
+
+/// `mach_port_extract_member` of later Machs.
+#[unsafe(no_mangle)]
+pub extern "C" fn gelvonds_port_extract_member(
+    alloc: Global,
+    handle: &mut Handle,
+    task: u32,
+    member: u32,
+    set: u32,
+) -> i32
+    ensures { Asks handle.old.kernel (ExtractMember task member set) result handle.new.kernel }
+{
+    let event = Event::ExtractMember(TaskId::new(task), Name::new(member), Name::new(set));
     code(alloc, handle, &event)
 }
 

@@ -4,9 +4,10 @@
 ghost use Rattle.std.specs.Prelude.{◌<◌, ℕ, List};
 ghost use Rattle.std.specs.Int.{w32, cast_unsigned};
 ghost use Rattle.gelvonds_c_base.specs.Codes.{IsCalled};
-ghost use Rattle.gelvonds_c.specs.Texts.{Puts};
+ghost use Rattle.gelvonds_c_base.specs.Texts.{Puts};
 
 use gelvonds_c_base::codes::name_of;
+use gelvonds_c_base::put_text;
 
 /// The version of the library, that of the file `VERSION`.
 const VERSION: &str = "1.0.0";
@@ -32,16 +33,4 @@ pub extern "C" fn gelvonds_version(version: &mut [u8]) -> usize
     ensures short { result < 40 }
 {
     put_text(VERSION, version)
-}
-
-/// Writes the text and a zero byte where there is room for both, and returns the text's length.
-fn put_text(text: &str, room: &mut [u8]) -> usize
-    ensures { Puts text.now room.old result room.new }
-{
-    let bytes = text.as_bytes();
-    if bytes.len() < room.len() {
-        room[..bytes.len()].copy_from_slice(bytes);
-        room[bytes.len()] = 0;
-    }
-    bytes.len()
 }

@@ -1,6 +1,7 @@
-//! The buffer that a message is received into.
+//! The room that C gives for a message or a text.
 ghost use Rattle.std.specs.Prelude.{◌≡◌, ◌++◌, drop, length, min, if◌then◌else◌, nat_lt};
 ghost use Rattle.gelvonds_c_base.specs.Codes.{no_answer, signed};
+ghost use Rattle.gelvonds_c_base.specs.Texts.{Puts};
 
 use crate::codes::{NO_ANSWER, SUCCESS};
 
@@ -23,4 +24,16 @@ pub fn put_bytes(bytes: &[u8], buffer: &mut [u8], count: &mut usize) -> i32
     }
     buffer[..bytes.len()].copy_from_slice(bytes);
     SUCCESS
+}
+
+/// Writes the text and a zero byte where there is room for both, and returns the text's length. Linear in the text.
+pub fn put_text(text: &str, room: &mut [u8]) -> usize
+    ensures { Puts text.now room.old result room.new }
+{
+    let bytes = text.as_bytes();
+    if bytes.len() < room.len() {
+        room[..bytes.len()].copy_from_slice(bytes);
+        room[bytes.len()] = 0;
+    }
+    bytes.len()
 }

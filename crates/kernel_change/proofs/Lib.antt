@@ -3,3 +3,4 @@ mod NamesAsked
 mod MovedRights
 mod LostRights
 mod ReceivedNames
+mod SetMembers

@@ -7,7 +7,6 @@ use Rattle.std.proofs.lemmas.List.Elements.{filter_map-append}
 use Rattle.copyin_base.specs.declared.Carried.{Carried}
 use Rattle.copyin_base.specs.Kept.{receive_of}
 use Rattle.kernel_change.specs.declared.change.Change.{Change}
-use Rattle.kernel_change.specs.declared.change.Change.TheVariants as change
 use Rattle.kernel_change.specs.Changing.{by_destroying, by_losing_with, noticed_of, receives_of, with_right}
 
 of_one : (f : Carried → Option ℕ) (c : Carried) (o : Option ℕ) → f c ≡ o → filter_map f (c ∷ []) ≡ option_to_list (f c)

@@ -1,5 +1,5 @@
 -- What a step changed of ports and port sets, as the kernel keeps it, and what that is once it is asked for.
-use Rattle.std.specs.Prelude.{◌≡◌, ℕ, ◌⊎◌, ◌-◌, ◌^◌, ◌%◌, ◌||◌, Bool, true, false, List, [], ◌∷◌, ◌++◌, length, drop, slice_get, Option, Some, None, is_some, MatchBool, Contains, if◌then◌else◌, ◌==◌, ◌&&◌, not, nat_lt}
+use Rattle.std.specs.Prelude.{◌≡◌, ℕ, ◌⊎◌, ◌-◌, ◌^◌, ◌%◌, ◌||◌, Bool, true, false, List, [], ◌∷◌, ◌++◌, length, drop, slice_get, Option, Some, None, Result, Ok, Err, is_some, MatchBool, Contains, if◌then◌else◌, ◌==◌, ◌&&◌, not, nat_lt}
 use Rattle.std.specs.FinMap as map
 use Rattle.std.specs.List.{filter_map}
 use Rattle.std.specs.Option.{option_and_then, option_map, option_to_list}
@@ -13,21 +13,25 @@ use Rattle.mach_types.specs.Tokens.{Kind, send_once}
 use Rattle.mach_types.specs.TextGuards.{word_at}
 use Rattle.name_space.specs.declared.Entry.{Entry}
 use Rattle.name_space.specs.declared.Entry.TheVariants as entry
-use Rattle.name_space.specs.Entry.{port_named}
+use Rattle.name_space.specs.Entry.{port_named, set_named}
+use Rattle.port_base.specs.declared.Membership.{Membership}
+use Rattle.port_base.specs.declared.Membership.TheVariants.{Nowhere, Alone, Several}
+use Rattle.port_base.specs.Memberships.{membership_in}
 use Rattle.port.specs.Ports.{PortView, NoneQueued}
 use Rattle.request_table.specs.Requests.{NoneOn}
 use Rattle.copyin_base.specs.declared.Carried.{Carried}
 use Rattle.copyin_base.specs.declared.Mark.{Mark}
 use Rattle.copyin_base.specs.declared.Mark.TheVariants as mark
 use Rattle.copyin_base.specs.Kept.{Kept, receive_of}
-use Rattle.copyin_base.specs.Worlds.{WorldView, entry_at, port_at}
+use Rattle.copyin_base.specs.Worlds.{WorldView, entry_at, port_at, sets_at}
 use Rattle.kernel_change.specs.declared.moved.Moved.{Moved}
 use Rattle.kernel_change.specs.declared.moved.Moved.TheVariants as moved
 use Rattle.kernel_change.specs.declared.received.Received.{Received}
 use Rattle.kernel_change.specs.declared.received.Received.TheVariants as received
 use Rattle.kernel_change.specs.Received.{body_names, received_by}
 use Rattle.kernel_change.specs.declared.change.Change.{Change}
-use Rattle.kernel_change.specs.declared.change.Change.TheVariants.{Nothing, Made, PortNamed, Queue, Queues, Along, AlongFrom, AlongTwo, AlongTwoFrom, AlongThree, QueueNamed, ReceivedOne, ReceivedTwo, ReceivedThree, Left, Disbanded, DisbandedTwo, DisbandedThree, Lost, Any}
+use Rattle.kernel_change.specs.declared.naming.InSeveral.{InSeveral}
+use Rattle.kernel_change.specs.declared.change.Change.TheVariants.{Nothing, Made, PortNamed, Queue, Queues, Member, Along, AlongFrom, AlongTwo, AlongTwoFrom, AlongThree, QueueNamed, ReceivedOne, ReceivedTwo, ReceivedThree, Left, Disbanded, DisbandedTwo, DisbandedThree, Lost, Any}
 
 -- ---- what it is
 
@@ -38,45 +42,70 @@ few a b = Few (a ∷ b ∷ None ∷ None ∷ [])
 abbrev pub port_under : WorldView → (task name : ℕ) → Option ℕ
 port_under w task name = option_and_then port_named (entry_at w task name)
 
--- the set that the port is in
-abbrev pub set_of : WorldView → (port : ℕ) → Option ℕ
-set_of w p = option_and_then (λ (v : PortView Kept). v.attributes.set) (port_at w p)
+-- whether there are several of them
+abbrev pub has_more : List ℕ → Bool
+has_more [] = false
+has_more (set ∷ []) = false
+has_more (set ∷ other ∷ others) = true
 
--- a port, and its set, whose queue has changed with the port's
-abbrev pub with_set : WorldView → Option ℕ → Touched
-with_set w (Some p) = few (Some (Waited.Port p)) (option_map Waited.Set (set_of w p))
-with_set w None = few None None
+-- what a function returns that has no place for several sets
+abbrev pub unwrap_or_all : Result Touched InSeveral → Touched
+unwrap_or_all (Ok touched) = touched
+unwrap_or_all (Err several) = All
+
+-- the first of these sets, if there is one
+abbrev pub lone : List ℕ → Option Waited
+lone [] = None
+lone (set ∷ sets) = Some (Waited.Set set)
+
+-- these ports and sets, where a port is in one of these sets at most; else there may be more than four
+abbrev pub unless_several : List ℕ → Touched → Touched
+unless_several sets touched = if has_more sets then All else touched
+
+-- a port with its sets, of which there are up to three
+abbrev pub named_sets : (port : ℕ) → (sets : List ℕ) → Touched
+named_sets p [] = few (Some (Waited.Port p)) None
+named_sets p (a ∷ []) = few (Some (Waited.Port p)) (Some (Waited.Set a))
+named_sets p (a ∷ b ∷ []) = Few (Some (Waited.Port p) ∷ Some (Waited.Set a) ∷ Some (Waited.Set b) ∷ None ∷ [])
+named_sets p (a ∷ b ∷ c ∷ []) = Few (Some (Waited.Port p) ∷ Some (Waited.Set a) ∷ Some (Waited.Set b) ∷ Some (Waited.Set c) ∷ [])
+named_sets p (a ∷ b ∷ c ∷ d ∷ sets) = All
+
+-- a port, and its sets, whose queues have changed with the port's
+abbrev pub with_sets : WorldView → Option ℕ → Touched
+with_sets w (Some p) = named_sets p (sets_at w p)
+with_sets w None = few None None
 
 -- a port with its set, and the set that it left
 abbrev pub named_left : WorldView → (port left : ℕ) → Touched
-named_left w p left = Few (Some (Waited.Port p) ∷ option_map Waited.Set (set_of w p) ∷ Some (Waited.Set left) ∷ None ∷ [])
+named_left w p left = unless_several (sets_at w p) (Few (Some (Waited.Port p) ∷ lone (sets_at w p) ∷ Some (Waited.Set left) ∷ None ∷ []))
 
 -- two ports with their sets
 abbrev pub named_two : WorldView → (a b : ℕ) → Touched
-named_two w a b = Few (Some (Waited.Port a) ∷ option_map Waited.Set (set_of w a) ∷ Some (Waited.Port b) ∷ option_map Waited.Set (set_of w b) ∷ [])
+named_two w a b = unless_several (sets_at w a) (unless_several (sets_at w b) (Few (Some (Waited.Port a) ∷ lone (sets_at w a) ∷ Some (Waited.Port b) ∷ lone (sets_at w b) ∷ [])))
 
 -- a port with its set, and another, which was in this set, if it was in one
 abbrev pub named_along : WorldView → (to port : ℕ) → (left : Option ℕ) → Touched
-named_along w to port left = Few (Some (Waited.Port to) ∷ option_map Waited.Set (set_of w to) ∷ Some (Waited.Port port) ∷ option_map Waited.Set left ∷ [])
+named_along w to port left = unless_several (sets_at w to) (Few (Some (Waited.Port to) ∷ lone (sets_at w to) ∷ Some (Waited.Port port) ∷ option_map Waited.Set left ∷ []))
 
 -- a port with its set, and two others, where they are there, which are in no set
 abbrev pub named_received : WorldView → Option ℕ → (a b : Option ℕ) → Touched
-named_received w (Some p) a b = Few (Some (Waited.Port p) ∷ option_map Waited.Set (set_of w p) ∷ option_map Waited.Port a ∷ option_map Waited.Port b ∷ [])
+named_received w (Some p) a b = unless_several (sets_at w p) (Few (Some (Waited.Port p) ∷ lone (sets_at w p) ∷ option_map Waited.Port a ∷ option_map Waited.Port b ∷ []))
 named_received w None a b = few None None
 
 -- a port, and three others: of one in a set there is no place for all
 abbrev pub named_three : WorldView → Option ℕ → (a b c : Option ℕ) → Touched
-named_three w (Some p) a b c = if is_some (set_of w p) then All else Few (Some (Waited.Port p) ∷ option_map Waited.Port a ∷ option_map Waited.Port b ∷ option_map Waited.Port c ∷ [])
+named_three w (Some p) a b c = if is_some (lone (sets_at w p)) then All else Few (Some (Waited.Port p) ∷ option_map Waited.Port a ∷ option_map Waited.Port b ∷ option_map Waited.Port c ∷ [])
 named_three w None a b c = few None None
 
 -- whether the port is in no set but this
-abbrev pub is_in_no_other : Option ℕ → (set : ℕ) → Bool
-is_in_no_other None set = true
-is_in_no_other (Some own) set = own == set
+abbrev pub is_in_no_other : List ℕ → (set : ℕ) → Bool
+is_in_no_other [] set = true
+is_in_no_other (own ∷ []) set = own == set
+is_in_no_other (own ∷ other ∷ others) set = false
 
 -- a port, two others, and the set that these left: of a port in another set there is no place for all
 abbrev pub named_two_left : WorldView → (to a b left : ℕ) → Touched
-named_two_left w to a b left = if is_in_no_other (set_of w to) left then Few (Some (Waited.Port to) ∷ Some (Waited.Port a) ∷ Some (Waited.Port b) ∷ Some (Waited.Set left) ∷ []) else All
+named_two_left w to a b left = if is_in_no_other (sets_at w to) left then Few (Some (Waited.Port to) ∷ Some (Waited.Port a) ∷ Some (Waited.Port b) ∷ Some (Waited.Set left) ∷ []) else All
 
 -- the port that was made last
 abbrev pub made_last : WorldView → Touched
@@ -86,14 +115,15 @@ abbrev pub touched_by : WorldView → Change → Touched
 touched_by w Nothing = few None None
 touched_by w Made = made_last w
 touched_by w (PortNamed task name) = few (option_map Waited.Port (port_under w task name)) None
-touched_by w (Queue port) = with_set w (Some port)
+touched_by w (Queue port) = with_sets w (Some port)
+touched_by w (Member port set) = few (Some (Waited.Port port)) (Some (Waited.Set set))
 touched_by w (Queues a b) = named_two w a b
 touched_by w (Along to port) = named_along w to port None
 touched_by w (AlongFrom to port left) = named_along w to port (Some left)
 touched_by w (AlongTwo to a b) = named_received w (Some to) (Some a) (Some b)
 touched_by w (AlongTwoFrom to a b left) = named_two_left w to a b left
 touched_by w (AlongThree to a b c) = named_three w (Some to) (Some a) (Some b) (Some c)
-touched_by w (QueueNamed task name) = with_set w (port_under w task name)
+touched_by w (QueueNamed task name) = with_sets w (port_under w task name)
 touched_by w (ReceivedOne task name a) = named_received w (port_under w task name) (port_under w task a) None
 touched_by w (ReceivedTwo task name a b) = named_received w (port_under w task name) (port_under w task a) (port_under w task b)
 touched_by w (ReceivedThree task name a b c) = named_three w (port_under w task name) (port_under w task a) (port_under w task b) (port_under w task c)
@@ -216,12 +246,16 @@ abbrev pub by_taking_three : (to a b c : ℕ) → (left second third : Option �
 by_taking_three to a b c None None None = AlongThree to a b c
 by_taking_three to a b c left second third = Any
 
+-- of a port in several sets there is no place for all
+abbrev pub any_if_several : List ℕ → Change → Change
+any_if_several sets change = if has_more sets then Any else change
+
 -- by the tables before, where it takes along the receive rights of these
 abbrev pub by_taking : WorldView → (to : ℕ) → (ports : List ℕ) → Change
 by_taking w to [] = Queue to
-by_taking w to (p ∷ []) = by_taking_along to p (set_of w p)
-by_taking w to (a ∷ b ∷ []) = by_taking_two to a b (set_of w a) (set_of w b)
-by_taking w to (a ∷ b ∷ c ∷ []) = by_taking_three to a b c (set_of w a) (set_of w b) (set_of w c)
+by_taking w to (p ∷ []) = any_if_several (sets_at w p) (by_taking_along to p (slice_get (sets_at w p) 0))
+by_taking w to (a ∷ b ∷ []) = any_if_several (sets_at w a) (any_if_several (sets_at w b) (by_taking_two to a b (slice_get (sets_at w a) 0) (slice_get (sets_at w b) 0)))
+by_taking w to (a ∷ b ∷ c ∷ []) = by_taking_three to a b c (slice_get (sets_at w a) 0) (slice_get (sets_at w b) 0) (slice_get (sets_at w c) 0)
 by_taking w to (a ∷ b ∷ c ∷ d ∷ ports) = Any
 
 -- one reference under a name goes, or the send-once right, whose port gets a notice
@@ -244,15 +278,15 @@ by_losing_all e = Any
 -- a set goes that has these members
 abbrev pub disbanded : (set : ℕ) → List ℕ → Change
 disbanded set [] = Disbanded set
-disbanded set (a ∷ []) = Left a set
+disbanded set (a ∷ []) = Member a set
 disbanded set (a ∷ b ∷ []) = DisbandedTwo set a b
 disbanded set (a ∷ b ∷ c ∷ []) = DisbandedThree set a b c
 disbanded set ports = Any
 
 -- These ports are in the set, and no other.
 pub record AreMembers (w : WorldView) (set : ℕ) (ports : List ℕ) : Type 0 where
-  pub only : (port : ℕ) → Contains ports port → set_of w port ≡ Some set
-  pub all : (port : ℕ) → set_of w port ≡ Some set → Contains ports port
+  pub only : (port : ℕ) → Contains ports port → Contains (sets_at w port) set
+  pub all : (port : ℕ) → Contains (sets_at w port) set → Contains ports port
 
 -- A set goes: where memory is refused for the list of its members, any port and any set may have changed.
 abbrev pub ByDisbanding : WorldView → (set : ℕ) → (told : Change) → Type 0
@@ -281,17 +315,26 @@ pub record HasSendsAlone (w : WorldView) (task : ℕ) : Type 0 where
 abbrev pub ByEnding : WorldView → (task : ℕ) → (told : Change) → Type 0
 ByEnding w task told = HasSendsAlone w task × (told ≡ Nothing) ⊎ ¬ (HasSendsAlone w task) × (told ≡ Any)
 
--- a port goes to another set or place, from this set, if it is in one
-abbrev pub left_by : (port : ℕ) → Option ℕ → Change
-left_by port (Some set) = Left port set
-left_by port None = Queue port
+-- a port goes to another set or place, from these sets, if it is in any; of several there is no place for all
+abbrev pub left_by : (port : ℕ) → Membership → Change
+left_by port Nowhere = Queue port
+left_by port (Alone set) = Left port set
+left_by port (Several set) = Any
 
 abbrev pub moved_from : WorldView → Option ℕ → Change
-moved_from w (Some port) = left_by port (set_of w port)
+moved_from w (Some port) = left_by port (membership_in (sets_at w port))
 moved_from w None = Any
 
 abbrev pub by_moving : WorldView → (task name : ℕ) → Change
 by_moving w task name = moved_from w (port_under w task name)
+
+-- a port enters or leaves a set, beside others: those under the names
+abbrev pub paired : Option ℕ → Option ℕ → Change
+paired (Some port) (Some set) = Member port set
+paired port set = Any
+
+abbrev pub by_pairing : WorldView → (task member set : ℕ) → Change
+by_pairing w task member set = paired (port_under w task member) (option_and_then set_named (entry_at w task set))
 
 -- the right under a name goes to another task, by a disposition of this number
 abbrev pub by_handing : WorldView → (task name number : ℕ) → Change
@@ -324,6 +367,8 @@ change_of w (Event.Allocate task right) = by_making right
 change_of w (Event.AllocateName task right name) = by_making right
 change_of w (Event.Deallocate task name) = by_losing_one (entry_at w task name)
 change_of w (Event.MoveMember task member after) = by_moving w task member
+change_of w (Event.InsertMember task member set) = by_pairing w task member set
+change_of w (Event.ExtractMember task member set) = by_pairing w task member set
 change_of w (Event.InsertRight task name from poly number) = by_handing w from poly number
 change_of w (Event.ExtractRight task name number to) = by_handing w task name number
 change_of w (Event.RequestNotification task name variant sync notify number) = by_request w task notify number
@@ -350,7 +395,7 @@ pub record DiesAlone (w : WorldView) (port : ℕ) : Type 0 where
   pub unasked : IsUnasked w port
   pub went : w.requests.names.went ≡ []
 
--- By the tables before the end: a port that dies alone leaves its set, and all else may be anything.
+-- By the tables before the end: a port that dies alone leaves its sets, and all else may be anything.
 abbrev pub EndsAs : WorldView → (told ends : Change) → Type 0
-EndsAs w (Lost port) ends = DiesAlone w port × (ends ≡ left_by port (set_of w port)) ⊎ ¬ (DiesAlone w port) × (ends ≡ Any)
+EndsAs w (Lost port) ends = DiesAlone w port × (ends ≡ left_by port (membership_in (sets_at w port))) ⊎ ¬ (DiesAlone w port) × (ends ≡ Any)
 EndsAs w told ends = ends ≡ Any

@@ -1,24 +1,29 @@
 //! What a step changed, as it is kept.
-ghost use Rattle.std.specs.Prelude.{◌≡◌, ◌↔◌, [], ◌∷◌, ◌++◌, Some, None, IsTrue};
-ghost use Rattle.std.specs.Option.{option_map, option_to_list};
+ghost use Rattle.std.specs.Prelude.{◌≡◌, ◌↔◌, [], ◌∷◌, ◌++◌, Some, None, IsTrue, IfOk, OnErr, true, false};
+ghost use Rattle.std.specs.Option.{option_to_list};
 ghost use Rattle.port.specs.Ports.{NoneQueued};
 ghost use Rattle.copyin_base.specs.Kept.{receive_of};
 ghost use Rattle.copyin_base.specs.Stands.{Stands};
 ghost use Rattle.copyin_base.specs.Worlds.{entry_at, HasTask};
 ghost use Rattle.mach_types.specs.Numbers.{kind_sent};
-ghost use Rattle.mach_types.specs.declared.calls.Waited.TheVariants as waited;
-ghost use Rattle.mach_types.specs.declared.touched.Touched.TheVariants.{Few};
-ghost use Rattle.kernel_change.specs.Changing.{few, named_left, port_under, set_of as set_at, with_set as touched_with_set, touched_by, named_received, named_three, gives_none, gives_one, named_two, named_along, by_taking_along as change_by_taking_along, by_taking_two as change_by_taking_two, by_taking as change_by_taking, receives_of, named_two_left, by_message, by_items, by_body, by_destroying as change_by_destroying, with_right as change_with_right, noticed, noticed_of, by_too_long as change_by_too_long, made_last, by_making as change_by_making, by_losing_one as change_by_losing_one, disbanded, ByDisbanding, ByLosingAll, ByReferences, is_send_or_dead as entry_is_send_or_dead, HasSendsAlone, ByEnding, IsUnasked, DiesAlone, EndsAs, left_by as change_left_by, by_moving as change_by_moving, by_handing as change_by_handing, by_paying as change_by_paying, by_request as change_by_request};
+ghost use Rattle.kernel_change.specs.declared.change.Change.TheVariants.{Any};
+ghost use Rattle.kernel_change.specs.Changing.{unwrap_or_all, touched_by, gives_none, gives_one, by_taking_along as change_by_taking_along, by_taking_two as change_by_taking_two, by_taking as change_by_taking, receives_of, by_message, by_items, by_body, by_destroying as change_by_destroying, with_right as change_with_right, noticed, noticed_of, by_too_long as change_by_too_long, by_making as change_by_making, by_losing_one as change_by_losing_one, disbanded, ByDisbanding, ByLosingAll, ByReferences, is_send_or_dead as entry_is_send_or_dead, HasSendsAlone, ByEnding, IsUnasked, DiesAlone, EndsAs, left_by as change_left_by, by_moving as change_by_moving, by_handing as change_by_handing, by_paying as change_by_paying, by_request as change_by_request};
 
 use crate::moved::Moved;
+use crate::naming::{
+    InSeveral, lone_set, name_along, name_both, name_last, name_left, name_members, name_received,
+    name_received_one, name_received_three, name_received_two, name_three, name_two, name_two_left,
+    name_with_sets, named_port,
+};
 use crate::received::Received;
 use copyin_base::{Carried, Mark, Queued, World};
 use mach_types::{Name, PortId, SetId, TaskId, Touched, Waited};
 use name_space::Entry;
+use port::Membership;
 use std::alloc::Global;
 use type_descriptor::read_word;
 
-/// What a step changed, in short: what stands under a name, and in which set a port is, is looked up once it
+/// What a step changed, in short: what stands under a name, and in which sets a port is, is looked up once it
 /// is asked for.
 #[derive(Clone, Copy, Debug)]
 pub enum Change {
@@ -28,21 +33,23 @@ pub enum Change {
     Made,
     /// The port under this name of the task, where one stands there; no queue.
     PortNamed(TaskId, Name),
-    /// Of this port, and so of its set: the queue, the place of the receive right, or that it entered the set.
+    /// Of this port, and so of its sets: the queue, the place of the receive right, or that it entered the set.
     Queue(PortId),
     /// The queues of these ports, and so of their sets.
     Queues(PortId, PortId),
-    /// The queue of the first port, and so that of its set, and the place of the second one's receive right.
+    /// Of this port that it entered or left this set, beside others; or the set was destroyed, and this was its one member.
+    Member(PortId, SetId),
+    /// The queue of the first port, and so that of its sets, and the place of the second one's receive right.
     Along(PortId, PortId),
     /// The same, where the second port left this set.
     AlongFrom(PortId, PortId, SetId),
-    /// The queue of the first port, and so that of its set, and the places of the other two ports' receive rights.
+    /// The queue of the first port, and so that of its sets, and the places of the other two ports' receive rights.
     AlongTwo(PortId, PortId, PortId),
     /// The same, where those of the other two ports that were in a set left this one.
     AlongTwoFrom(PortId, PortId, PortId, SetId),
-    /// The queue of the first port, and so that of its set, and the places of the other ports' receive rights.
+    /// The queue of the first port, and so that of its sets, and the places of the other ports' receive rights.
     AlongThree(PortId, PortId, PortId, PortId),
-    /// The queue of the port under this name of the task, and so that of its set.
+    /// The queue of the port under this name of the task, and so that of its sets.
     QueueNamed(TaskId, Name),
     /// The same, and the place of the receive right under the last name.
     ReceivedOne(TaskId, Name, Name),
@@ -73,7 +80,7 @@ impl Change {
     {
         match self {
             Change::Lost(port) if dies_alone(world, port) => {
-                Change::by_leaving(port, set_of(world, port))
+                Change::by_moving_from(port, world.membership(port))
             }
             _ => Change::Any,
         }
@@ -140,14 +147,15 @@ impl Change {
         }
     }
 
-    /// The port goes to another set or place, from this set, if it is in one.
+    /// The port goes to another set or place, from these sets, if it is in any; of several there is no place for all.
     #[inline(always)]
-    pub fn by_leaving(port: PortId, set: Option<SetId>) -> Change
-        ensures { result ≡ change_left_by port set }
+    pub fn by_moving_from(port: PortId, sets: Membership) -> Change
+        ensures { result ≡ change_left_by port sets }
     {
-        match set {
-            Some(set) => Change::Left(port, set),
-            None => Change::Queue(port),
+        match sets {
+            Membership::Nowhere => Change::Queue(port),
+            Membership::Alone(set) => Change::Left(port, SetId::new(set)),
+            Membership::Several(_) => Change::Any,
         }
     }
 
@@ -226,250 +234,98 @@ impl Change {
     pub fn by_taking(world: &World, to: PortId, rights: &[Carried]) -> Change
         ensures { result ≡ change_by_taking world.now to (receives_of rights.now) }
     {
-        match Moved::by(rights) {
-            Moved::Nothing => Change::Queue(to),
-            Moved::One(port) => by_taking_along(to, port, set_of(world, port)),
-            Moved::Two(a, b) => by_taking_two(to, a, b, set_of(world, a), set_of(world, b)),
-            Moved::Three(a, b, c) => {
-                match (set_of(world, a), set_of(world, b), set_of(world, c)) {
-                    (None, None, None) => Change::AlongThree(to, a, b, c),
-                    _ => Change::Any,
-                }
-            }
-            Moved::Several => Change::Any,
+        match taking(world, to, rights) {
+            Ok(change) => change,
+            Err(InSeveral) => Change::Any,
         }
     }
 
-    /// The ports and sets that it names, by the tables after the step. Constant time, and logarithmic for a
-    /// name above 65,535.
+    /// The ports and sets that it names, by the tables after the step: any port and any set, where they are more than
+    /// four. Constant time, and logarithmic for a name above 65,535.
     pub fn touched(self, world: &World) -> Touched
         ensures { result ≡ touched_by world.now self }
     {
+        match self.named(world) {
+            Ok(touched) => touched,
+            Err(InSeveral) => Touched::All,
+        }
+    }
+
+    // The same; an error, where a port is in several sets and there is a place for one.
+    fn named(self, world: &World) -> Result<Touched, InSeveral>
+        ensures { unwrap_or_all result ≡ touched_by world.now self }
+    {
         match self {
-            Change::Nothing => name_both(None, None),
+            Change::Nothing => Ok(name_both(None, None)),
             Change::PortNamed(task, name) => {
-                name_both(named_port(world, task, name).map(Waited::Port), None)
+                Ok(name_both(named_port(world, task, name).map(Waited::Port), None))
             }
-            Change::Queue(port) => name_with_set(world, Some(port)),
+            Change::Queue(port) => Ok(name_with_sets(world, Some(port))),
             Change::Queues(a, b) => name_two(world, a, b),
+            Change::Member(port, set) => {
+                Ok(name_both(Some(Waited::Port(port)), Some(Waited::Set(set))))
+            }
             Change::Along(to, port) => name_along(world, to, port, None),
             Change::AlongFrom(to, port, left) => name_along(world, to, port, Some(left)),
             Change::AlongTwo(to, a, b) => name_received(world, Some(to), Some(a), Some(b)),
             Change::AlongTwoFrom(to, a, b, left) => name_two_left(world, to, a, b, left),
-            Change::AlongThree(to, a, b, c) => name_three(world, to, (Some(a), Some(b), Some(c))),
-            Change::QueueNamed(task, name) => name_with_set(world, named_port(world, task, name)),
+            Change::AlongThree(to, a, b, c) => {
+                Ok(name_three(world, to, (Some(a), Some(b), Some(c))))
+            }
+            Change::QueueNamed(task, name) => {
+                Ok(name_with_sets(world, named_port(world, task, name)))
+            }
             Change::ReceivedOne(task, name, a) => name_received_one(world, task, name, a),
             Change::ReceivedTwo(task, name, a, b) => name_received_two(world, task, name, a, b),
             Change::ReceivedThree(task, name, a, b, c) => {
-                name_received_three(world, task, name, (a, b, c))
+                Ok(name_received_three(world, task, name, (a, b, c)))
             }
-            Change::Made => name_last(world),
+            Change::Made => Ok(name_last(world)),
             Change::Left(port, set) => name_left(world, port, set),
-            Change::Disbanded(set) => name_both(Some(Waited::Set(set)), None),
-            Change::DisbandedTwo(set, a, b) => name_members(set, a, b, None),
-            Change::DisbandedThree(set, a, b, c) => name_members(set, a, b, Some(c)),
-            Change::Lost(_) | Change::Any => Touched::All,
+            Change::Disbanded(set) => Ok(name_both(Some(Waited::Set(set)), None)),
+            Change::DisbandedTwo(set, a, b) => Ok(name_members(set, a, b, None)),
+            Change::DisbandedThree(set, a, b, c) => Ok(name_members(set, a, b, Some(c))),
+            Change::Lost(_) | Change::Any => Ok(Touched::All),
         }
     }
 }
 
-/// These two, where there are any.
-fn name_both(first: Option<Waited>, second: Option<Waited>) -> Touched
-    ensures { result ≡ few first second }
+/// What a message changes that is about to be sent to the port with these rights in its body; an error, where a port
+/// whose receive right it carries is in several sets.
+fn taking(world: &World, to: PortId, rights: &[Carried]) -> Result<Change, InSeveral>
+    ensures ok { IfOk result (λ change. change ≡ change_by_taking world.now to (receives_of rights.now)) }
+    ensures err { OnErr result (change_by_taking world.now to (receives_of rights.now) ≡ Any) }
 {
-    Touched::Few([first, second, None, None])
-}
-
-/// The port that was made last.
-fn name_last(world: &World) -> Touched
-    ensures { result ≡ made_last world.now }
-{
-    if world.are_ports_exhausted() {
-        return Touched::All;
-    }
-    let next = world.next_port().number();
-    name_both(
-        Some(Waited::Port(PortId::new(next.saturating_sub(1)))),
-        None,
-    )
-}
-
-/// The port under the name.
-fn named_port(world: &World, task: TaskId, name: Name) -> Option<PortId>
-    ensures { result ≡ port_under world.now task name }
-{
-    world.lookup(task, name)?.port()
-}
-
-/// The set that a port is in, if there is such a port and it is in one. Constant time.
-pub fn set_of(world: &World, port: PortId) -> Option<SetId>
-    ensures { result ≡ set_at world.now port }
-{
-    match world.find_attributes(port) {
-        Some(attributes) => attributes.set,
-        None => None,
-    }
-}
-
-/// The port, if there is one, and its set.
-fn name_with_set(world: &World, port: Option<PortId>) -> Touched
-    ensures { result ≡ touched_with_set world.now port }
-{
-    match port {
-        Some(port) => name_both(
-            Some(Waited::Port(port)),
-            set_of(world, port).map(Waited::Set),
-        ),
-        None => name_both(None, None),
-    }
-}
-
-/// Two ports, and their sets.
-fn name_two(world: &World, a: PortId, b: PortId) -> Touched
-    ensures { result ≡ named_two world.now a b }
-{
-    Touched::Few([
-        Some(Waited::Port(a)),
-        set_of(world, a).map(Waited::Set),
-        Some(Waited::Port(b)),
-        set_of(world, b).map(Waited::Set),
-    ])
-}
-
-/// The port and its set, and the other, with the set that it left, if it left one.
-fn name_along(world: &World, to: PortId, port: PortId, left: Option<SetId>) -> Touched
-    ensures { result ≡ named_along world.now to port left }
-{
-    Touched::Few([
-        Some(Waited::Port(to)),
-        set_of(world, to).map(Waited::Set),
-        Some(Waited::Port(port)),
-        left.map(Waited::Set),
-    ])
-}
-
-/// The port, the two others, and the set that these left. Any port and any set, where the first is in another set.
-fn name_two_left(world: &World, to: PortId, a: PortId, b: PortId, left: SetId) -> Touched
-    ensures { result ≡ named_two_left world.now to a b left }
-{
-    match set_of(world, to) {
-        Some(own) if own != left => Touched::All,
-        _ => {
-            Touched::Few([
-                Some(Waited::Port(to)),
-                Some(Waited::Port(a)),
-                Some(Waited::Port(b)),
-                Some(Waited::Set(left)),
-            ])
+    match Moved::by(rights) {
+        Moved::Nothing => Ok(Change::Queue(to)),
+        Moved::One(port) => Ok(by_taking_along(to, port, lone_set(world, port)?)),
+        Moved::Two(a, b) => {
+            Ok(by_taking_two(to, a, b, lone_set(world, a)?, lone_set(world, b)?))
         }
+        Moved::Three(a, b, c) => by_taking_three(world, to, a, b, c),
+        Moved::Several => Ok(Change::Any),
     }
 }
 
-/// The port under the name, and its set, and the port under the other.
-fn name_received_one(world: &World, task: TaskId, name: Name, a: Name) -> Touched
-    ensures { result ≡ named_received world.now (port_under world.now task name) (port_under world.now task a) None }
-{
-    name_received(
-        world,
-        named_port(world, task, name),
-        named_port(world, task, a),
-        None,
-    )
-}
-
-/// The port under the name, and its set, and the ports under the two others.
-fn name_received_two(world: &World, task: TaskId, name: Name, a: Name, b: Name) -> Touched
-    ensures { result ≡ named_received world.now (port_under world.now task name) (port_under world.now task a) (port_under world.now task b) }
-{
-    name_received(
-        world,
-        named_port(world, task, name),
-        named_port(world, task, a),
-        named_port(world, task, b),
-    )
-}
-
-/// The port, if there is one, and its set, and the two others, where they are there.
-fn name_received(
+/// The same of a message with the receive rights of these three in its body. Any port and any set, where one of them is in a set.
+fn by_taking_three(
     world: &World,
-    port: Option<PortId>,
-    a: Option<PortId>,
-    b: Option<PortId>,
-) -> Touched
-    ensures { result ≡ named_received world.now port a b }
+    to: PortId,
+    a: PortId,
+    b: PortId,
+    c: PortId,
+) -> Result<Change, InSeveral>
+    ensures ok { IfOk result (λ change. change ≡ change_by_taking world.now to (a ∷ b ∷ c ∷ [])) }
+    ensures err { OnErr result (change_by_taking world.now to (a ∷ b ∷ c ∷ []) ≡ Any) }
 {
-    let Some(port) = port else {
-        return name_both(None, None);
-    };
-    Touched::Few([
-        Some(Waited::Port(port)),
-        set_of(world, port).map(Waited::Set),
-        a.map(Waited::Port),
-        b.map(Waited::Port),
-    ])
-}
-
-/// The port under the name, and the ports under the three others.
-fn name_received_three(
-    world: &World,
-    task: TaskId,
-    name: Name,
-    given: (Name, Name, Name),
-) -> Touched
-    ensures { result ≡ named_three world.now (port_under world.now task name) (port_under world.now task given.0) (port_under world.now task given.1) (port_under world.now task given.2) }
-{
-    let Some(port) = named_port(world, task, name) else {
-        return name_both(None, None);
-    };
-    let others = (
-        named_port(world, task, given.0),
-        named_port(world, task, given.1),
-        named_port(world, task, given.2),
-    );
-    name_three(world, port, others)
-}
-
-/// The port, and the three others, where they are there. Any port and any set, where the first is in a set.
-fn name_three(
-    world: &World,
-    port: PortId,
-    others: (Option<PortId>, Option<PortId>, Option<PortId>),
-) -> Touched
-    ensures { result ≡ named_three world.now (Some port) others.0 others.1 others.2 }
-{
-    if set_of(world, port).is_some() {
-        return Touched::All;
+    match (
+        lone_set(world, a)?,
+        lone_set(world, b)?,
+        lone_set(world, c)?,
+    ) {
+        (None, None, None) => Ok(Change::AlongThree(to, a, b, c)),
+        _ => Ok(Change::Any),
     }
-    Touched::Few([
-        Some(Waited::Port(port)),
-        others.0.map(Waited::Port),
-        others.1.map(Waited::Port),
-        others.2.map(Waited::Port),
-    ])
-}
-
-/// The port, the set that it is in, if any, and the one that it left.
-fn name_left(world: &World, port: PortId, left: SetId) -> Touched
-    ensures { result ≡ named_left world.now port left }
-{
-    Touched::Few([
-        Some(Waited::Port(port)),
-        set_of(world, port).map(Waited::Set),
-        Some(Waited::Set(left)),
-        None,
-    ])
-}
-
-/// The set that was destroyed, and its two or three members.
-fn name_members(set: SetId, a: PortId, b: PortId, c: Option<PortId>) -> Touched
-    ensures { result ≡ Few (Some (waited.Set set) ∷ Some (waited.Port a) ∷ Some (waited.Port b) ∷ option_map waited.Port c ∷ []) }
-{
-    Touched::Few([
-        Some(Waited::Set(set)),
-        Some(Waited::Port(a)),
-        Some(Waited::Port(b)),
-        c.map(Waited::Port),
-    ])
 }
 
 /// The set is about to be destroyed: it changes, and each member. Linear in the members, of whom it makes a list. Where
@@ -493,7 +349,7 @@ fn with_members(set: SetId, members: &[PortId]) -> Change
 {
     match members {
         [] => Change::Disbanded(set),
-        [a] => Change::Left(*a, set),
+        [a] => Change::Member(*a, set),
         [a, b] => Change::DisbandedTwo(set, *a, *b),
         [a, b, c] => Change::DisbandedThree(set, *a, *b, *c),
         _ => Change::Any,
@@ -585,7 +441,7 @@ fn by_moving(world: &World, task: TaskId, name: Name) -> Change
     ensures { result ≡ change_by_moving world.now task name }
 {
     match named_port(world, task, name) {
-        Some(port) => Change::by_leaving(port, set_of(world, port)),
+        Some(port) => Change::by_moving_from(port, world.membership(port)),
         None => Change::Any,
     }
 }

@@ -1,6 +1,7 @@
 -- What is covered once a message was sent that takes receive rights along: the queue of its port, and the ports whose rights they are.
 use Rattle.std.proofs.Common.{◌≡◌, ℕ, zero, suc, All, List, [], ◌∷◌, Option, Some, None, refl, sym, ap, subst, ◌∙◌, arith, true, false, Bool, inl, inr}
-use Rattle.std.specs.Prelude.{◌≢◌, ◌==◌, ◌⊎◌, MatchBool, Contains, if◌then◌else◌, is_some}
+use Rattle.std.specs.Prelude.{◌≢◌, ◌==◌, ◌⊎◌, MatchBool, Contains, if◌then◌else◌, is_some, slice_get}
+use Rattle.std.specs.Option.{option_map}
 use Rattle.std.proofs.lemmas.Bool.Decides.{eqb_tells}
 use Rattle.std.proofs.lemmas.List.Elements.{All-head, All-tail, All-nil, All-cons}
 use Rattle.mach_types.specs.declared.calls.Waited.{Waited}
@@ -32,7 +33,7 @@ use Rattle.copyin_base.specs.Kept.{Kept, mark_of, receive_moved, receive_of}
 use Rattle.copyin_base.specs.Posted.{with_posted}
 use Rattle.copyin_base.specs.Serving.{ShowsMid}
 use Rattle.copyin_base.specs.Shows.{Agrees, Shows}
-use Rattle.copyin_base.specs.Worlds.{WorldView}
+use Rattle.copyin_base.specs.Worlds.{WorldView, sets_at}
 use Rattle.copyin_base.proofs.KeptEntries.{rights_of, body_kept}
 use Rattle.copyin.specs.declared.judge.Plan.{Plan}
 use Rattle.copyin.specs.Judging.{CopiesName, CopiesWord, PassesAs}
@@ -40,10 +41,10 @@ use Rattle.copyin.proofs.Copying.{pairs, body_pairs}
 use Rattle.copyin.proofs.Planning.{message, third, copied, none_receives}
 use Rattle.kernel_change.specs.declared.change.Change.{Change}
 use Rattle.kernel_change.specs.declared.change.Change.TheVariants as change
-use Rattle.kernel_change.specs.Changing.{by_taking, by_taking_along, by_taking_two, by_taking_three, is_in_no_other, named_along, named_received, named_two_left, receives_of, set_of, touched_by}
-use Rattle.kernel_core.specs.Send.{PlansText}
-use Rattle.kernel_core.specs.Telling.{TellsAlong}
-use Rattle.kernel_core.proofs.Covered.{OwnTouches, none_some, one_some, set_is}
+use Rattle.kernel_change.specs.Changing.{by_taking, by_taking_along, by_taking_two, by_taking_three, has_more, is_in_no_other, lone, named_two_left, receives_of, touched_by, unless_several}
+use Rattle.message_send.specs.Send.{PlansText}
+use Rattle.message_send.specs.Telling.{TellsAlong}
+use Rattle.kernel_core.proofs.Covered.{OwnTouches, none_some, one_some, set_is, covers_named, covers_its, unless_covers, unless_set}
 
 -- ---- the words of a body, and the rights that they become
 
@@ -97,11 +98,11 @@ along_words ports names (w ∷ ws) [] last t only = absurd t
 
 -- ---- what is covered
 
--- This covers a port with the set that it is in, and others with the sets that they were in.
+-- This covers a port with the sets that it is in, and others with those that they were in.
 record CoversAlong (old w : WorldView) (to : ℕ) (ports : List ℕ) (touched : Touched) : Type 0 where
   port : Covers touched (Waited.Port to)
-  own : (set : ℕ) → set_of w to ≡ Some set → Covers touched (Waited.Set set)
-  others : (q : ℕ) → Contains ports q → Covers touched (Waited.Port q) × ((set : ℕ) → set_of old q ≡ Some set → Covers touched (Waited.Set set))
+  own : (set : ℕ) → Contains (sets_at w to) set → Covers touched (Waited.Set set)
+  others : (q : ℕ) → Contains ports q → Covers touched (Waited.Port q) × ((set : ℕ) → Contains (sets_at old q) set → Covers touched (Waited.Set set))
 
 for_one : (P : ℕ → Type 0) (a : ℕ) → P a → (q : ℕ) → Contains (a ∷ []) q → P q
 for_one P a x q (zero, below, same) = subst P same x
@@ -111,15 +112,29 @@ for_more : (P : ℕ → Type 0) (a : ℕ) (ports : List ℕ) → P a → ((q : �
 for_more P a ports x more q (zero, below, same) = subst P same x
 for_more P a ports x more q (suc i, below, same) = more q (i, omega (arith, below), same)
 
--- what covers a port, with the set that it was in
+-- what covers a port, with the sets that it was in
 abbrev CoversLeft : (old : WorldView) (touched : Touched) (q : ℕ) → Type 0
-CoversLeft old touched q = Covers touched (Waited.Port q) × ((set : ℕ) → set_of old q ≡ Some set → Covers touched (Waited.Set set))
+CoversLeft old touched q = Covers touched (Waited.Port q) × ((set : ℕ) → Contains (sets_at old q) set → Covers touched (Waited.Set set))
 
-none_left : (old : WorldView) (touched : Touched) (q : ℕ) → Covers touched (Waited.Port q) → set_of old q ≡ None → CoversLeft old touched q
-none_left old touched q covers none = (covers, λ set is. absurd (none_some set (sym none ∙ is)))
+-- The port was in this set at most.
+abbrev Was : (old : WorldView) (q : ℕ) → Option ℕ → Type 0
+Was old q o = (set : ℕ) → Contains (sets_at old q) set → o ≡ Some set
 
-one_left : (old : WorldView) (touched : Touched) (q left : ℕ) → Covers touched (Waited.Port q) → Covers touched (Waited.Set left) → set_of old q ≡ Some left → CoversLeft old touched q
-one_left old touched q left covers set_too is = (covers, λ set e. subst (λ (x : ℕ). Covers touched (Waited.Set x)) (one_some left set (sym is ∙ e)) set_too)
+one_in : (sets : List ℕ) → has_more sets ≡ false → (set : ℕ) → Contains sets set → slice_get sets 0 ≡ Some set
+one_in [] few set (i, below, is) = absurd (omega (arith, below))
+one_in (a ∷ []) few set (zero, below, is) = ap Some is
+one_in (a ∷ []) few set (suc i, below, is) = absurd (omega (arith, below))
+one_in (a ∷ b ∷ sets) few set in_it = absurd (cc)
+
+empty_in : (sets : List ℕ) → slice_get sets 0 ≡ None → (set : ℕ) → Contains sets set → None ≡ Some set
+empty_in [] none set (i, below, is) = absurd (omega (arith, below))
+empty_in (a ∷ sets) none set in_it = absurd (cc)
+
+none_left : (old : WorldView) (touched : Touched) (q : ℕ) → Covers touched (Waited.Port q) → Was old q None → CoversLeft old touched q
+none_left old touched q covers was = (covers, λ set in_it. absurd (none_some set (was set in_it)))
+
+one_left : (old : WorldView) (touched : Touched) (q left : ℕ) → Covers touched (Waited.Port q) → Covers touched (Waited.Set left) → Was old q (Some left) → CoversLeft old touched q
+one_left old touched q left covers set_too was = (covers, λ set in_it. subst (λ (x : ℕ). Covers touched (Waited.Set x)) (one_some left set (was set in_it)) set_too)
 
 module _ (old w : WorldView) (to : ℕ) where
   -- All is covered, or just this.
@@ -127,27 +142,35 @@ module _ (old w : WorldView) (to : ℕ) where
   CoversBy ports touched = (touched ≡ Any) ⊎ CoversAlong old w to ports touched
 
   none_covers : CoversBy [] (touched_by w (change.Queue to))
-  none_covers = inr (record { port = (0, omega arith, refl); own = λ set is. rw is (1, omega arith, refl); others = λ q in_it. absurd (none_in q in_it) })
+  none_covers = inr (record { port = covers_named to (sets_at w to); own = λ set in_it. covers_its to (sets_at w to) set in_it; others = λ q in_it. absurd (none_in q in_it) })
     where
       none_in : (q : ℕ) → Contains [] q → ⊥
       none_in q (i, below, same) = omega (arith, below)
 
-  one_covers : (a : ℕ) (left : Option ℕ) → set_of old a ≡ left → CoversBy (a ∷ []) (touched_by w (by_taking_along to a left))
-  one_covers a None is = inr (record {
-    port = (0, omega arith, refl);
-    own = λ set e. rw e (1, omega arith, refl);
-    others = for_one (CoversLeft old (named_along w to a None)) a (none_left old (named_along w to a None) a (2, omega arith, refl) is);
-  })
-  one_covers a (Some left) is = inr (record {
-    port = (0, omega arith, refl);
-    own = λ set e. rw e (1, omega arith, refl);
-    others = for_one (CoversLeft old (named_along w to a (Some left))) a (one_left old (named_along w to a (Some left)) a left (2, omega arith, refl) (3, omega arith, refl) is);
-  })
+  -- what covers the port with its only set does so too where all may be meant
+  unless_along : (ports : List ℕ) (touched : Touched) → Covers touched (Waited.Port to) → ((set : ℕ) → lone (sets_at w to) ≡ Some (Waited.Set set) → Covers touched (Waited.Set set)) →
+      ((q : ℕ) → Contains ports q → CoversLeft old touched q) → CoversAlong old w to ports (unless_several (sets_at w to) touched)
+  unless_along ports touched port own others = record {
+    port = unless_covers (sets_at w to) touched (Waited.Port to) port;
+    own = λ set in_it. unless_set (sets_at w to) touched set in_it (own set);
+    others = λ q in_it. (
+      unless_covers (sets_at w to) touched (Waited.Port q) (others q in_it).0,
+      λ set was. unless_covers (sets_at w to) touched (Waited.Set set) ((others q in_it).1 set was),
+    );
+  }
+
+  abbrev along : (a : ℕ) (left : Option ℕ) → Touched
+  along a left = Few (Some (Waited.Port to) ∷ lone (sets_at w to) ∷ Some (Waited.Port a) ∷ option_map Waited.Set left ∷ [])
+
+  one_covers : (a : ℕ) (left : Option ℕ) → Was old a left → CoversBy (a ∷ []) (touched_by w (by_taking_along to a left))
+  one_covers a None was = inr (unless_along (a ∷ []) (along a None) (0, omega arith, refl) (λ set one. (1, omega arith, one)) (for_one (CoversLeft old (along a None)) a (none_left old (along a None) a (2, omega arith, refl) was)))
+  one_covers a (Some left) was =
+      inr (unless_along (a ∷ []) (along a (Some left)) (0, omega arith, refl) (λ set one. (1, omega arith, one)) (for_one (CoversLeft old (along a (Some left))) a (one_left old (along a (Some left)) a left (2, omega arith, refl) (3, omega arith, refl) was)))
 
   -- of two that left this set, at least one
   left_covers : (a b left : ℕ) → ((touched : Touched) → Covers touched (Waited.Port a) → Covers touched (Waited.Set left) → CoversLeft old touched a) → ((touched : Touched) → Covers touched (Waited.Port b) → Covers touched (Waited.Set left) → CoversLeft old touched b) →
       CoversBy (a ∷ b ∷ []) (named_two_left w to a b left)
-  left_covers a b left first second = go (set_of w to) refl
+  left_covers a b left first second = go (sets_at w to) refl
     where
       four : Touched
       four = Few (Some (Waited.Port to) ∷ Some (Waited.Port a) ∷ Some (Waited.Port b) ∷ Some (Waited.Set left) ∷ [])
@@ -155,44 +178,56 @@ module _ (old w : WorldView) (to : ℕ) where
       both : (q : ℕ) → Contains (a ∷ b ∷ []) q → CoversLeft old four q
       both = for_more (CoversLeft old four) a (b ∷ []) (first four (1, omega arith, refl) (3, omega arith, refl)) (for_one (CoversLeft old four) b (second four (2, omega arith, refl) (3, omega arith, refl)))
 
-      go : (o : Option ℕ) → set_of w to ≡ o → CoversBy (a ∷ b ∷ []) (if is_in_no_other o left then four else Any)
-      go None is = inr (record { port = (0, omega arith, refl); own = λ set e. absurd (none_some set (sym is ∙ e)); others = both })
-      go (Some set) is = elim (eqb_tells set left) [
+      in_these : (xs : List ℕ) → sets_at w to ≡ xs → (set : ℕ) → Contains (sets_at w to) set → Contains xs set
+      in_these xs is set in_it = subst (λ (ys : List ℕ). Contains ys set) is in_it
+
+      none_in : (set : ℕ) → Contains [] set → ⊥
+      none_in set (i, below, same) = omega (arith, below)
+
+      go : (xs : List ℕ) → sets_at w to ≡ xs → CoversBy (a ∷ b ∷ []) (if is_in_no_other xs left then four else Any)
+      go [] is = inr (record { port = (0, omega arith, refl); own = λ set in_it. absurd (none_in set (in_these [] is set in_it)); others = both })
+      go (set ∷ []) is = elim (eqb_tells set left) [
         | inl e ↦ (let same = e.0 in
             rw same (inr (record {
               port = (0, omega arith, refl);
-              own = λ x f. subst (λ (y : ℕ). Covers four (Waited.Set y)) (sym e.1 ∙ one_some set x (sym is ∙ f)) (3, omega arith, refl);
+              own = λ x in_it. for_one (λ (y : ℕ). Covers four (Waited.Set y)) set (subst (λ (y : ℕ). Covers four (Waited.Set y)) (sym e.1) (3, omega arith, refl)) x (in_these (set ∷ []) is x in_it);
               others = both;
             })))
         | inr e ↦ (let other = e.0 in rw other (inl refl))
       ]
+      go (set ∷ other ∷ sets) is = inl refl
 
-  two_covers : (a b : ℕ) (left other : Option ℕ) → set_of old a ≡ left → set_of old b ≡ other → CoversBy (a ∷ b ∷ []) (touched_by w (by_taking_two to a b left other))
-  two_covers a b None None is too = inr (record {
-    port = (0, omega arith, refl);
-    own = λ set e. rw e (1, omega arith, refl);
-    others = for_more (CoversLeft old (named_received w (Some to) (Some a) (Some b))) a (b ∷ []) (none_left old (named_received w (Some to) (Some a) (Some b)) a (2, omega arith, refl) is) (for_one (CoversLeft old (named_received w (Some to) (Some a) (Some b))) b (none_left old (named_received w (Some to) (Some a) (Some b)) b (3, omega arith, refl) too));
-  })
-  two_covers a b None (Some set) is too = left_covers a b set (λ touched covers left. none_left old touched a covers is) (λ touched covers left. one_left old touched b set covers left too)
-  two_covers a b (Some set) None is too = left_covers a b set (λ touched covers left. one_left old touched a set covers left is) (λ touched covers left. none_left old touched b covers too)
-  two_covers a b (Some set) (Some other) is too = elim (eqb_tells set other) [
+  abbrev received : (a b : ℕ) → Touched
+  received a b = Few (Some (Waited.Port to) ∷ lone (sets_at w to) ∷ Some (Waited.Port a) ∷ Some (Waited.Port b) ∷ [])
+
+  two_covers : (a b : ℕ) (left other : Option ℕ) → Was old a left → Was old b other → CoversBy (a ∷ b ∷ []) (touched_by w (by_taking_two to a b left other))
+  two_covers a b None None was too =
+      inr (unless_along (a ∷ b ∷ []) (received a b) (0, omega arith, refl) (λ set one. (1, omega arith, one))
+      (for_more (CoversLeft old (received a b)) a (b ∷ []) (none_left old (received a b) a (2, omega arith, refl) was) (for_one (CoversLeft old (received a b)) b (none_left old (received a b) b (3, omega arith, refl) too))))
+  two_covers a b None (Some set) was too = left_covers a b set (λ touched covers left. none_left old touched a covers was) (λ touched covers left. one_left old touched b set covers left too)
+  two_covers a b (Some set) None was too = left_covers a b set (λ touched covers left. one_left old touched a set covers left was) (λ touched covers left. none_left old touched b covers too)
+  two_covers a b (Some set) (Some other) was too = elim (eqb_tells set other) [
     | inl e ↦ (let same = e.0 in
-        rw same (left_covers a b set (λ touched covers left. one_left old touched a set covers left is) (λ touched covers left. one_left old touched b set covers left (too ∙ ap Some (sym e.1)))))
+        rw same (left_covers a b set (λ touched covers left. one_left old touched a set covers left was) (λ touched covers left. one_left old touched b set covers left (λ x in_it. ap Some e.1 ∙ too x in_it))))
     | inr e ↦ (let differs = e.0 in rw differs (inl refl))
   ]
 
-  three_covers : (a b c : ℕ) (left other last : Option ℕ) → set_of old a ≡ left → set_of old b ≡ other → set_of old c ≡ last → CoversBy (a ∷ b ∷ c ∷ []) (touched_by w (by_taking_three to a b c left other last))
-  three_covers a b c None None None is too three = go (set_of w to) refl
+  three_covers : (a b c : ℕ) (left other last : Option ℕ) → slice_get (sets_at old a) 0 ≡ left → slice_get (sets_at old b) 0 ≡ other → slice_get (sets_at old c) 0 ≡ last → CoversBy (a ∷ b ∷ c ∷ []) (touched_by w (by_taking_three to a b c left other last))
+  three_covers a b c None None None is too three = go (sets_at w to) refl
     where
       four : Touched
       four = Few (Some (Waited.Port to) ∷ Some (Waited.Port a) ∷ Some (Waited.Port b) ∷ Some (Waited.Port c) ∷ [])
 
-      go : (o : Option ℕ) → set_of w to ≡ o → CoversBy (a ∷ b ∷ c ∷ []) (if is_some o then Any else four)
-      go (Some set) e = inl refl
-      go None e = inr (record {
+      none_in : (set : ℕ) → Contains [] set → ⊥
+      none_in set (i, below, same) = omega (arith, below)
+
+      go : (xs : List ℕ) → sets_at w to ≡ xs → CoversBy (a ∷ b ∷ c ∷ []) (if is_some (lone xs) then Any else four)
+      go (set ∷ sets) e = inl refl
+      go [] e = inr (record {
         port = (0, omega arith, refl);
-        own = λ set f. absurd (none_some set (sym e ∙ f));
-        others = for_more (CoversLeft old four) a (b ∷ c ∷ []) (none_left old four a (1, omega arith, refl) is) (for_more (CoversLeft old four) b (c ∷ []) (none_left old four b (2, omega arith, refl) too) (for_one (CoversLeft old four) c (none_left old four c (3, omega arith, refl) three)));
+        own = λ set in_it. absurd (none_in set (subst (λ (ys : List ℕ). Contains ys set) e in_it));
+        others = for_more (CoversLeft old four) a (b ∷ c ∷ []) (none_left old four a (1, omega arith, refl) (empty_in (sets_at old a) is))
+            (for_more (CoversLeft old four) b (c ∷ []) (none_left old four b (2, omega arith, refl) (empty_in (sets_at old b) too)) (for_one (CoversLeft old four) c (none_left old four c (3, omega arith, refl) (empty_in (sets_at old c) three))));
       })
   three_covers a b c (Some set) other last is too three = inl refl
   three_covers a b c None (Some set) last is too three = inl refl
@@ -201,9 +236,19 @@ module _ (old w : WorldView) (to : ℕ) where
   -- by the tables before
   taking_covers : (ports : List ℕ) → CoversBy ports (touched_by w (by_taking old to ports))
   taking_covers [] = none_covers
-  taking_covers (a ∷ []) = one_covers a (set_of old a) refl
-  taking_covers (a ∷ b ∷ []) = two_covers a b (set_of old a) (set_of old b) refl refl
-  taking_covers (a ∷ b ∷ c ∷ []) = three_covers a b c (set_of old a) (set_of old b) (set_of old c) refl refl refl
+  taking_covers (a ∷ []) = go (has_more (sets_at old a)) refl
+    where
+      go : (m : Bool) → has_more (sets_at old a) ≡ m → CoversBy (a ∷ []) (touched_by w (if m then change.Any else by_taking_along to a (slice_get (sets_at old a) 0)))
+      go true is = inl refl
+      go false is = one_covers a (slice_get (sets_at old a) 0) (one_in (sets_at old a) is)
+  taking_covers (a ∷ b ∷ []) = go (has_more (sets_at old a)) (has_more (sets_at old b)) refl refl
+    where
+      go : (m n : Bool) → has_more (sets_at old a) ≡ m → has_more (sets_at old b) ≡ n →
+          CoversBy (a ∷ b ∷ []) (touched_by w (if m then change.Any else (if n then change.Any else by_taking_two to a b (slice_get (sets_at old a) 0) (slice_get (sets_at old b) 0))))
+      go true n is too = inl refl
+      go false true is too = inl refl
+      go false false is too = two_covers a b (slice_get (sets_at old a) 0) (slice_get (sets_at old b) 0) (one_in (sets_at old a) is) (one_in (sets_at old b) too)
+  taking_covers (a ∷ b ∷ c ∷ []) = three_covers a b c (slice_get (sets_at old a) 0) (slice_get (sets_at old b) 0) (slice_get (sets_at old c) 0) refl refl refl
   taking_covers (a ∷ b ∷ c ∷ d ∷ ports) = inl refl
 
 module _ (now : ℕ) (old w : WorldView) (s mid : State) (owed : Owed) (sh : Shows old s) (shown : ShowsMid now old w mid owed) where

@@ -1,14 +1,14 @@
 -- What a kernel keeps of a step covers all that the machine's step changes of ports and sets.
 use Rattle.std.proofs.Common.{◌≡◌, ℕ, suc, zero, ◌+◌, ◌-◌, ◌<◌, List, [], ◌∷◌, ◌++◌, Option, Some, None, refl, sym, ap, subst, ◌∙◌, arith, true, false, Bool, inl, inr, ◌⊎◌, length, is_some}
 use Rattle.std.specs.Prelude.{◌≢◌, ◌==◌, ◌&&◌, ◌||◌, ℤ, not, if◌then◌else◌, MatchBool, Contains, nat_lt, All, Result, Ok, Err, IfOk}
-use Rattle.std.specs.Option.{option_map}
+use Rattle.std.specs.Option.{option_map, option_and_then}
 use Rattle.std.proofs.lemmas.List.Elements.{All-head, All-tail, All-cons, All-nil}
 use Rattle.std.proofs.lemmas.Bool.Decides.{eqb_tells}
 use Rattle.mach_types.specs.declared.calls.Event.{Event}
 use Rattle.mach_types.specs.declared.calls.Reply.{Reply}
 use Rattle.mach_types.specs.declared.calls.Waited.{Waited}
 use Rattle.mach_types.specs.declared.touched.Touched.{Touched}
-use Rattle.mach_types.specs.declared.touched.Touched.TheVariants.{All as Any}
+use Rattle.mach_types.specs.declared.touched.Touched.TheVariants.{Few, All as Any}
 use Rattle.mach_types.specs.Touching.{Covers}
 use Rattle.mach_types.specs.declared.rights.Disposition.{Disposition}
 use Rattle.mach_types.specs.declared.rights.Disposition.TheVariants.{MoveSend, MoveSendOnce}
@@ -22,7 +22,7 @@ use Rattle.mach_model.specs.Death.{same_place}
 use Rattle.mach_model.specs.Lawful.{IsLawful}
 use Rattle.mach_model.specs.Midway.{MidLawful}
 use Rattle.mach_model.specs.Acts.{Does}
-use Rattle.mach_model.specs.Names.{Makes}
+use Rattle.mach_model.specs.Names.{Makes, EntersSet, LeavesSet}
 use Rattle.mach_model.specs.Notices.{Notice, carried_by, Owed, right_unused}
 use Rattle.mach_model.specs.Requests.{Requests}
 use Rattle.mach_model.specs.SentMeans.{target_mark}
@@ -46,13 +46,15 @@ use Rattle.mach_laws.proofs.Requesting.{OwesOne, OwesNone, request_keeps, taken_
 use Rattle.mach_laws.proofs.Touching.{Keeps, Changes, keeps_same, keeps_by, changes_none, changes_end, touches, touches_before, gives_keeps, made_touches, set_changes, dead_keeps, IsOtherWord, SendsOthers, keeps_trans, sends_change, sends_alike, creates_keep, renames_keep, limit_changes}
 use Rattle.name_space.specs.declared.Entry.{Entry as Named}
 use Rattle.name_space.specs.declared.Entry.TheVariants as named
+use Rattle.name_space.specs.Entry.{set_named}
+use Rattle.port_base.specs.Memberships.{membership_in}
 use Rattle.port.specs.Ports.{PortView}
 use Rattle.message_codec.specs.declared.words.PortWord.{PortWord}
 use Rattle.copyin_base.specs.Kept.{Kept}
 use Rattle.copyin_base.specs.Posted.{with_notice, with_posted}
 use Rattle.copyin_base.specs.Serving.{Declines}
 use Rattle.copyin_base.specs.Shows.{Agrees, Shows, target_of}
-use Rattle.copyin_base.specs.Worlds.{WorldView, entry_at, port_at, IsIdle}
+use Rattle.copyin_base.specs.Worlds.{WorldView, entry_at, port_at, sets_at, IsIdle}
 use Rattle.copyin_base.specs.Serving.{ShowsMid}
 use Rattle.message_codec.specs.Words.{body_words}
 use Rattle.mach_types.specs.Bodies.{body_words as machine_words}
@@ -62,15 +64,17 @@ use Rattle.copyin.proofs.Planning.{message, third, copied, none_receives}
 use Rattle.destroy.specs.Stages.{SettlesIn}
 use Rattle.kernel_change.specs.declared.change.Change.TheVariants as change
 use Rattle.kernel_change.specs.declared.change.Change.{Change}
-use Rattle.kernel_change.specs.Changing.{ByDisbanding, ByEnding, ByLosingAll, ByReferences, DiesAlone, EndsAs, HasSendsAlone, by_handing, by_losing_all, by_losing_one, by_making, by_moving, by_paying, by_receipt, by_request, by_too_long, disbanded, few, is_send_or_dead, left_by, made_last, moved_from, named_left, set_of, touched_by, with_set}
+use Rattle.kernel_change.specs.Changing.{ByDisbanding, ByEnding, ByLosingAll, ByReferences, DiesAlone, EndsAs, HasSendsAlone, by_handing, by_losing_all, by_losing_one, by_making, by_moving, by_paying, by_receipt, by_request, by_too_long, disbanded, few, is_send_or_dead, left_by, made_last, moved_from, named_left, touched_by, with_sets, by_pairing, lone, paired, port_under}
 use Rattle.kernel_core.specs.InTurn.{source, TakesByTurn, CompletesInTurn}
 use Rattle.kernel_core.specs.Receive.{taken_by, TakesOne}
-use Rattle.kernel_core.specs.Send.{MovesNoReceive, PlansText}
-use Rattle.kernel_core.specs.Telling.{TellsChange, TellsPlan, EndsIdle}
+use Rattle.message_send.specs.Send.{MovesNoReceive, PlansText}
+use Rattle.message_send.specs.Telling.{TellsPlan}
+use Rattle.kernel_core.specs.Telling.{TellsChange, EndsIdle}
 use Rattle.kernel_core.specs.Touching.{Touches}
 use Rattle.kernel_core.proofs.Along.{along_own}
 use Rattle.kernel_core.proofs.Alone.{none_kept, is_lone}
-use Rattle.kernel_core.proofs.Covered.{OwnTouches, touches_all, none_some, one_some, kept_all, set_is, under, covers_port, covers_set, queue_changed, limit_changed}
+use Rattle.kernel_core.proofs.Covered.{OwnTouches, touches_all, none_some, one_some, kept_all, set_is, under, covers_port, covers_set, covers_named, covers_its, unless_covers, unless_set, queue_changed, limit_changed}
+use Rattle.kernel_core.proofs.Pairing.{enters_touch, leaves_touch}
 use Rattle.kernel_core.proofs.Taking.{named_takes, again_takes, destroyed_one, one_taken, settled_in_turn, refused_in_turn}
 use Rattle.kernel_core.proofs.Given.{message_own}
 use Rattle.kernel_core.proofs.LostRight.{own_lost}
@@ -108,7 +112,7 @@ quiet_notice w now mid t p place notice bare a b no_sets idle =
 -- a set that is destroyed is covered, and so is each of few members
 covers_disbanded : (v : WorldView) (set : ℕ) (ports : List ℕ) → Covers (touched_by v (disbanded set ports)) (Waited.Set set)
 covers_disbanded v set [] = (0, omega arith, refl)
-covers_disbanded v set (a ∷ []) = (2, omega arith, refl)
+covers_disbanded v set (a ∷ []) = (1, omega arith, refl)
 covers_disbanded v set (a ∷ b ∷ []) = (0, omega arith, refl)
 covers_disbanded v set (a ∷ b ∷ c ∷ []) = (0, omega arith, refl)
 covers_disbanded v set (a ∷ b ∷ c ∷ d ∷ xs) = tt
@@ -125,6 +129,33 @@ covers_member v set (a ∷ b ∷ c ∷ []) p (suc zero, below, is) = (2, omega a
 covers_member v set (a ∷ b ∷ c ∷ []) p (suc (suc zero), below, is) = (3, omega arith, ap (λ (n : ℕ). Some (Waited.Port n)) is)
 covers_member v set (a ∷ b ∷ c ∷ []) p (suc (suc (suc i)), below, is) = absurd (omega (arith, below))
 covers_member v set (a ∷ b ∷ c ∷ d ∷ xs) p in_it = tt
+
+-- a port with its sets, and the set that it left
+in_none : (set : ℕ) → Contains [] set → ⊥
+in_none set (i, below, is) = omega (arith, below)
+
+in_only : (left set : ℕ) → Contains (left ∷ []) set → left ≡ set
+in_only left set (zero, below, is) = is
+in_only left set (suc i, below, is) = absurd (omega (arith, below))
+
+abbrev left_few : WorldView → (p left : ℕ) → Touched
+left_few v p left = Few (Some (Waited.Port p) ∷ lone (sets_at v p) ∷ Some (Waited.Set left) ∷ None ∷ [])
+
+covers_left : (v : WorldView) (p left : ℕ) (one : Waited) → Covers (left_few v p left) one → Covers (named_left v p left) one
+covers_left v p left one c = unless_covers (sets_at v p) (left_few v p left) one c
+
+covers_left_own : (v : WorldView) (p left set : ℕ) → Contains (sets_at v p) set → Covers (named_left v p left) (Waited.Set set)
+covers_left_own v p left set in_it = unless_set (sets_at v p) (left_few v p left) set in_it (λ one. (1, omega arith, one))
+
+-- a set stands under its name in the tables
+named_set : (o : Option Named) (set : ℕ) → Some (Target.set set) ≡ option_map target_of o → option_and_then set_named o ≡ Some set
+named_set None set e = cc
+named_set (Some (named.Receive q)) set e = cc
+named_set (Some (named.Send q n)) set e = cc
+named_set (Some (named.ReceiveAndSend q n)) set e = cc
+named_set (Some (named.SendOnce q)) set e = cc
+named_set (Some (named.DeadName n)) set e = cc
+named_set (Some (named.Set x)) set e = grind arith
 
 -- what stands for no set
 abbrev IsNoSet : Target → Type 0
@@ -153,7 +184,7 @@ module _ (now : ℕ) (old w : WorldView) (s mid : State) (owed : Owed) (sh : Sho
   law : owed ≡ [] → MidLawful mid []
   law none = subst (MidLawful mid) none shown.lawful
 
-  message_sent : (task : ℕ) (bytes : List ℕ) (plan : Plan) → Sends now task bytes s mid → owed ≡ [] → PlansText old task bytes plan → MovesNoReceive plan.words.body.items → OwnTouches s mid owed (with_set w (Some plan.port))
+  message_sent : (task : ℕ) (bytes : List ℕ) (plan : Plan) → Sends now task bytes s mid → owed ≡ [] → PlansText old task bytes plan → MovesNoReceive plan.words.body.items → OwnTouches s mid owed (with_sets w (Some plan.port))
   message_sent task bytes plan x none p goes =
       let j = p.is_plan.plans.judged in
       let y : Sends now task bytes s _ = record {
@@ -196,8 +227,8 @@ module _ (now : ℕ) (old w : WorldView) (s mid : State) (owed : Owed) (sh : Sho
     λ t c.
         touches_before s mid t (touched_by w told) keeps
         (subst (λ (x : Change). TouchesOnly mid t (touched_by w x)) (sym tells)
-        (touches mid t (Some p) None (with_set w (Some p)) c
-        (λ q e. subst (λ (x : ℕ). Covers (with_set w (Some p)) (Waited.Port x)) (one_some p q e) (covers_port w told_mid posted p))
+        (touches mid t (Some p) None (with_sets w (Some p)) c
+        (λ q e. subst (λ (x : ℕ). Covers (with_sets w (Some p)) (Waited.Port x)) (one_some p q e) (covers_port w told_mid posted p))
         (λ q e. absurd (none_some q e))
         (λ q set e in_it. covers_set w told_mid posted p set (shown.lawful.no_sets p) (subst (λ (x : ℕ). Contains (mid.sets_of x) set) (sym (one_some p q e)) in_it)))),
   ))
@@ -377,29 +408,49 @@ module _ (now : ℕ) (old w : WorldView) (s mid : State) (owed : Owed) (sh : Sho
 
   -- ---- a port goes to other sets, or its receive right to another task
 
-  moved_own : (p : ℕ) → KeepsOthers p s mid → owed ≡ [] → OwnTouches s mid owed (touched_by w (left_by p (set_of old p)))
-  moved_own p others none = go (set_of old p) refl
+  moved_own : (p : ℕ) → KeepsOthers p s mid → owed ≡ [] → OwnTouches s mid owed (touched_by w (left_by p (membership_in (sets_at old p))))
+  moved_own p others none = go (sets_at old p) refl
     where
-      was : (set : ℕ) → Contains (s.sets_of p) set → set_of old p ≡ Some set
-      was set in_it = set_is old s sh.agrees p (sh.lawful.no_sets p) set in_it
+      was : (xs : List ℕ) → sets_at old p ≡ xs → (set : ℕ) → Contains (s.sets_of p) set → Contains xs set
+      was xs is set in_it = subst (λ (ys : List ℕ). Contains ys set) is (set_is old s sh.agrees p (sh.lawful.no_sets p) set in_it)
 
-      covered : (touched : Touched) → Covers touched (Waited.Port p) → ((set : ℕ) → set_of old p ≡ Some set → Covers touched (Waited.Set set)) → ((set : ℕ) → set_of w p ≡ Some set → Covers touched (Waited.Set set)) → OwnTouches s mid owed touched
+      covered : (touched : Touched) → Covers touched (Waited.Port p) → ((set : ℕ) → Contains (s.sets_of p) set → Covers touched (Waited.Set set)) → ((set : ℕ) → Contains (sets_at w p) set → Covers touched (Waited.Set set)) → OwnTouches s mid owed touched
       covered touched port before after = inr (inl (
         none,
         λ t k.
-            moved_touches p s t (others_end p s mid t others k) touched port (λ set in_it. before set (was set in_it))
+            moved_touches p s t (others_end p s mid t others k) touched port before
             (λ set in_it. after set (set_is w mid (agree none) p ((law none).no_sets p) set (subst (λ (xs : List ℕ). Contains xs set) (k.sets p) in_it))),
       ))
 
-      go : (o : Option ℕ) → set_of old p ≡ o → OwnTouches s mid owed (touched_by w (left_by p o))
-      go None is = covered (with_set w (Some p)) (0, omega arith, refl) (λ set e. absurd (none_some set (sym is ∙ e))) (λ set e. rw e (1, omega arith, refl))
-      go (Some left) is =
-          covered (named_left w p left) (0, omega arith, refl) (λ set e. let f = one_some left set (sym is ∙ e) in rw f (2, omega arith, refl)) (λ set e. rw e (1, omega arith, refl))
+      go : (xs : List ℕ) → sets_at old p ≡ xs → OwnTouches s mid owed (touched_by w (left_by p (membership_in xs)))
+      go [] is = covered (with_sets w (Some p)) (covers_named p (sets_at w p)) (λ set in_it. absurd (in_none set (was [] is set in_it))) (covers_its p (sets_at w p))
+      go (left ∷ []) is =
+          covered (named_left w p left) (covers_left w p left (Waited.Port p) (0, omega arith, refl))
+          (λ set in_it. covers_left w p left (Waited.Set set) (2, omega arith, ap (λ (n : ℕ). Some (Waited.Set n)) (in_only left set (was (left ∷ []) is set in_it))))
+          (covers_left_own w p left)
+      go (a ∷ b ∷ xs) is = inl refl
 
   moving_own : (task name p : ℕ) (told : Change) → lookup s task name ≡ Some (Target.port p) → KeepsOthers p s mid → owed ≡ [] → told ≡ by_moving old task name → OwnTouches s mid owed (touched_by w told)
   moving_own task name p told found others none tells =
-      let is : told ≡ left_by p (set_of old p) = tells ∙ ap (moved_from old) (under old s sh.agrees task name p found) in
+      let is : told ≡ left_by p (membership_in (sets_at old p)) = tells ∙ ap (moved_from old) (under old s sh.agrees task name p found) in
       subst (λ (c : Change). OwnTouches s mid owed (touched_by w c)) (sym is) (moved_own p others none)
+
+  -- a port enters a set beside others, or leaves one of several
+  paired_is : (task member name p set : ℕ) → lookup s task member ≡ Some (Target.port p) → lookup s task name ≡ Some (Target.set set) → by_pairing old task member name ≡ change.Member p set
+  paired_is task member name p set found found_set =
+      let a : port_under old task member ≡ Some p = under old s sh.agrees task member p found in
+      let b : option_and_then set_named (entry_at old task name) ≡ Some set = named_set (entry_at old task name) set (sym found_set ∙ sh.agrees.naming task name) in
+      ap (λ (o : Option ℕ). paired o (option_and_then set_named (entry_at old task name))) a ∙ ap (paired (Some p)) b
+
+  entered_own : (task member name : ℕ) (told : Change) → EntersSet task member name s mid → owed ≡ [] → told ≡ by_pairing old task member name → OwnTouches s mid owed (touched_by w told)
+  entered_own task member name told x none tells =
+      subst (λ (c : Change). OwnTouches s mid owed (touched_by w c)) (sym (tells ∙ paired_is task member name x.port x.entered x.found x.found_set))
+      (inr (inl (none, λ t k. enters_touch task member name s mid t x k (touched_by w (change.Member x.port x.entered)) (0, omega arith, refl) (1, omega arith, refl))))
+
+  left_own : (task member name : ℕ) (told : Change) → LeavesSet task member name s mid → owed ≡ [] → told ≡ by_pairing old task member name → OwnTouches s mid owed (touched_by w told)
+  left_own task member name told x none tells =
+      subst (λ (c : Change). OwnTouches s mid owed (touched_by w c)) (sym (tells ∙ paired_is task member name x.port x.left x.found x.found_set))
+      (inr (inl (none, λ t k. leaves_touch task member name s mid t x k (touched_by w (change.Member x.port x.left)) (0, omega arith, refl) (1, omega arith, refl))))
 
   -- a right is handed from the task's name
   handing_own : (task name number : ℕ) (told : Change) (copied : State) (mark : MachineMark) (place : Place) → CopyRight task place number name s mark copied → Keeps copied mid → (number ≢ 16 → Keeps s mid) → owed ≡ [] →
@@ -518,8 +569,8 @@ module _ (now : ℕ) (old w : WorldView) (s mid : State) (owed : Owed) (sh : Sho
   own (Event.Destroy task name) (Reply.Code code) told turn d tells = all_own task name told d.1 tells
   own (Event.ModRefs task name right delta) (Reply.Code code) told turn d tells = counts_own task name right delta told d.1 tells
   own (Event.MoveMember task member after) (Reply.Code code) told turn d tells = moving_own task member d.1.0 told d.1.1 (joins_others task member after s mid d.1) d.2 tells
-  own (Event.InsertMember task member set) reply told turn d tells = inl (any_all told tells)
-  own (Event.ExtractMember task member set) reply told turn d tells = inl (any_all told tells)
+  own (Event.InsertMember task member set) (Reply.Code code) told turn d tells = entered_own task member set told d.1 d.2 tells
+  own (Event.ExtractMember task member set) (Reply.Code code) told turn d tells = left_own task member set told d.1 d.2 tells
   own (Event.InsertRight task name from poly number) (Reply.Code code) told turn (is, i, none) tells =
       handing_own from poly number told i.copied (to_port i.p) (in_task task) i.copy (insert_ends task name from poly number s mid i) (λ not. inserts_keep task name from poly number s mid not i) none tells
   own (Event.ExtractRight task name number to) (Reply.Right new_name kind) told turn (e, none) tells =
@@ -566,8 +617,8 @@ module _ (old w new : WorldView) (event : Event) (reply : Reply) (turns : ℕ) (
       by {s} {mid} {t} {owed} {touched} (inr (inl (none, only))) ends tells_one = only t (ends none)
       by {s} {mid} {t} {owed} {touched} (inr (inr (p, one, only))) ends tells_one = only t (tells_one p one)
 
-  -- a port dies alone: it is covered, with the set that it was in
-  lone_touched : (p : ℕ) (told : Change) → told ≡ change.Lost p → TellsChange old event reply told → DiesAlone w p → Touches old event reply new (touched_by new (left_by p (set_of w p)))
+  -- a port dies alone: it is covered, with the sets that it was in
+  lone_touched : (p : ℕ) (told : Change) → told ≡ change.Lost p → TellsChange old event reply told → DiesAlone w p → Touches old event reply new (touched_by new (left_by p (membership_in (sets_at w p))))
   lone_touched p told lost tells alone = λ now s sh.
       let x = acts.acts now s sh in
       let d = x.0 in
@@ -584,22 +635,24 @@ module _ (old w new : WorldView) (event : Event) (reply : Reply) (turns : ℕ) (
         settled_in_turn old event reply now s d.mid e.0 d.owed e.1 x.1,
       )
     where
-      dead_touched : (s mid t : State) (p : ℕ) → Agrees w mid → Shows new t → LosesRight p s mid → (mid.live_port p ≡ false → mid.sets_of p ≡ []) → KeepsOthers p s t → TouchesOnly s t (touched_by new (left_by p (set_of w p)))
-      dead_touched s mid t p a shown loses no_sets others = go (set_of w p) refl
+      dead_touched : (s mid t : State) (p : ℕ) → Agrees w mid → Shows new t → LosesRight p s mid → (mid.live_port p ≡ false → mid.sets_of p ≡ []) → KeepsOthers p s t → TouchesOnly s t (touched_by new (left_by p (membership_in (sets_at w p))))
+      dead_touched s mid t p a shown loses no_sets others = go (sets_at w p) refl
         where
-          was : (set : ℕ) → Contains (s.sets_of p) set → set_of w p ≡ Some set
-          was set in_it = set_is w mid a p no_sets set (subst (λ (xs : List ℕ). Contains xs set) (sym loses.sets) in_it)
+          was : (xs : List ℕ) → sets_at w p ≡ xs → (set : ℕ) → Contains (s.sets_of p) set → Contains xs set
+          was xs is set in_it = subst (λ (ys : List ℕ). Contains ys set) is (set_is w mid a p no_sets set (subst (λ (ys : List ℕ). Contains ys set) (sym loses.sets) in_it))
 
-          is_in : (set : ℕ) → Contains (t.sets_of p) set → set_of new p ≡ Some set
+          is_in : (set : ℕ) → Contains (t.sets_of p) set → Contains (sets_at new p) set
           is_in set in_it = set_is new t shown.agrees p (shown.lawful.no_sets p) set in_it
 
-          go : (o : Option ℕ) → set_of w p ≡ o → TouchesOnly s t (touched_by new (left_by p o))
-          go None is =
-              moved_touches p s t others (with_set new (Some p)) (0, omega arith, refl) (λ set in_it. absurd (none_some set (sym is ∙ was set in_it)))
-              (λ set in_it. let e = is_in set in_it in rw e (1, omega arith, refl))
-          go (Some left) is =
-              moved_touches p s t others (named_left new p left) (0, omega arith, refl) (λ set in_it. let f = one_some left set (sym is ∙ was set in_it) in rw f (2, omega arith, refl))
-              (λ set in_it. let e = is_in set in_it in rw e (1, omega arith, refl))
+          go : (xs : List ℕ) → sets_at w p ≡ xs → TouchesOnly s t (touched_by new (left_by p (membership_in xs)))
+          go [] is =
+              moved_touches p s t others (with_sets new (Some p)) (covers_named p (sets_at new p)) (λ set in_it. absurd (in_none set (was [] is set in_it)))
+              (λ set in_it. covers_its p (sets_at new p) set (is_in set in_it))
+          go (left ∷ []) is =
+              moved_touches p s t others (named_left new p left) (covers_left new p left (Waited.Port p) (0, omega arith, refl))
+              (λ set in_it. covers_left new p left (Waited.Set set) (2, omega arith, ap (λ (n : ℕ). Some (Waited.Set n)) (in_only left set (was (left ∷ []) is set in_it))))
+              (λ set in_it. covers_left_own new p left set (is_in set in_it))
+          go (x ∷ y ∷ xs) is = touches_all s t
 
   ends_touched : (told ends : Change) → TellsChange old event reply told → EndsAs w told ends → Touches old event reply new (touched_by new ends)
   ends_touched (change.Lost p) ends tells (inl (alone, is)) = subst (λ (c : Change). Touches old event reply new (touched_by new c)) (sym is) (lone_touched p (change.Lost p) refl tells alone)
@@ -619,6 +672,7 @@ module _ (old w new : WorldView) (event : Event) (reply : Reply) (turns : ℕ) (
   ends_touched (change.ReceivedTwo task name a b) ends tells is = any_touched ends is
   ends_touched (change.ReceivedThree task name a b c) ends tells is = any_touched ends is
   ends_touched (change.Left p set) ends tells is = any_touched ends is
+  ends_touched (change.Member p set) ends tells is = any_touched ends is
   ends_touched (change.Disbanded set) ends tells is = any_touched ends is
   ends_touched (change.DisbandedTwo set a b) ends tells is = any_touched ends is
   ends_touched (change.DisbandedThree set a b c) ends tells is = any_touched ends is

@@ -13,8 +13,9 @@ use Rattle.mach_laws.proofs.Counted.{sum_same, Does-counted}
 use Rattle.mach_laws.proofs.Slots.{ends_with_slots, ending_needs_all}
 use Rattle.port.specs.Ports.{PortView}
 use Rattle.rights.specs.Unused.{IsUnusedOfAll}
-use Rattle.copyin_base.specs.declared.code.Code.{Code}
-use Rattle.copyin_base.specs.Serving.{code_number, IsDone, Completes, Declines}
+use Rattle.mach_types.specs.declared.codes.Code.{Code}
+use Rattle.mach_types.specs.Codes.{code_number}
+use Rattle.copyin_base.specs.Serving.{IsDone, Completes, Declines}
 use Rattle.copyin_base.specs.Kept.{Kept}
 use Rattle.copyin_base.specs.Shows.{AllKept, Shows}
 use Rattle.copyin_base.specs.Stands.{Stands}

@@ -23,11 +23,11 @@ use Rattle.mach_model.specs.ReceivedMeans.{received_words}
 use Rattle.mach_model.proofs.MessagesLawful.{first_byte}
 use Rattle.mach_laws.proofs.Giving.{ComesUnder, received_sets, receives_touch}
 use Rattle.copyin_base.specs.Shows.{Agrees}
-use Rattle.copyin_base.specs.Worlds.{WorldView}
+use Rattle.copyin_base.specs.Worlds.{WorldView, sets_at}
 use Rattle.kernel_change.specs.declared.change.Change.TheVariants as change
-use Rattle.kernel_change.specs.Changing.{port_under, set_of, with_set, named_received, named_three, touched_by, gives_none, gives_one, by_received, by_body, by_items, by_message}
+use Rattle.kernel_change.specs.Changing.{port_under, lone, unless_several, with_sets, named_received, named_three, touched_by, gives_none, gives_one, by_received, by_body, by_items, by_message}
 use Rattle.kernel_change.specs.Received.{body_names, received_by}
-use Rattle.kernel_core.proofs.Covered.{OwnTouches, none_some, set_is, under, covers_port}
+use Rattle.kernel_core.proofs.Covered.{OwnTouches, set_is, under, covers_named, covers_its, unless_covers, unless_set}
 use Rattle.kernel_core.proofs.Walked.{few_words, words_named}
 
 -- ---- the words of a text
@@ -127,8 +127,8 @@ module _ (w : WorldView) (mid : State) (a : Agrees w mid) (s : State) (owed : Ow
   was_in : (names : List ℕ) → All (ComesUnder names) (received_words r.header r.written) → (set : ℕ) → Contains (s.sets_of port) set → Contains (mid.sets_of port) set
   was_in names all set in_it = subst (λ (xs : List ℕ). Contains xs set) (sym (received_sets task port room bytes s mid r names all port)) in_it
 
-  -- What covers the port with its set, and the ports under these names, covers all that changes.
-  comes : (names : List ℕ) → All (ComesUnder names) (received_words r.header r.written) → (touched : Touched) → Covers touched (Waited.Port port) → ((set : ℕ) → set_of w port ≡ Some set → Covers touched (Waited.Set set)) →
+  -- What covers the port with its sets, and the ports under these names, covers all that changes.
+  comes : (names : List ℕ) → All (ComesUnder names) (received_words r.header r.written) → (touched : Touched) → Covers touched (Waited.Port port) → ((set : ℕ) → Contains (sets_at w port) set → Covers touched (Waited.Set set)) →
       ((n q : ℕ) → Contains names n → port_under w task n ≡ Some q → Covers touched (Waited.Port q)) → OwnTouches s mid owed touched
   comes names all touched from in_set out = inr (inl (
     none,
@@ -138,16 +138,26 @@ module _ (w : WorldView) (mid : State) (a : Agrees w mid) (s : State) (owed : Ow
   ))
 
   -- no receive right comes
-  none_comes : All (ComesUnder []) (received_words r.header r.written) → OwnTouches s mid owed (with_set w (Some port))
+  none_comes : All (ComesUnder []) (received_words r.header r.written) → OwnTouches s mid owed (with_sets w (Some port))
   none_comes all =
-      comes [] all (with_set w (Some port)) (covers_port w mid a port) (λ set e. rw e (1, omega arith, refl))
+      comes [] all (with_sets w (Some port)) (covers_named port (sets_at w port)) (covers_its port (sets_at w port))
       (λ n q (i, below, is) found. absurd (omega (arith, below)))
+
+  -- where the port is in several sets, all may be meant
+  unless_comes : (names : List ℕ) → All (ComesUnder names) (received_words r.header r.written) → (touched : Touched) → Covers touched (Waited.Port port) → ((set : ℕ) → lone (sets_at w port) ≡ Some (Waited.Set set) → Covers touched (Waited.Set set)) →
+      ((n q : ℕ) → Contains names n → port_under w task n ≡ Some q → Covers touched (Waited.Port q)) → OwnTouches s mid owed (unless_several (sets_at w port) touched)
+  unless_comes names all touched from in_set out =
+      comes names all (unless_several (sets_at w port) touched) (unless_covers (sets_at w port) touched (Waited.Port port) from) (λ set in_it. unless_set (sets_at w port) touched set in_it (in_set set))
+      (λ n q in_it found. unless_covers (sets_at w port) touched (Waited.Port q) (out n q in_it found))
+
+  abbrev with_two : (a b : Option ℕ) → Touched
+  with_two a b = Few (Some (Waited.Port port) ∷ lone (sets_at w port) ∷ option_map Waited.Port a ∷ option_map Waited.Port b ∷ [])
 
   -- one comes under this name, if any
   one_comes : (x : ℕ) → All (ComesUnder (x ∷ [])) (received_words r.header r.written) → OwnTouches s mid owed (named_received w (Some port) (port_under w task x) None)
   one_comes x all =
-      comes (x ∷ []) all (named_received w (Some port) (port_under w task x) None) (0, omega arith, refl) (λ set e. rw e (1, omega arith, refl))
-      (λ n q in_it found. let e = ap (port_under w task) (named n in_it) ∙ found in rw e (2, omega arith, refl))
+      unless_comes (x ∷ []) all (with_two (port_under w task x) None) (0, omega arith, refl) (λ set one. (1, omega arith, one))
+      (λ n q in_it found. let e = ap (port_under w task) (named n in_it) ∙ found in (2, omega arith, ap (option_map Waited.Port) e))
     where
       named : (n : ℕ) → Contains (x ∷ []) n → x ≡ n
       named n (zero, below, is) = is
@@ -156,23 +166,26 @@ module _ (w : WorldView) (mid : State) (a : Agrees w mid) (s : State) (owed : Ow
   -- two come under these
   two_come : (x y : ℕ) → All (ComesUnder (x ∷ y ∷ [])) (received_words r.header r.written) → OwnTouches s mid owed (named_received w (Some port) (port_under w task x) (port_under w task y))
   two_come x y all =
-      comes (x ∷ y ∷ []) all (named_received w (Some port) (port_under w task x) (port_under w task y)) (0, omega arith, refl) (λ set e. rw e (1, omega arith, refl))
+      unless_comes (x ∷ y ∷ []) all (with_two (port_under w task x) (port_under w task y)) (0, omega arith, refl) (λ set one. (1, omega arith, one))
       (λ n q in_it found. elim (of_two x y n in_it) [
-        | inl h ↦ let e = ap (port_under w task) h ∙ found in rw e (2, omega arith, refl)
-        | inr h ↦ let e = ap (port_under w task) h ∙ found in rw e (3, omega arith, refl)
+        | inl h ↦ (2, omega arith, ap (option_map Waited.Port) (ap (port_under w task) h ∙ found))
+        | inr h ↦ (3, omega arith, ap (option_map Waited.Port) (ap (port_under w task) h ∙ found))
       ])
 
   -- three come under these
   three_come : (x y z : ℕ) → All (ComesUnder (x ∷ y ∷ z ∷ [])) (received_words r.header r.written) → OwnTouches s mid owed (named_three w (Some port) (port_under w task x) (port_under w task y) (port_under w task z))
-  three_come x y z all = go (set_of w port) refl
+  three_come x y z all = go (sets_at w port) refl
     where
       four : Touched
       four = Few (Some (Waited.Port port) ∷ option_map Waited.Port (port_under w task x) ∷ option_map Waited.Port (port_under w task y) ∷ option_map Waited.Port (port_under w task z) ∷ [])
 
-      go : (o : Option ℕ) → set_of w port ≡ o → OwnTouches s mid owed (if is_some o then Any else four)
-      go (Some set) is = inl refl
-      go None is =
-          comes (x ∷ y ∷ z ∷ []) all four (0, omega arith, refl) (λ set e. absurd (none_some set (sym is ∙ e)))
+      no_set : (set : ℕ) → Contains [] set → ⊥
+      no_set set (i, below, is) = omega (arith, below)
+
+      go : (sets : List ℕ) → sets_at w port ≡ sets → OwnTouches s mid owed (if is_some (lone sets) then Any else four)
+      go (set ∷ sets) is = inl refl
+      go [] is =
+          comes (x ∷ y ∷ z ∷ []) all four (0, omega arith, refl) (λ set in_it. absurd (no_set set (subst (λ (ys : List ℕ). Contains ys set) is in_it)))
           (λ n q in_it found. elim (of_three x y z n in_it) [
             | inl h ↦ let e = ap (port_under w task) h ∙ found in rw e (1, omega arith, refl)
             | inr h ↦ elim h [

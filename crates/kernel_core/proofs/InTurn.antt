@@ -1,9 +1,8 @@
 -- A receipt by a set takes from the member whose turn it is.
-use Rattle.std.proofs.Common.{◌≡◌, ◌≢◌, inl, inr, ℕ, ◌+◌, Bool, true, false, cond, Option, Some, None, List, [], ◌∷◌, ◌++◌, All, length, slice_get, refl, sym, ap, subst, ◌∙◌, arith, append-nil, append_assoc, length-append, ◌%◌, ◌^◌, ◌&&◌}
-use Rattle.std.specs.Prelude.{is_some, leb, MatchBool}
+use Rattle.std.proofs.Common.{◌≡◌, ◌≢◌, inl, inr, ℕ, ◌+◌, Bool, true, false, cond, not, Option, Some, None, List, [], ◌∷◌, ◌++◌, All, slice_get, refl, sym, ap, subst, ◌∙◌, arith, append-nil, append_assoc, ◌%◌, ◌^◌, Contains}
+use Rattle.std.specs.Prelude.{is_some, unwrap_or, MatchBool}
 use Rattle.std.specs.Option.{option_map, option_to_list, option_and_then}
 use Rattle.std.specs.FinMap as map
-use Rattle.std.proofs.lemmas.Bool.Decides.{leb_tells}
 use Rattle.std.proofs.lemmas.List.Elements.{All-nil, All-cons, All-append, All-weaker}
 use Rattle.mach_types.specs.declared.calls.Event.{Event}
 use Rattle.mach_types.specs.declared.calls.Reply.{Reply}
@@ -15,11 +14,12 @@ use Rattle.rights.specs.declared.RightKind.TheVariants as right
 use Rattle.rights.specs.Ledger.{taken}
 use Rattle.port.specs.declared.Holder.{Holder}
 use Rattle.port.specs.Holding.{held}
-use Rattle.port.specs.Ports.{PortView, PortsView, ready_in, keeps_turn, turned, with_port}
-use Rattle.port.specs.Turns.{ReadyLists, turns_of, with_turns, left, joined, ready_if, same_set}
+use Rattle.port.specs.Ports.{PortView, PortsView, PassesTurn, sets_in, ready_in, turned, with_port}
+use Rattle.port.specs.Turns.{ReadyLists, turns_of, with_turns, left, joined, passed, ready_if, sets_without}
+use Rattle.member_lists.proofs.Times.{eqb_same, eqb_other}
+use Rattle.port.proofs.Each.{without_from, nothing_in, in_cases, sets_but_same, sets_but_none}
 use Rattle.port.proofs.InTurn.{turns_here, turns_other}
 use Rattle.port.proofs.Keys.{same_some, equal_or_not, put_here, put_other, out_here, out_other, same_gets}
-use Rattle.port.proofs.Turned.{same_set-same}
 use Rattle.copyin_base.specs.declared.Carried.{Carried}
 use Rattle.copyin_base.specs.declared.Mark.{Mark}
 use Rattle.copyin_base.specs.declared.Mark.TheVariants as mark
@@ -28,12 +28,14 @@ use Rattle.copyin_base.specs.declared.Notice.TheVariants as notice
 use Rattle.copyin_base.specs.Kept.{Kept}
 use Rattle.copyin_base.specs.Queued.{notice_kept}
 use Rattle.copyin_base.specs.Worlds.{WorldView, entry_at, port_at}
+use Rattle.copyin_base.proofs.InSets.{sets_are}
 use Rattle.copyout.specs.Giving.{GivesMark, GivesAll, GivesPort, port_held, ports_given}
 use Rattle.copyout.specs.Takes.{TakesFront, TakesMessage, NotesFront}
 use Rattle.copyout.proofs.Fronts.{by_note}
 use Rattle.notifications.specs.Destroying.{LosesRight, LosesMark, LosesAll, DestroysMessage}
-use Rattle.kernel_core.specs.InTurn.{in_turn, IsFirst, queue_at, if_ready, TakesFirst, JoinsTurns, TakesInTurn, KeepsTurns}
+use Rattle.kernel_core.specs.InTurn.{in_turn, IsFirst, PassesIn, queue_at, turns_behind, TakesFirst, JoinsTurns, TakesInTurn, KeepsTurns}
 use Rattle.kernel_core.specs.Receive.{HasMessage, waited_at}
+use Rattle.kernel_core.proofs.Chosen.{passes-in}
 
 -- ---- a port from which a message is taken
 
@@ -46,35 +48,115 @@ module _ (ready : ReadyLists) (set : ℕ) where
   get_other [] q d = out_other ready set q d
   get_other (x ∷ xs) q d = put_other ready set (x ∷ xs) q d
 
-twice : (ready : ReadyLists) (set : ℕ) (xs ys : List ℕ) → with_turns (with_turns ready set xs) set ys ≡ with_turns ready set ys
-twice ready set xs ys = same_gets _ _ (λ q. elim (equal_or_not q set) [
-  | inl e ↦ ap (map.get (with_turns (with_turns ready set xs) set ys)) e ∙ get_here (with_turns ready set xs) set ys ready ∙ sym (ap (map.get (with_turns ready set ys)) e)
-  | inr d ↦ get_other (with_turns ready set xs) set ys q d ∙ get_other ready set xs q d ∙ sym (get_other ready set ys q d)
-])
+both_get : (a b : ReadyLists) (s : ℕ) (xs ys : List ℕ) → xs ≡ ys → (q : ℕ) → (q ≢ s → map.get a q ≡ map.get b q) → map.get (with_turns a s xs) q ≡ map.get (with_turns b s ys) q
+both_get a b s xs ys same q others = elim (equal_or_not q s) [
+  | inl e ↦ ap (map.get (with_turns a s xs)) e ∙ get_here a s xs b ∙ ap (λ (zs : List ℕ). map.get (with_turns b s zs) s) same ∙ sym (ap (map.get (with_turns b s ys)) e)
+  | inr d ↦ get_other a s xs q d ∙ others d ∙ sym (get_other b s ys q d)
+]
 
-module _ (ready : ReadyLists) (set port : ℕ) where
-  abbrev others : List ℕ
-  others = without port (turns_of ready set)
+-- the turns once a message is taken of a port in these sets, and these are left: it has none, or those that it had
+abbrev kept_behind : ReadyLists → (port : ℕ) → (sets : List ℕ) → List Kept → ReadyLists
+kept_behind ready port sets [] = left ready port sets
+kept_behind ready port sets (m ∷ ms) = ready
 
-  left_first : (behind : List Kept) → joined (left ready port (Some set)) port (ready_if behind (Some set)) ≡ with_turns ready set (others ++ if_ready port behind)
-  left_first [] = ap (with_turns ready set) (sym (append-nil others))
-  left_first (m ∷ ms) =
-      ap (λ (ys : List ℕ). with_turns (with_turns ready set others) set (ys ++ port ∷ [])) (turns_here ready set others)
-      ∙ twice ready set others (others ++ port ∷ [])
+-- the same once it was received by one of the sets
+abbrev behind_in : ReadyLists → (set port : ℕ) → (sets : List ℕ) → List Kept → ReadyLists
+behind_in ready set port sets [] = left ready port sets
+behind_in ready set port sets (m ∷ ms) = passed ready port set
 
-  shorter : (front : Kept) (behind : List Kept) → leb (length (front ∷ behind)) (length behind) ≡ false
-  shorter front behind = elim (leb_tells (length (front ∷ behind)) (length behind)) [ inl h ↦ absurd (let n = h.1 in omega (arith, n)) | inr h ↦ h.0 ]
+turned_kept : (ready : ReadyLists) (port : ℕ) (was now : PortView Kept) → ready_in now ≡ ready_in was → turned ready port (Some was) now ≡ ready
+turned_kept ready port was now same =
+    ap (λ (xs : List ℕ). joined (left ready port (sets_without (ready_in was) xs)) port (sets_without xs (ready_in was))) same
+    ∙ ap (λ (xs : List ℕ). joined (left ready port xs) port xs) (sets_but_same (ready_in was))
 
-  pub taken_turns : (v now : PortView Kept) (front : Kept) → v.queue ≡ front ∷ now.queue → v.attributes.set ≡ Some set → now.attributes.set ≡ Some set →
-      turned ready port (Some v) now ≡ with_turns ready set (others ++ if_ready port now.queue)
-  taken_turns v now front queued was is =
-      let keeps : keeps_turn v now ≡ false = ap (λ (ms : List Kept). leb (length ms) (length now.queue) && same_set (ready_in v) (ready_in now)) queued ∙ ap (λ (b : Bool). b && same_set (ready_in v) (ready_in now)) (shorter front now.queue) in
-      let before : ready_in v ≡ Some set = ap (λ (ms : List Kept). ready_if ms v.attributes.set) queued ∙ was in
-      let after : ready_in now ≡ ready_if now.queue (Some set) = ap (ready_if now.queue) is in
-      ap (λ (b : Bool). cond b ready (joined (left ready port (ready_in v)) port (ready_in now))) keeps
-      ∙ ap (λ (o : Option ℕ). joined (left ready port o) port (ready_in now)) before
-      ∙ ap (joined (left ready port (Some set)) port) after
-      ∙ left_first now.queue
+taken_turns : (ready : ReadyLists) (port : ℕ) (v now : PortView Kept) (front : Kept) → v.queue ≡ front ∷ now.queue → sets_in now ≡ sets_in v → turned ready port (Some v) now ≡ kept_behind ready port (sets_in v) now.queue
+taken_turns ready port v now front queued same = go now.queue refl
+  where
+    was : ready_in v ≡ sets_in v
+    was = ap (λ (ms : List Kept). ready_if ms (sets_in v)) queued
+
+    go : (ms : List Kept) → now.queue ≡ ms → turned ready port (Some v) now ≡ kept_behind ready port (sets_in v) ms
+    go [] e =
+        let here : ready_in now ≡ [] = ap (λ (ms : List Kept). ready_if ms (sets_in now)) e in
+        ap (λ (xs : List ℕ). joined (left ready port (sets_without (ready_in v) xs)) port (sets_without xs (ready_in v))) here
+        ∙ ap (left ready port) (sets_but_none (ready_in v) ∙ was)
+    go (m ∷ ms) e =
+        let here : ready_in now ≡ sets_in now = ap (λ (ms : List Kept). ready_if ms (sets_in now)) e in
+        turned_kept ready port v now (here ∙ same ∙ sym was)
+
+-- ---- a port that left the turns of its sets
+
+module _ (port set : ℕ) where
+  stay_out : (sets : List ℕ) (ready : ReadyLists) → (Contains (turns_of ready set) port → ⊥) → Contains (turns_of (left ready port sets) set) port → ⊥
+  stay_out [] ready out c = out c
+  stay_out (s ∷ sets) ready out c = stay_out sets (with_turns ready s (without port (turns_of ready s))) (λ d. elim (equal_or_not set s) [
+    | inl e ↦ (without_from port port (turns_of ready s) (subst (λ (xs : List ℕ). Contains xs port) (ap (turns_of (with_turns ready s (without port (turns_of ready s)))) e ∙ turns_here ready s (without port (turns_of ready s))) d)).1 refl
+    | inr o ↦ out (subst (λ (xs : List ℕ). Contains xs port) (turns_other ready s (without port (turns_of ready s)) set o) d)
+  ]) c
+
+  left_out : (sets : List ℕ) (ready : ReadyLists) → Contains sets set → Contains (turns_of (left ready port sets) set) port → ⊥
+  left_out [] ready has c = nothing_in set has
+  left_out (s ∷ sets) ready has c = elim (in_cases s set sets has) [
+    | inl e ↦ stay_out sets (with_turns ready s (without port (turns_of ready s))) (λ d.
+        (without_from port port (turns_of ready s) (subst (λ (xs : List ℕ). Contains xs port) (ap (turns_of (with_turns ready s (without port (turns_of ready s)))) (sym e) ∙ turns_here ready s (without port (turns_of ready s))) d)).1 refl) c
+    | inr a ↦ left_out sets (with_turns ready s (without port (turns_of ready s))) a c
+  ]
+
+  -- lists that differ in this port's turn in one of the sets don't once it left them
+  left_alike : (sets : List ℕ) (a b : ReadyLists) → ((q : ℕ) → q ≢ set → map.get a q ≡ map.get b q) → without port (turns_of a set) ≡ without port (turns_of b set) → Contains sets set → left a port sets ≡ left b port sets
+  left_alike [] a b others same has = absurd (nothing_in set has)
+  left_alike (s ∷ sets) a b others same has = elim (equal_or_not s set) [
+    | inl e ↦ ap (λ (r : ReadyLists). left r port sets) (same_gets _ _ (λ q. both_get a b s (without port (turns_of a s)) (without port (turns_of b s)) (here e) q (λ d. others q (λ f. d (f ∙ sym e)))))
+    | inr d ↦ left_alike sets (with_turns a s (without port (turns_of a s))) (with_turns b s (without port (turns_of b s)))
+        (λ q n. both_get a b s (without port (turns_of a s)) (without port (turns_of b s)) (there d) q (λ o. others q n))
+        (ap (without port) (turns_other a s (without port (turns_of a s)) set (λ f. d (sym f))) ∙ same ∙ sym (ap (without port) (turns_other b s (without port (turns_of b s)) set (λ f. d (sym f))))) (rest d)
+  ]
+    where
+      here : s ≡ set → without port (turns_of a s) ≡ without port (turns_of b s)
+      here e = ap (λ (n : ℕ). without port (turns_of a n)) e ∙ same ∙ sym (ap (λ (n : ℕ). without port (turns_of b n)) e)
+
+      there : s ≢ set → without port (turns_of a s) ≡ without port (turns_of b s)
+      there d = ap (λ (o : Option (List ℕ)). without port (unwrap_or o [])) (others s d)
+
+      rest : s ≢ set → Contains sets set
+      rest d = elim (in_cases s set sets has) [ inl e ↦ absurd (d e) | inr a ↦ a ]
+
+  pushed_out : (xs : List ℕ) → without port (without port xs ++ port ∷ []) ≡ without port xs
+  pushed_out [] = ap (λ (b : Bool). cond (not b) (port ∷ []) []) (eqb_same port port refl)
+  pushed_out (x ∷ xs) = elim (equal_or_not x port) [
+    | inl e ↦ (let same = eqb_same x port e in
+        ap (λ (b : Bool). without port (cond (not b) (x ∷ without port xs) (without port xs) ++ port ∷ [])) same ∙ pushed_out xs ∙ sym (ap (λ (b : Bool). cond (not b) (x ∷ without port xs) (without port xs)) same))
+    | inr d ↦ (let apart = eqb_other x port d in
+        ap (λ (b : Bool). without port (cond (not b) (x ∷ without port xs) (without port xs) ++ port ∷ [])) apart
+        ∙ ap (λ (b : Bool). cond (not b) (x ∷ without port (without port xs ++ port ∷ [])) (without port (without port xs ++ port ∷ []))) apart
+        ∙ ap (λ (ys : List ℕ). x ∷ ys) (pushed_out xs) ∙ sym (ap (λ (b : Bool). cond (not b) (x ∷ without port xs) (without port xs)) apart))
+  ]
+
+  left_passed : (sets : List ℕ) (ready : ReadyLists) → Contains sets set → left (passed ready port set) port sets ≡ left ready port sets
+  left_passed sets ready has =
+      let out : ReadyLists = with_turns ready set (without port (turns_of ready set)) in
+      left_alike sets (passed ready port set) ready (λ q d. get_other out set (turns_of out set ++ port ∷ []) q d ∙ get_other ready set (without port (turns_of ready set)) q d)
+      (ap (without port) (turns_here out set (turns_of out set ++ port ∷ []) ∙ ap (λ (xs : List ℕ). xs ++ port ∷ []) (turns_here ready set (without port (turns_of ready set)))) ∙ pushed_out (turns_of ready set)) has
+
+  passed_behind : (sets : List ℕ) (ready : ReadyLists) (behind : List Kept) → Contains sets set → kept_behind (passed ready port set) port sets behind ≡ behind_in ready set port sets behind
+  passed_behind sets ready [] has = left_passed sets ready has
+  passed_behind sets ready (m ∷ ms) has = refl
+
+  first_in : (xs : List ℕ) → slice_get xs 0 ≡ Some port → Contains xs port
+  first_in [] e = absurd (cc)
+  first_in (x ∷ xs) e = (0, omega arith, same_some x port e)
+
+  -- the turn passes once the message is taken
+  behind_passed : (sets : List ℕ) (ready : ReadyLists) (behind : List Kept) → Contains sets set → slice_get (turns_of ready set) 0 ≡ Some port → (a b : PortsView Kept) → a.ready ≡ kept_behind ready port sets behind → PassesTurn a set port b →
+      b.ready ≡ behind_in ready set port sets behind
+  behind_passed sets ready [] has first a b is p =
+      ap (λ (x : PortsView Kept). x.ready) (p.other (λ e. left_out sets ready has (first_in (turns_of (left ready port sets) set) (ap (λ (r : ReadyLists). slice_get (turns_of r set) 0) (sym is) ∙ e)))) ∙ is
+  behind_passed sets ready (m ∷ ms) has first a b is p =
+      ap (λ (x : PortsView Kept). x.ready) (p.its (ap (λ (r : ReadyLists). slice_get (turns_of r set) 0) is ∙ first)) ∙ ap (λ (r : ReadyLists). passed r port set) is
+
+in_tables : (w : WorldView) (set port : ℕ) (v : PortView Kept) (behind : List Kept) → port_at w port ≡ Some v → behind_in w.ports.ready set port (sets_in v) behind ≡ turns_behind w set port behind
+in_tables w set port v [] there = ap (left w.ports.ready port) (sym (sets_are w port v there))
+in_tables w set port v (m ∷ ms) there = refl
 
 -- ---- what keeps all queues and turns
 
@@ -94,9 +176,6 @@ same_by old new e = record { queues = λ port. ap (λ (x : PortsView Kept). queu
 same_then : (a b c : WorldView) → SameTurns a b → SameTurns b c → SameTurns a c
 same_then a b c x y = record { queues = λ port. y.queues port ∙ x.queues port; ready = y.ready ∙ x.ready }
 
-as_long : (n : ℕ) → leb n n ≡ true
-as_long n = elim (leb_tells n n) [ inl h ↦ h.0 | inr h ↦ absurd (let d = h.1 in omega (arith, d)) ]
-
 -- a port with another queue: its own queue is so, and each other as it was
 module _ (ports : PortsView Kept) (p : ℕ) (now : PortView Kept) where
   queue_here : queue_in (with_port ports p now) p ≡ Some now.queue
@@ -115,13 +194,8 @@ module _ (ports : PortsView Kept) (p : ℕ) (v : PortView Kept) (there : map.get
     | inr d ↦ queue_other ports p (held v h) q d
   ]
 
-  held_keeps : keeps_turn v (held v h) ≡ true
-  held_keeps = ap (λ (b : Bool). b && same_set (ready_in v) (ready_in v)) (as_long (length v.queue)) ∙ same_set-same (ready_in v)
-
   held_ready : (with_port ports p (held v h)).ready ≡ ports.ready
-  held_ready =
-      ap (λ (o : Option (PortView Kept)). turned ports.ready p o (held v h)) there
-      ∙ ap (λ (b : Bool). cond b ports.ready (joined (left ports.ready p (ready_in v)) p (ready_in v))) held_keeps
+  held_ready = ap (λ (o : Option (PortView Kept)). turned ports.ready p o (held v h)) there ∙ turned_kept ports.ready p v (held v h) refl
 
 -- a port that is noted
 noted_same : (old new : WorldView) (port : ℕ) → NotesSenderless old port new → SameTurns old new
@@ -161,50 +235,46 @@ note_same old new port front n = by_note (SameTurns old) front.by_once old new p
 
 -- ---- the front message is taken
 
-module _ (old new : WorldView) (port set : ℕ) (f : TakesFront old port new) (member : f.v.attributes.set ≡ Some set) (first : slice_get (in_turn old set) 0 ≡ Some port) where
-  abbrev served : PortView Kept
-  served = record { queue = f.behind; attributes = record f.v.attributes { sequence = (f.v.attributes.sequence + 1) % 2 ^ 32 } }
+abbrev served : (v : PortView Kept) → List Kept → PortView Kept
+served v behind = record v { queue = behind; attributes = record v.attributes { sequence = (v.attributes.sequence + 1) % 2 ^ 32 } }
 
-  front_first : TakesFirst old set new
-  front_first = record {
-    member = port;
-    first = first;
-    front = f.front;
-    behind = f.behind;
-    queue = ap (option_map (λ (v : PortView Kept). v.queue)) f.there ∙ ap (λ (ms : List Kept). Some ms) f.queue;
-    taken = ap (λ (x : WorldView). queue_at x port) f.rest ∙ queue_here old.ports port served;
-    turns =
-        ap (λ (x : WorldView). x.ports.ready) f.rest
-        ∙ ap (λ (o : Option (PortView Kept)). turned old.ports.ready port o served) f.there
-        ∙ taken_turns old.ports.ready set port f.v served f.front f.queue member member;
-  }
+module _ (old new : WorldView) (port : ℕ) (f : TakesFront old port new) where
+  front_taken : queue_at new port ≡ Some f.behind
+  front_taken = ap (λ (x : WorldView). queue_at x port) f.rest ∙ queue_here old.ports port (served f.v f.behind)
 
-first_after : (old mid new : WorldView) (set : ℕ) → TakesFirst old set mid → SameTurns mid new → TakesFirst old set new
-first_after old mid new set t same = record { member = t.member; first = t.first; front = t.front; behind = t.behind; queue = t.queue; taken = same.queues t.member ∙ t.taken; turns = same.ready ∙ t.turns }
-
-first_before : (old mid new : WorldView) (set : ℕ) → SameTurns old mid → TakesFirst mid set new → TakesFirst old set new
-first_before old mid new set same t = record {
-  member = t.member;
-  first = ap (λ (r : ReadyLists). slice_get (turns_of r set) 0) (sym same.ready) ∙ t.first;
-  front = t.front;
-  behind = t.behind;
-  queue = sym (same.queues t.member) ∙ t.queue;
-  taken = t.taken;
-  turns = t.turns ∙ ap (λ (r : ReadyLists). with_turns r set (without t.member (turns_of r set) ++ if_ready t.member t.behind)) same.ready;
-}
+  front_turns : new.ports.ready ≡ kept_behind old.ports.ready port (sets_in f.v) f.behind
+  front_turns =
+      ap (λ (x : WorldView). x.ports.ready) f.rest
+      ∙ ap (λ (o : Option (PortView Kept)). turned old.ports.ready port o (served f.v f.behind)) f.there
+      ∙ taken_turns old.ports.ready port f.v (served f.v f.behind) f.front f.queue refl
 
 -- what is told of a port at one place is told of it at another
-member_at : (w : WorldView) (port set : ℕ) (has : HasMessage w (Waited.Set set) port) (v : PortView Kept) → port_at w port ≡ Some v → v.attributes.set ≡ Some set
-member_at w port set has v there = ap (λ (x : PortView Kept). x.attributes.set) (same_some v has.from.v (sym there ∙ has.from.there)) ∙ has.from.is_of
+member_at : (w : WorldView) (port set : ℕ) (has : HasMessage w (Waited.Set set) port) (v : PortView Kept) → port_at w port ≡ Some v → Contains (sets_in v) set
+member_at w port set has v there = subst (λ (x : PortView Kept). Contains (sets_in x) set) (same_some has.from.v v (sym has.from.there ∙ there)) has.from.is_of
 
-message_first : (w start taken new : WorldView) (task port number local set : ℕ) (bytes : List ℕ) → MakesRoom w task number start → (t : TakesMessage start task port local bytes taken) →
-    NotesFront taken port t.takes.front new → HasMessage w (Waited.Set set) port → slice_get (in_turn w set) 0 ≡ Some port → TakesFirst w set new
-message_first w start taken new task port number local set bytes made t notes has first =
+queued_at : (w : WorldView) (port : ℕ) (v : PortView Kept) (front : Kept) (behind : List Kept) → port_at w port ≡ Some v → v.queue ≡ front ∷ behind → queue_at w port ≡ Some (front ∷ behind)
+queued_at w port v front behind there queue = ap (option_map (λ (x : PortView Kept). x.queue)) there ∙ ap (λ (ms : List Kept). Some ms) queue
+
+-- it is received by the set, and then the turn passes
+message_first : (w start taken noted new : WorldView) (task port number local set : ℕ) (bytes : List ℕ) → MakesRoom w task number start → (t : TakesMessage start task port local bytes taken) →
+    NotesFront taken port t.takes.front noted → PassesIn noted (Waited.Set set) port new → HasMessage w (Waited.Set set) port → slice_get (in_turn w set) 0 ≡ Some port → TakesFirst w set new
+message_first w start taken noted new task port number local set bytes made t notes passes has first =
     let ports : start.ports ≡ w.ports = ap (λ (x : WorldView). x.ports) made.rest in
     let there : port_at w port ≡ Some t.takes.v = ap (λ (x : PortsView Kept). map.get x.ports port) (sym ports) ∙ t.takes.there in
-    let took : TakesFirst start set t.mid = front_first start t.mid port set t.takes (member_at w port set has t.takes.v there) (ap (λ (x : PortsView Kept). slice_get (turns_of x.ready set) 0) ports ∙ first) in
-    let gave : SameTurns t.mid new = same_then t.mid taken new (all_same (option_to_list t.takes.front.reply ++ t.takes.front.rights) t.words t.mid taken task t.gives) (note_same taken new port t.takes.front notes) in
-    first_before w start new set (same_by w start ports) (first_after start t.mid new set took gave)
+    let gave : SameTurns t.mid noted = same_then t.mid taken noted (all_same (option_to_list t.takes.front.reply ++ t.takes.front.rights) t.words t.mid taken task t.gives) (note_same taken noted port t.takes.front notes) in
+    let turned_so : noted.ports.ready ≡ kept_behind w.ports.ready port (sets_in t.takes.v) t.takes.behind =
+    gave.ready ∙ front_turns start t.mid port t.takes ∙ ap (λ (x : PortsView Kept). kept_behind x.ready port (sets_in t.takes.v) t.takes.behind) ports in
+    record {
+      member = port;
+      first = first;
+      front = t.takes.front;
+      behind = t.takes.behind;
+      queue = queued_at w port t.takes.v t.takes.front t.takes.behind there t.takes.queue;
+      taken = ap (λ (x : WorldView). queue_at x port) (passes-in noted new (Waited.Set set) port passes) ∙ gave.queues port ∙ front_taken start t.mid port t.takes;
+      turns =
+          behind_passed port set (sets_in t.takes.v) w.ports.ready t.takes.behind (member_at w port set has t.takes.v there) first noted.ports new.ports turned_so passes.0
+          ∙ in_tables w set port t.takes.v t.takes.behind there;
+    }
 
 -- ---- messages come to queues
 
@@ -266,38 +336,36 @@ module _ (old : WorldView) (p : ℕ) (v : PortView Kept) (there : port_at old p 
   stays : (queue : List Kept) (ready : ReadyLists) → ready ≡ old.ports.ready → Joins queue ready
   stays queue ready same = record { joined = []; empty = All-nil (IsEmptyPort queue); turns = ap (λ (r : ReadyLists). turns_of r set) same ∙ sym (append-nil (in_turn old set)) }
 
-  joins_set : (s : ℕ) → Joins [] (joined old.ports.ready p (Some s))
-  joins_set s = elim (equal_or_not set s) [
-    | inl e ↦ record {
-      joined = p ∷ [];
-      empty = All-cons (IsEmptyPort []) p [] (refl, refl) (All-nil (IsEmptyPort []));
-      turns = ap (turns_of (joined old.ports.ready p (Some s))) e ∙ turns_here old.ports.ready s (in_turn old s ++ p ∷ []) ∙ ap (λ (x : ℕ). in_turn old x ++ p ∷ []) (sym e);
-    }
-    | inr d ↦ record {
-      joined = [];
-      empty = All-nil (IsEmptyPort []);
-      turns = turns_other old.ports.ready s (in_turn old s ++ p ∷ []) set d ∙ sym (append-nil (in_turn old set));
-    }
-  ]
+  joins_sets : (sets : List ℕ) (ready : ReadyLists) → (js : List ℕ) × All (IsEmptyPort []) js × (turns_of (joined ready p sets) set ≡ turns_of ready set ++ js)
+  joins_sets [] ready = ([], All-nil (IsEmptyPort []), sym (append-nil (turns_of ready set)))
+  joins_sets (s ∷ sets) ready =
+      let then : ReadyLists = with_turns ready s (turns_of ready s ++ p ∷ []) in
+      let more = joins_sets sets then in
+      elim (equal_or_not set s) [
+        | inl e ↦ (
+          p ∷ more.0,
+          All-cons (IsEmptyPort []) p more.0 (refl, refl) more.1,
+          more.2 ∙ ap (λ (xs : List ℕ). xs ++ more.0) (ap (turns_of then) e ∙ turns_here ready s (turns_of ready s ++ p ∷ []) ∙ ap (λ (x : ℕ). turns_of ready x ++ p ∷ []) (sym e)) ∙ append_assoc (turns_of ready set) (p ∷ []) more.0,
+        )
+        | inr d ↦ (more.0, more.1, more.2 ∙ ap (λ (xs : List ℕ). xs ++ more.0) (turns_other ready s (turns_of ready s ++ p ∷ []) set d))
+      ]
 
-  abbrev turned_by : (queue : List Kept) (o : Option ℕ) → ReadyLists
-  turned_by queue o = cond (leb (length queue) (length (queue ++ m ∷ [])) && same_set (ready_if queue o) (ready_if (queue ++ m ∷ []) o)) old.ports.ready (joined (left old.ports.ready p (ready_if queue o)) p (ready_if (queue ++ m ∷ []) o))
-
-  longer : (queue : List Kept) → leb (length queue) (length (queue ++ m ∷ [])) ≡ true
-  longer queue = elim (leb_tells (length queue) (length (queue ++ m ∷ []))) [
-    | inl h ↦ h.0
-    | inr h ↦ absurd (let many = length-append queue (m ∷ []) in let d = h.1 in omega (arith, many, d))
-  ]
-
-  joins_by : (queue : List Kept) (o : Option ℕ) → Joins queue (turned_by queue o)
-  joins_by [] None = stays [] old.ports.ready refl
-  joins_by [] (Some s) = joins_set s
-  joins_by (x ∷ xs) o = stays (x ∷ xs) (turned_by (x ∷ xs) o)
-      (ap (λ (b : Bool). cond (b && same_set o o) old.ports.ready (joined (left old.ports.ready p o) p o)) (longer (x ∷ xs))
-      ∙ ap (λ (b : Bool). cond b old.ports.ready (joined (left old.ports.ready p o) p o)) (same_set-same o))
+  joins_by : (queue : List Kept) → v.queue ≡ queue → Joins queue (turned old.ports.ready p (Some v) more)
+  joins_by [] e =
+      let was : ready_in v ≡ [] = ap (λ (ms : List Kept). ready_if ms (sets_in v)) e in
+      let now : ready_in more ≡ sets_in v = ap (λ (ms : List Kept). ready_if (ms ++ m ∷ []) (sets_in v)) e in
+      let is : turned old.ports.ready p (Some v) more ≡ joined old.ports.ready p (sets_in v) =
+      ap (λ (xs : List ℕ). joined (left old.ports.ready p (sets_without xs (ready_in more))) p (sets_without (ready_in more) xs)) was
+      ∙ ap (λ (xs : List ℕ). joined old.ports.ready p (sets_without xs [])) now ∙ ap (joined old.ports.ready p) (sets_but_none (sets_in v)) in
+      let x = joins_sets (sets_in v) old.ports.ready in
+      record { joined = x.0; empty = x.1; turns = ap (λ (r : ReadyLists). turns_of r set) is ∙ x.2 }
+  joins_by (x ∷ xs) e =
+      let was : ready_in v ≡ sets_in v = ap (λ (ms : List Kept). ready_if ms (sets_in v)) e in
+      let now : ready_in more ≡ sets_in v = ap (λ (ms : List Kept). ready_if (ms ++ m ∷ []) (sets_in v)) e in
+      stays (x ∷ xs) (turned old.ports.ready p (Some v) more) (turned_kept old.ports.ready p v more (now ∙ sym was))
 
   more_joins : Joins v.queue (with_port old.ports p more).ready
-  more_joins = subst (λ (r : ReadyLists). Joins v.queue r) (sym (ap (λ (o : Option (PortView Kept)). turned old.ports.ready p o more) there)) (joins_by v.queue v.attributes.set)
+  more_joins = subst (λ (r : ReadyLists). Joins v.queue r) (sym (ap (λ (o : Option (PortView Kept)). turned old.ports.ready p o more) there)) (joins_by v.queue refl)
 
   posted_joins : (new : WorldView) → ((q : ℕ) → queue_at new q ≡ queue_in (with_port old.ports p more) q) → new.ports.ready ≡ (with_port old.ports p more).ready → JoinsTurns old set new
   posted_joins new queues ready = record {
@@ -333,12 +401,27 @@ all_join : (cs : List Carried) (old new : WorldView) (set : ℕ) → LosesAll ol
 all_join [] old new set l = joins_same old new set (same_by old new (ap (λ (x : WorldView). x.ports) l))
 all_join (c ∷ cs) old new set l = joins_then old l.0 new set (mark_joins old l.0 (kind_sent c.given) c.mark set l.1) (all_join cs l.0 new set l.2)
 
-destroyed_first : (w new : WorldView) (port set : ℕ) → HasMessage w (Waited.Set set) port → slice_get (in_turn w set) 0 ≡ Some port → DestroysMessage w port new → (mid : WorldView) × TakesFirst w set mid × JoinsTurns mid set new
-destroyed_first w new port set has first d = (
-  d.taken,
-  front_first w d.taken port set d.takes (member_at w port set has d.takes.v d.takes.there) first,
-  joins_then d.taken d.noted new set (joins_same d.taken d.noted set (note_same d.taken d.noted port d.takes.front d.notes)) (all_join (option_to_list d.takes.front.reply ++ d.takes.front.rights) d.noted new set d.loses),
-)
+destroyed_first : (w passed new : WorldView) (port set : ℕ) → HasMessage w (Waited.Set set) port → slice_get (in_turn w set) 0 ≡ Some port → PassesIn w (Waited.Set set) port passed → DestroysMessage passed port new →
+    (mid : WorldView) × TakesFirst w set mid × ((each : ℕ) → JoinsTurns mid each new)
+destroyed_first w passed new port set has first passes d =
+    let same = passes-in w passed (Waited.Set set) port passes in
+    let there : port_at w port ≡ Some d.takes.v = sym (ap (λ (x : WorldView). port_at x port) same) ∙ d.takes.there in (
+      d.taken,
+      record {
+        member = port;
+        first = first;
+        front = d.takes.front;
+        behind = d.takes.behind;
+        queue = queued_at w port d.takes.v d.takes.front d.takes.behind there d.takes.queue;
+        taken = front_taken passed d.taken port d.takes;
+        turns =
+            front_turns passed d.taken port d.takes
+            ∙ ap (λ (x : PortsView Kept). kept_behind x.ready port (sets_in d.takes.v) d.takes.behind) (passes.0.its first)
+            ∙ passed_behind port set (sets_in d.takes.v) w.ports.ready d.takes.behind (member_at w port set has d.takes.v there)
+            ∙ in_tables w set port d.takes.v d.takes.behind there;
+      },
+      λ each. joins_then d.taken d.noted new each (joins_same d.taken d.noted each (note_same d.taken d.noted port d.takes.front d.notes)) (all_join (option_to_list d.takes.front.reply ++ d.takes.front.rights) d.noted new each d.loses),
+    )
 
 -- ---- a receipt
 
@@ -355,21 +438,21 @@ module _ (w : WorldView) (waited : Waited) (o : Option ℕ) (is_first : IsFirst 
       go (Waited.Set set) f = (no_first (in_turn w set) (sym none ∙ f), refl)
 
   module _ (port : ℕ) (some : o ≡ Some port) (has : HasMessage w waited port) where
-    pub message_in_turn : (start taken new : WorldView) (task number local : ℕ) (bytes : List ℕ) (large : Bool) → MakesRoom w task number start → (t : TakesMessage start task port local bytes taken) →
-        NotesFront taken port t.takes.front new → TakesInTurn w waited large (Reply.Message bytes) new
-    message_in_turn start taken new task number local bytes large made t notes = go waited is_first has
+    pub message_in_turn : (start taken noted new : WorldView) (task number local : ℕ) (bytes : List ℕ) (large : Bool) → MakesRoom w task number start → (t : TakesMessage start task port local bytes taken) →
+        NotesFront taken port t.takes.front noted → PassesIn noted waited port new → TakesInTurn w waited large (Reply.Message bytes) new
+    message_in_turn start taken noted new task number local bytes large made t notes passes = go waited is_first has passes
       where
-        go : (x : Waited) → IsFirst w x o → HasMessage w x port → TakesInTurn w x large (Reply.Message bytes) new
-        go (Waited.Port p) f h = tt
-        go (Waited.Set set) f h = message_first w start taken new task port number local set bytes made t notes h (sym f ∙ some)
+        go : (x : Waited) → IsFirst w x o → HasMessage w x port → PassesIn noted x port new → TakesInTurn w x large (Reply.Message bytes) new
+        go (Waited.Port p) f h e = tt
+        go (Waited.Set set) f h e = message_first w start taken noted new task port number local set bytes made t notes e h (sym f ∙ some)
 
-    pub large_in_turn : (large : Bool) (n : ℕ) (new : WorldView) → MatchBool large (new ≡ w) (DestroysMessage w port new) → TakesInTurn w waited large (Reply.TooLarge n) new
+    pub large_in_turn : (large : Bool) (n : ℕ) (new : WorldView) → MatchBool large (new ≡ w) ((mid : WorldView) × PassesIn w waited port mid × DestroysMessage mid port new) → TakesInTurn w waited large (Reply.TooLarge n) new
     large_in_turn large n new ends = go waited large is_first has ends
       where
-        go : (x : Waited) (b : Bool) → IsFirst w x o → HasMessage w x port → MatchBool b (new ≡ w) (DestroysMessage w port new) → TakesInTurn w x b (Reply.TooLarge n) new
+        go : (x : Waited) (b : Bool) → IsFirst w x o → HasMessage w x port → MatchBool b (new ≡ w) ((mid : WorldView) × PassesIn w x port mid × DestroysMessage mid port new) → TakesInTurn w x b (Reply.TooLarge n) new
         go (Waited.Port p) b f h e = tt
         go (Waited.Set set) true f h e = e
-        go (Waited.Set set) false f h e = destroyed_first w new port set h (sym f ∙ some) e
+        go (Waited.Set set) false f h e = destroyed_first w e.0 new port set h (sym f ∙ some) e.1 e.2
 
 -- a port that is no set's member has no turn
 pub port_first : (w : WorldView) (port : ℕ) (o : Option ℕ) (waited : Waited) → waited ≡ Waited.Port port → IsFirst w waited o

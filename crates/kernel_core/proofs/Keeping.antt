@@ -6,7 +6,7 @@ use Rattle.mach_types.specs.declared.calls.Event.{Event}
 use Rattle.mach_types.specs.declared.calls.Reply.{Reply}
 use Rattle.mach_types.specs.declared.touched.Touched.{Touched}
 use Rattle.mach_types.specs.declared.codes.KernReturn.TheVariants.{InvalidTask, ResourceShortage}
-use Rattle.mach_types.specs.Codes.{kern_number}
+use Rattle.mach_types.specs.Codes.{kern_number, code_number}
 use Rattle.mach_model.specs.State.{State}
 use Rattle.mach_model.specs.Notices.{Owed}
 use Rattle.mach_model.specs.Acts.{Does}
@@ -15,9 +15,9 @@ use Rattle.mach_model.proofs.StepReceives.{Does-receives}
 use Rattle.mach_laws.specs.Counts.{accepts, MayNeedSlots}
 use Rattle.mach_laws.proofs.Counted.{Does-counted}
 use Rattle.mach_laws.proofs.Onces.{part_needs, request_needs}
-use Rattle.copyin_base.specs.declared.code.Code.{Code}
-use Rattle.copyin_base.specs.declared.code.Code.TheVariants.{Kern}
-use Rattle.copyin_base.specs.Serving.{code_number, IsDone, Completes, Declines, Serves}
+use Rattle.mach_types.specs.declared.codes.Code.{Code}
+use Rattle.mach_types.specs.declared.codes.Code.TheVariants.{Kern}
+use Rattle.copyin_base.specs.Serving.{IsDone, Completes, Declines, Serves}
 use Rattle.copyin_base.specs.Shows.{Shows}
 use Rattle.copyin_base.specs.Stands.{Stands}
 use Rattle.copyin_base.specs.Wanted.{KeepsSpares, UsesSpares}
@@ -28,7 +28,7 @@ use Rattle.rights.specs.Unused.{IsUnusedOfAll}
 use Rattle.notifications.specs.declared.request.Asked.{Asked}
 use Rattle.notifications.specs.Wanted.{WantsToRequest, LeavesRequest, LeavesSlots as AskedSlots}
 use Rattle.kernel_core.specs.InTurn.{KeepsTurns, told_by}
-use Rattle.kernel_core.specs.Send.{UsesSlot}
+use Rattle.message_send.specs.Send.{UsesSlot}
 use Rattle.kernel_core.specs.Touching.{RefusalTouchesNone}
 use Rattle.transfer.specs.Room.{MakesSlots}
 use Rattle.kernel_core.specs.Wanted.{memory_code, WantsMemory, Wanted, UsesSlots, LeavesSlots, LeavesSpares, Performs}

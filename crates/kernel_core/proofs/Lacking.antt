@@ -134,6 +134,14 @@ module _ (w : WorldView) (event : Event) where
   pub may_declined : Declines w event (memory_code event) w → MayRefuse w event (memory_code event)
   may_declined declines = record { refuses = declines.refuses }
 
+-- what is told of a call that is refused by guards alone, but for want of memory
+pub told_guarded : (w : WorldView) (event : Event) (judged : Result (Unit {0}) KernReturn) (b : Bool) → HasTasks w event → ((s : State) → RefusesLater s event (memory_code event)) →
+    OnOk judged (IsAllowed w (λ s. call_guards s event)) → IfErr judged (λ code. IsRefused w (λ s. call_guards s event) (kern_number code)) → b ≡ is_ok judged → TellsWant w event b
+told_guarded w event (Ok x) true tasks later ok err is = may_lack w event tasks ok later
+told_guarded w event (Err code) false tasks later ok err is = never_guarded w event (kern_number code) err
+told_guarded w event (Ok x) false tasks later ok err is = absurd (cc)
+told_guarded w event (Err code) true tasks later ok err is = absurd (cc)
+
 -- ---- rights that are handed on, and requests
 
 module _ (w : WorldView) where

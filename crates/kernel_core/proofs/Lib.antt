@@ -1,7 +1,5 @@
 mod Ready
 mod Receiving
-mod Sending
-mod Wanting
 mod Unused
 mod Ending
 mod Freed
@@ -12,15 +10,16 @@ mod Sparing
 mod Listed
 mod Bounding
 mod Lacking
-mod Members
 mod Staying
 mod Chosen
+mod Passing
+mod Sourced
 mod InTurn
 pub mod Limited
 pub mod Named
-pub mod Carrying
 mod Alone
 mod Covered
+mod Pairing
 mod TooLong
 mod Walked
 mod Given

@@ -1,8 +1,8 @@
 -- A call of whose change it is told that a receive right was destroyed loses that right, and owes nothing.
 use Rattle.std.proofs.Common.{◌≡◌, ℕ, List, [], ◌∷◌, ◌++◌, Option, Some, None, refl, sym, ap, subst, ◌∙◌, true, false, Bool, inl, inr, length, drop}
-use Rattle.std.specs.Prelude.{◌≢◌, ◌^◌, ◌%◌, ◌==◌, ◌||◌, ℤ, nat_lt, not, if◌then◌else◌, MatchBool}
+use Rattle.std.specs.Prelude.{◌≢◌, ◌^◌, ◌%◌, ◌==◌, ◌||◌, ℤ, nat_lt, not, if◌then◌else◌, MatchBool, slice_get}
 use Rattle.std.specs.List.{filter_map}
-use Rattle.std.specs.Option.{option_map, option_to_list}
+use Rattle.std.specs.Option.{option_map, option_and_then, option_to_list}
 use Rattle.mach_types.specs.declared.calls.Event.{Event}
 use Rattle.mach_types.specs.declared.calls.Reply.{Reply}
 use Rattle.mach_types.specs.TextGuards.{word_at}
@@ -16,14 +16,19 @@ use Rattle.name_space.specs.declared.Entry.{Entry as Named}
 use Rattle.name_space.specs.declared.Entry.TheVariants as named
 use Rattle.copyin_base.specs.Kept.{Kept}
 use Rattle.copyin_base.specs.Shows.{Shows, target_of}
-use Rattle.copyin_base.specs.Worlds.{WorldView, entry_at}
+use Rattle.copyin_base.specs.Worlds.{WorldView, entry_at, sets_at}
+use Rattle.name_space.specs.Entry.{set_named}
+use Rattle.port_base.specs.declared.Membership.{Membership}
+use Rattle.port_base.specs.declared.Membership.TheVariants.{Nowhere, Alone, Several}
+use Rattle.port_base.specs.Memberships.{membership_in}
 use Rattle.copyin.specs.declared.judge.Plan.{Plan}
 use Rattle.kernel_change.specs.declared.change.Change.TheVariants as change
 use Rattle.kernel_change.specs.declared.change.Change.{Change}
-use Rattle.kernel_change.specs.Changing.{ByLosingAll, ByReferences, by_body, by_front, by_handing, by_items, by_losing_all, by_losing_one, by_losing_with, by_making, by_message, by_moving, by_paying, by_receipt, by_received, by_request, by_taking, by_taking_two, by_taking_three, by_taking_along, by_too_long, disbanded, front_at, gives_none, gives_one, left_by, moved_from, noticed_of, port_under, receives_of, set_of}
+use Rattle.kernel_change.specs.Changing.{ByLosingAll, ByReferences, by_body, by_front, by_handing, by_items, by_losing_all, by_losing_one, by_losing_with, by_making, by_message, by_moving, by_paying, by_receipt, by_received, by_request, by_taking, by_taking_two, by_taking_three, by_taking_along, by_too_long, disbanded, front_at, gives_none, gives_one, left_by, moved_from, noticed_of, port_under, receives_of, any_if_several, by_pairing, has_more, paired}
 use Rattle.kernel_change.specs.Received.{body_names, received_by}
 use Rattle.kernel_core.specs.InTurn.{source}
-use Rattle.kernel_core.specs.Telling.{TellsChange, TellsPlan}
+use Rattle.message_send.specs.Telling.{TellsPlan}
+use Rattle.kernel_core.specs.Telling.{TellsChange}
 
 abbrev NotLost : Change → Type 0
 NotLost (change.Lost p) = ⊥
@@ -90,11 +95,16 @@ not_three to a b c None None (Some set) = tt
 not_three to a b c None (Some set) third = tt
 not_three to a b c (Some set) second third = tt
 
+not_if_several : (sets : List ℕ) (c : Change) → NotLost c → NotLost (any_if_several sets c)
+not_if_several sets c not = not_either (has_more sets) change.Any c tt not
+
 not_taking : (w : WorldView) (to : ℕ) (ports : List ℕ) → NotLost (by_taking w to ports)
 not_taking w to [] = tt
-not_taking w to (p ∷ []) = not_along to p (set_of w p)
-not_taking w to (a ∷ b ∷ []) = not_two to a b (set_of w a) (set_of w b)
-not_taking w to (a ∷ b ∷ c ∷ []) = not_three to a b c (set_of w a) (set_of w b) (set_of w c)
+not_taking w to (p ∷ []) = not_if_several (sets_at w p) (by_taking_along to p (slice_get (sets_at w p) 0)) (not_along to p (slice_get (sets_at w p) 0))
+not_taking w to (a ∷ b ∷ []) =
+    let two : Change = by_taking_two to a b (slice_get (sets_at w a) 0) (slice_get (sets_at w b) 0) in
+    not_if_several (sets_at w a) (any_if_several (sets_at w b) two) (not_if_several (sets_at w b) two (not_two to a b (slice_get (sets_at w a) 0) (slice_get (sets_at w b) 0)))
+not_taking w to (a ∷ b ∷ c ∷ []) = not_three to a b c (slice_get (sets_at w a) 0) (slice_get (sets_at w b) 0) (slice_get (sets_at w c) 0)
 not_taking w to (a ∷ b ∷ c ∷ d ∷ ports) = tt
 
 not_losing_one : (o : Option Named) → NotLost (by_losing_one o)
@@ -115,12 +125,21 @@ not_paying (Some (named.SendOnce p)) = tt
 not_paying (Some (named.DeadName n)) = tt
 not_paying (Some (named.Set set)) = tt
 
-not_left : (p : ℕ) (o : Option ℕ) → NotLost (left_by p o)
-not_left p (Some set) = tt
-not_left p None = tt
+not_left : (p : ℕ) (m : Membership) → NotLost (left_by p m)
+not_left p Nowhere = tt
+not_left p (Alone set) = tt
+not_left p (Several set) = tt
+
+not_paired : (a b : Option ℕ) → NotLost (paired a b)
+not_paired (Some p) (Some set) = tt
+not_paired (Some p) None = tt
+not_paired None b = tt
+
+not_pairing : (w : WorldView) (task member set : ℕ) → NotLost (by_pairing w task member set)
+not_pairing w task member set = not_paired (port_under w task member) (option_and_then set_named (entry_at w task set))
 
 not_moved : (w : WorldView) (o : Option ℕ) → NotLost (moved_from w o)
-not_moved w (Some p) = not_left p (set_of w p)
+not_moved w (Some p) = not_left p (membership_in (sets_at w p))
 not_moved w None = tt
 
 not_handing : (w : WorldView) (task name number : ℕ) → NotLost (by_handing w task name number)
@@ -217,8 +236,8 @@ module _ (now : ℕ) (old : WorldView) (s mid : State) (owed : Owed) (sh : Shows
   own_lost (Event.ReceiveStatus task name) reply d tells = absurd (never change.Nothing tells tt)
   own_lost (Event.SetStatus task name) reply d tells = absurd (never change.Nothing tells tt)
   own_lost (Event.MoveMember task member after) reply d tells = absurd (never (by_moving old task member) tells (not_moved old (port_under old task member)))
-  own_lost (Event.InsertMember task member set) reply d tells = absurd (never change.Any tells tt)
-  own_lost (Event.ExtractMember task member set) reply d tells = absurd (never change.Any tells tt)
+  own_lost (Event.InsertMember task member set) reply d tells = absurd (never (by_pairing old task member set) tells (not_pairing old task member set))
+  own_lost (Event.ExtractMember task member set) reply d tells = absurd (never (by_pairing old task member set) tells (not_pairing old task member set))
   own_lost (Event.SetQlimit task name n) reply d tells = absurd (never (change.PortNamed task name) tells tt)
   own_lost (Event.SetMscount task name n) reply d tells = absurd (never change.Nothing tells tt)
   own_lost (Event.SetSeqno task name n) reply d tells = absurd (never change.Nothing tells tt)

@@ -1,5 +1,5 @@
 -- A port that a receipt takes from and that has a message.
-use Rattle.std.proofs.Common.{◌≡◌, ℕ, ◌<◌, ◌≤◌, Some, None, Option, Bool, true, false, refl, sym, ap, subst, ◌∙◌, length, arith}
+use Rattle.std.proofs.Common.{◌≡◌, ℕ, ◌<◌, ◌≤◌, [], Some, None, Option, Bool, true, false, refl, sym, ap, subst, ◌∙◌, length, arith}
 use Rattle.std.specs.Prelude.{MatchBool, MatchOption, IfSome, IfNone, is_some}
 use Rattle.std.specs.Option.{option_and_then, option_map}
 use Rattle.std.specs.FinMap as map
@@ -63,11 +63,11 @@ module _ (w : WorldView) (ports : PortsView Kept) (port : ℕ) (is_member : Bool
   pub port_empty : n ≤ 0 → NoneWaits w (Waited.Port port)
   port_empty none = λ p v there is. let many = (told_of v (ap (port_at w) (sym is) ∙ there)).1 in omega (arith, many, none)
 
-  pub member_told : is_some (port_at w port) ≡ true → MatchBool is_member (IsMember w port) (IsAlone w port)
-  member_told live = go (port_at w port) refl
+  pub member_told : ((v : PortView Kept) → map.get ports.ports port ≡ Some v → v.attributes.set ≡ None → v.more ≡ []) → is_some (port_at w port) ≡ true → MatchBool is_member (IsMember w port) (IsAlone w port)
+  member_told nowhere live = go (port_at w port) refl
     where
       go : (o : Option (PortView Kept)) → port_at w port ≡ o → MatchBool is_member (IsMember w port) (IsAlone w port)
-      go (Some v) e = member_or_not w port v.attributes (record { v = v; there = e; are = refl }) is_member (told_of v e).0
+      go (Some v) e = member_or_not w port v.attributes (record { v = v; there = e; are = refl; none = nowhere v (ap (λ (x : PortsView Kept). map.get x.ports port) same ∙ e) }) is_member (told_of v e).0
       go None e = absurd (let none : true ≡ false = sym live ∙ ap is_some e in cc)
 
 -- ---- the port as a source

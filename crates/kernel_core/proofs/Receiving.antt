@@ -1,5 +1,5 @@
 -- A receipt: where it takes from, and that it is refused in each state that the tables show, or done.
-use Rattle.std.proofs.Common.{◌≡◌, ℕ, zero, suc, ◌<◌, ◌≤◌, List, [], ◌∷◌, Some, None, refl, sym, ap, subst, ◌∙◌, ◌⊎◌, inl, inr, length, true, false, Bool, arith}
+use Rattle.std.proofs.Common.{◌≡◌, ℕ, zero, suc, ◌<◌, ◌≤◌, List, [], ◌∷◌, ◌++◌, Some, None, refl, sym, ap, subst, ◌∙◌, ◌⊎◌, inl, inr, length, true, false, Bool, arith}
 use Rattle.std.specs.Prelude.{◌≢◌, is_some, min, Contains, Option, MatchBool, MatchOption}
 use Rattle.std.specs.Option.{option_map, option_and_then, option_to_list}
 use Rattle.std.specs.FinMap as map
@@ -52,7 +52,7 @@ use Rattle.kernel_core.proofs.Freed.{destroyed_sends, front_same}
 use Rattle.kernel_core.specs.InTurn.{IsFirst, source_of, source, TakesByTurn, CompletesInTurn}
 use Rattle.kernel_core.specs.Receive.{named_guards, Sources, IsMember, IsAlone, IsOf, IsFrom, HasMessage, NoneWaits, taken_by, ReceiptOf, IsReceipt, StaysFor, waited_at}
 use Rattle.kernel_core.proofs.Taking.{named_takes, again_takes, message_one, destroyed_one, source_first}
-use Rattle.kernel_core_base.proofs.Holding.{in_one, one_in, none_in, some_in, held_lives, one_true}
+use Rattle.receive_right.proofs.Holding.{held_lives, one_true}
 use Rattle.transfer.proofs.Judged.{not_not}
 
 -- ---- what isn't otherwise
@@ -94,12 +94,20 @@ not_set (entry.DeadName n) is h = h
 -- ---- whether a port is in a set
 
 module _ (w : WorldView) (port : ℕ) (attributes : Attributes) (h : HasAttributes w port attributes) where
-  sets_are : (s : State) → Shows w s → option_to_list attributes.set ≡ s.sets_of port
-  sets_are s sh = ap (λ (a : Attributes). option_to_list a.set) (sym h.are) ∙ (sh.agrees.ports port h.v h.there).sets
+  sets_are : (s : State) → Shows w s → option_to_list attributes.set ++ h.v.more ≡ s.sets_of port
+  sets_are s sh = ap (λ (a : Attributes). option_to_list a.set ++ h.v.more) (sym h.are) ∙ (sh.agrees.ports port h.v h.there).sets
+
+  some_first : (o : Option ℕ) (more : List ℕ) → is_some o ≡ true → option_to_list o ++ more ≢ []
+  some_first None more is e = absurd (cc)
+  some_first (Some set) more is e = let f : set ∷ more ≡ [] = e in cc
+
+  none_first : (o : Option ℕ) (more : List ℕ) → is_some o ≡ false → (o ≡ None → more ≡ []) → option_to_list o ++ more ≡ []
+  none_first None more is none = none refl
+  none_first (Some set) more is none = absurd (cc)
 
   pub member_or_not : (b : Bool) → b ≡ is_some attributes.set → MatchBool b (IsMember w port) (IsAlone w port)
-  member_or_not true e = record { some = λ s sh none. some_in attributes.set (sym e) (sets_are s sh ∙ none) }
-  member_or_not false e = record { none = λ s sh. sym (sets_are s sh) ∙ none_in attributes.set (sym e) }
+  member_or_not true e = record { some = λ s sh none. some_first attributes.set h.v.more (sym e) (sets_are s sh ∙ none) }
+  member_or_not false e = record { none = λ s sh. sym (sets_are s sh) ∙ none_first attributes.set h.v.more (sym e) h.none }
 
 -- ---- by a name
 
@@ -235,7 +243,7 @@ module _ (w : WorldView) (s : State) (sh : Shows w s) (task : ℕ) where
       (from.is_of, subst (λ (x : ℕ). Holds s task receive x) (sym from.is_of) holds, ap s.sets_of from.is_of ∙ none)
   takes_from (Waited.Set set) good port from = (
     not_not (s.set_owner set) task good.1.0,
-    subst (λ (xs : List ℕ). Contains xs set) (sh.agrees.ports port from.v from.there).sets (one_in from.v.attributes.set set from.is_of),
+    subst (λ (xs : List ℕ). Contains xs set) (sh.agrees.ports port from.v from.there).sets from.is_of,
   )
 
   pub from_held : (waited : Waited) (port : ℕ) → TakesFrom s task waited port → Holds s task receive port
@@ -249,7 +257,7 @@ module _ (w : WorldView) (s : State) (sh : Shows w s) (task : ℕ) where
 
   pub from_of : (waited : Waited) (port : ℕ) → TakesFrom s task waited port → (v : PortView Kept) → port_at w port ≡ Some v → IsOf waited port v
   from_of (Waited.Port q) port from v there = from.0
-  from_of (Waited.Set set) port from v there = in_one v.attributes.set set (subst (λ (xs : List ℕ). Contains xs set) (sym (sh.agrees.ports port v there).sets) from.1)
+  from_of (Waited.Set set) port from v there = subst (λ (xs : List ℕ). Contains xs set) (sym (sh.agrees.ports port v there).sets) from.1
 
   nothing_in : (ms : List Kept) → length ms ≡ 0 → ms ≡ []
   nothing_in [] e = refl

@@ -16,7 +16,7 @@ use Rattle.mach_model.specs.ReceivedMeans.{message_length}
 use Rattle.mach_model.specs.Refusals.{again_guards}
 use Rattle.mach_laws.proofs.Playing.{one_waited}
 use Rattle.mach_laws.proofs.Deciding.{one_entry, no_front}
-use Rattle.port.specs.Ports.{PortView, PortsView, IsIn}
+use Rattle.port.specs.Ports.{PortView, PortsView, IsIn, sets_in}
 use Rattle.copyin_base.specs.Serving.{IsRefused, IsAllowed}
 use Rattle.copyin_base.specs.Kept.{Kept}
 use Rattle.copyin_base.specs.Shows.{Shows}
@@ -31,7 +31,7 @@ use Rattle.kernel_core.specs.MemoryCodes.{NeverRefuses, TellsWant, NeverStays, I
 use Rattle.kernel_core.specs.Receive.{named_guards, Sources, StaysFor, IsOf, IsFrom}
 use Rattle.kernel_core.proofs.Lacking.{never_guarded, never_later}
 use Rattle.kernel_core.proofs.Receiving.{sources_good, live, from_held, from_of, stays_for_memory}
-use Rattle.kernel_core_base.proofs.Holding.{held_lives}
+use Rattle.receive_right.proofs.Holding.{held_lives}
 
 -- ---- a port
 
@@ -147,7 +147,7 @@ module _ (w : WorldView) (task : ℕ) (below : HasTask w task) (port room : ℕ)
 -- of a set, by its members
 module _ (w : WorldView) (task : ℕ) (below : HasTask w task) (set room : ℕ) (good : IsAllowed w (λ s. again_guards s task (Waited.Set set))) (ports : PortsView Kept) (same : ports ≡ w.ports)
     (members : List ℕ) (only : (port : ℕ) → Contains members port → IsIn ports set port)
-    (all : (port : ℕ) (p : PortView Kept) → map.get ports.ports port ≡ Some p → p.attributes.set ≡ Some set → Contains members port) where
+    (all : (port : ℕ) (p : PortView Kept) → map.get ports.ports port ≡ Some p → Contains (sets_in p) set → Contains members port) where
   at : (port : ℕ) → map.get ports.ports port ≡ port_at w port
   at port = ap (λ (x : PortsView Kept). map.get x.ports port) same
 

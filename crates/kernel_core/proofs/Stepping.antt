@@ -1,6 +1,6 @@
 -- A step: a call's own part, and what settles after it; or a refusal. And the opening.
 use Rattle.std.proofs.Common.{◌≡◌, ℕ, ◌≤◌, ◌-◌, ◌^◌, Bool, true, false, Option, Some, None, refl, sym, ap, ◌∙◌, arith, inl, inr}
-use Rattle.std.specs.Prelude.{◌≢◌, is_some, if◌then◌else◌, nat_lt, min}
+use Rattle.std.specs.Prelude.{is_some, if◌then◌else◌, nat_lt, min}
 use Rattle.std.specs.FinMap as map
 use Rattle.std.specs.Option.{option_map}
 use Rattle.std.specs.Ordering.{nat_cmp}
@@ -8,7 +8,6 @@ use Rattle.mach_types.specs.declared.calls.Event.{Event}
 use Rattle.mach_types.specs.declared.calls.Reply.{Reply}
 use Rattle.mach_types.specs.Tokens.{Request, no_senders, port_destroyed, dead_name}
 use Rattle.mach_model.specs.State.{State, opening_in}
-use Rattle.mach_model.specs.NameGuards.{HasSeveral}
 use Rattle.mach_model.specs.Machine.{Done}
 use Rattle.mach_model.specs.Lawful.{IsLawful}
 use Rattle.mach_model.specs.Work.{deaths, IsBounded}
@@ -21,7 +20,8 @@ use Rattle.request_table.specs.Requests.{name_key}
 use Rattle.rights.specs.declared.Counts.{Counts}
 use Rattle.copyin_base.specs.Serving.{Completes, Declines}
 use Rattle.copyin_base.specs.Kept.{Kept}
-use Rattle.copyin_base.specs.Requests.{notify_of, none_requested, rights_kept}
+use Rattle.request_table.specs.Tables.{none_requested}
+use Rattle.copyin_base.specs.Requests.{notify_of, rights_kept}
 use Rattle.copyin_base.specs.Shows.{Agrees, Shows}
 use Rattle.copyin_base.specs.Stands.{Stands}
 use Rattle.copyin_base.specs.Worlds.{WorldView, no_world}
@@ -35,7 +35,6 @@ use Rattle.kernel_core.specs.Answers.{Answers}
 use Rattle.kernel_core.specs.Kernels.{EndsInTurns, TakesTurns}
 use Rattle.mach_laws.proofs.Working.{few_turns, same_deaths, few_deaths}
 use Rattle.mach_types.specs.declared.profiles.Profile.{Profile}
-use Rattle.mach_types.specs.declared.profiles.Profile.TheVariants.{One, Two, Three}
 
 -- What was done is settled: a step that is done.
 pub acted : (old mid new : WorldView) (event : Event) (reply : Reply) (turns : ℕ) → Completes old event reply mid → SettlesIn mid turns new → Answers old event reply new
@@ -74,10 +73,10 @@ still_stands old new event reply stands answers = let x = answers 0 stands.state
 
 -- ---- nothing was made yet
 
-pub opening_agrees : (profile : Profile) → (HasSeveral profile → ⊥) → Agrees (no_world profile) (opening_in profile)
-opening_agrees profile one_set = record {
+pub opening_agrees : (profile : Profile) → Agrees (no_world profile) (opening_in profile)
+opening_agrees profile = record {
   spaces = record {
-    profiles = record { same_profile = refl; one_set = one_set };
+    same_profile = refl;
     counts_given = λ task space e. absurd (let e' : None ≡ Some space = e in cc);
     none_given = λ task index unmade. refl;
     live_task = λ task. refl;
@@ -124,9 +123,9 @@ opening_agrees profile one_set = record {
     no_port : (p : ℕ) (v : PortView Kept) → map.get (no_world profile).ports.ports p ≡ Some v → ⊥
     no_port p v e = let n : map.get (no_world profile).ports.ports p ≡ None = map.get-empty {X = PortView Kept} nat_cmp p in cc
 
-pub opening_shows : (profile : Profile) → (HasSeveral profile → ⊥) → Shows (no_world profile) (opening_in profile)
-opening_shows profile one_set = record {
-  agrees = opening_agrees profile one_set;
+pub opening_shows : (profile : Profile) → Shows (no_world profile) (opening_in profile)
+opening_shows profile = record {
+  agrees = opening_agrees profile;
   holders = holders_none profile;
   carriers = carriers_none profile;
   slots = slots_none profile;
@@ -135,11 +134,5 @@ opening_shows profile one_set = record {
   lawful = opening-lawful profile;
 }
 
-pub opening_stands : (profile : Profile) → (HasSeveral profile → ⊥) → Stands (no_world profile)
-opening_stands profile one_set = record { state = opening_in profile; shown = opening_shows profile one_set }
-
--- in a profile that isn't the third a port is in one set at most
-pub one_set_in : (profile : Profile) → profile ≢ Three → HasSeveral profile → ⊥
-one_set_in One not h = h
-one_set_in Two not h = h
-one_set_in Three not h = not refl
+pub opening_stands : (profile : Profile) → Stands (no_world profile)
+opening_stands profile = record { state = opening_in profile; shown = opening_shows profile }

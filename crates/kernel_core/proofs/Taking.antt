@@ -14,7 +14,7 @@ use Rattle.mach_model.specs.Settles.{Settles}
 use Rattle.mach_model.proofs.MessagesLawful.{Receives-removes}
 use Rattle.mach_model.proofs.Names.{at_own, at_other}
 use Rattle.mach_laws.specs.Counts.{takes_from}
-use Rattle.copyin_base.specs.declared.code.Code.{Code}
+use Rattle.mach_types.specs.declared.codes.Code.{Code}
 use Rattle.copyin_base.specs.Serving.{Completes, Serves}
 use Rattle.copyin_base.specs.Stands.{Stands}
 use Rattle.copyin_base.specs.Worlds.{WorldView}

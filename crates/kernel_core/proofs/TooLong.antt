@@ -1,5 +1,5 @@
 -- What is covered once a message was destroyed as too long: the queue of its port, and that of the port of its only send-once right.
-use Rattle.std.proofs.Common.{◌≡◌, ℕ, ◌+◌, ◌≤◌, List, [], ◌∷◌, ◌++◌, Option, Some, None, refl, sym, ap, subst, ◌∙◌, arith, true, false, inl, inr}
+use Rattle.std.proofs.Common.{◌≡◌, ℕ, ◌+◌, ◌≤◌, List, [], ◌∷◌, ◌++◌, Option, Some, None, refl, sym, ap, subst, ◌∙◌, arith, true, inl, inr}
 use Rattle.std.specs.List.{filter_map}
 use Rattle.std.specs.Prelude.{◌≢◌, ◌==◌, if◌then◌else◌, Contains, slice_get}
 use Rattle.std.specs.Option.{option_and_then, option_to_list}
@@ -8,6 +8,7 @@ use Rattle.mach_types.specs.declared.calls.Waited.{Waited}
 use Rattle.mach_types.specs.declared.rights.Disposition.{Disposition}
 use Rattle.mach_types.specs.declared.rights.Disposition.TheVariants.{MoveReceive, MoveSend, MoveSendOnce, CopySend, MakeSend, MakeSendOnce}
 use Rattle.mach_types.specs.declared.touched.Touched.{Touched}
+use Rattle.mach_types.specs.declared.touched.Touched.TheVariants.{Few}
 use Rattle.mach_types.specs.Touching.{Covers}
 use Rattle.mach_types.specs.Bodies.{message_rights}
 use Rattle.mach_types.specs.Messages.{Entry}
@@ -28,12 +29,12 @@ use Rattle.copyin_base.specs.Kept.{Kept, Keeps, mark_of, receive_moved, receive_
 use Rattle.copyin_base.specs.Posted.{with_notice, with_posted}
 use Rattle.copyin_base.specs.Serving.{ShowsMid}
 use Rattle.copyin_base.specs.Shows.{Agrees, Shows}
-use Rattle.copyin_base.specs.Worlds.{WorldView, port_at}
+use Rattle.copyin_base.specs.Worlds.{WorldView, port_at, sets_at}
 use Rattle.copyin_base.proofs.KeptEntries.{right_of, rights_of, message_kept}
 use Rattle.copyin_base.proofs.Told.{port_there}
 use Rattle.copyout.proofs.Fronts.{shown_empty, shown_front, shown_is_front}
-use Rattle.kernel_change.specs.Changing.{set_of, with_set, named_two, noticed, noticed_of, receives_of, touched_by, front_at, by_destroying, by_front, by_losing_with}
-use Rattle.kernel_core.proofs.Covered.{OwnTouches, none_some, one_some, set_is}
+use Rattle.kernel_change.specs.Changing.{lone, unless_several, with_sets, named_two, noticed, noticed_of, receives_of, touched_by, front_at, by_destroying, by_front, by_losing_with}
+use Rattle.kernel_core.proofs.Covered.{OwnTouches, none_some, one_some, set_is, covers_named, covers_its, unless_covers, unless_set}
 use Rattle.kernel_core.proofs.Freed.{front_same}
 
 -- ---- the rights of a message, by the ports that they are for
@@ -86,19 +87,19 @@ counted kind f one (c ∷ cs) q = go (f c) refl (one c q) (counted kind f one cs
         rw is (omega (arith, a, rest))
 
 module _ (now : ℕ) (old w : WorldView) (s mid : State) (owed : Owed) (sh : Shows old s) (shown : ShowsMid now old w mid owed) where
-  -- the set that a port is in
-  is_member : (q : ℕ) → OwesNone q owed → (p set : ℕ) → Contains (mid.sets_of p) set → set_of w p ≡ Some set
+  -- a set that a port is in
+  is_member : (q : ℕ) → OwesNone q owed → (p set : ℕ) → Contains (mid.sets_of p) set → Contains (sets_at w p) set
   is_member q (inl none) p set = set_is w mid (subst (λ (o : Owed). Agrees w (with_posted now mid o)) none shown.agrees) p (shown.lawful.no_sets p) set
   is_member q (inr one) p set =
       set_is w (with_notice now mid (token send_once q one.place, one.notice)) (subst (λ (o : Owed). Agrees w (with_posted now mid o)) one.is shown.agrees) p (shown.lawful.no_sets p) set
 
   -- the queue of one port has changed, and a notice may come to another
   covered : (a b : ℕ) (touched : Touched) → ((p : ℕ) → Some a ≡ Some p → Covers touched (Waited.Port p)) → ((p : ℕ) → Some b ≡ Some p → Covers touched (Waited.Port p)) →
-      ((p set : ℕ) → Some a ≡ Some p → set_of w p ≡ Some set → Covers touched (Waited.Set set)) → ((p set : ℕ) → Some b ≡ Some p → set_of w p ≡ Some set → Covers touched (Waited.Set set)) →
+      ((p set : ℕ) → Some a ≡ Some p → Contains (sets_at w p) set → Covers touched (Waited.Set set)) → ((p set : ℕ) → Some b ≡ Some p → Contains (sets_at w p) set → Covers touched (Waited.Set set)) →
       Changes s mid (Some a) None → OwesNone b owed → OwnTouches s mid owed touched
   covered a b touched at_a at_b set_a set_b c owes = go owes
     where
-      was : (p set : ℕ) → Contains (s.sets_of p) set → set_of w p ≡ Some set
+      was : (p set : ℕ) → Contains (s.sets_of p) set → Contains (sets_at w p) set
       was p set in_it = is_member b owes p set (subst (λ (xs : List ℕ). Contains xs set) (sym (c.sets p)) in_it)
 
       go : OwesNone b owed → OwnTouches s mid owed touched
@@ -117,25 +118,33 @@ module _ (now : ℕ) (old w : WorldView) (s mid : State) (owed : Owed) (sh : Sho
 
   module _ (p : ℕ) (e : Entry) (lives : s.live_port p ≡ true) (front : IsFront s p e) (d : DestroysFront p e s mid owed) where
     -- nobody is told
-    untold : CarriesNone receive e → CarriesNone send_once e → OwnTouches s mid owed (with_set w (Some p))
+    untold : CarriesNone receive e → CarriesNone send_once e → OwnTouches s mid owed (with_sets w (Some p))
     untold none silent =
-        covered p p (with_set w (Some p)) at_p at_p set_p set_p (destroyed_changes p e s mid owed sh.lawful lives d none) (inl (destroyed_owing_none p e s mid owed sh.lawful lives d silent))
+        covered p p (with_sets w (Some p)) at_p at_p set_p set_p (destroyed_changes p e s mid owed sh.lawful lives d none) (inl (destroyed_owing_none p e s mid owed sh.lawful lives d silent))
       where
-        at_p : (q : ℕ) → Some p ≡ Some q → Covers (with_set w (Some p)) (Waited.Port q)
-        at_p q is = (0, omega arith, ap (λ (n : ℕ). Some (Waited.Port n)) (one_some p q is))
+        at_p : (q : ℕ) → Some p ≡ Some q → Covers (with_sets w (Some p)) (Waited.Port q)
+        at_p q is = subst (λ (n : ℕ). Covers (with_sets w (Some p)) (Waited.Port n)) (one_some p q is) (covers_named p (sets_at w p))
 
-        set_p : (q set : ℕ) → Some p ≡ Some q → set_of w q ≡ Some set → Covers (with_set w (Some p)) (Waited.Set set)
-        set_p q set is in_it = let here : set_of w p ≡ Some set = ap (set_of w) (one_some p q is) ∙ in_it in rw here (1, omega arith, refl)
+        set_p : (q set : ℕ) → Some p ≡ Some q → Contains (sets_at w q) set → Covers (with_sets w (Some p)) (Waited.Set set)
+        set_p q set is in_it = covers_its p (sets_at w p) set (subst (λ (n : ℕ). Contains (sets_at w n) set) (sym (one_some p q is)) in_it)
 
     -- this port is told, unless it is dead
     told : (q : ℕ) → CarriesNone receive e → ((r : ℕ) → r ≢ q → rights_count send_once r (message_rights e.message) ≡ 0) → rights_count send_once q (message_rights e.message) ≤ 1 → OwnTouches s mid owed (named_two w p q)
     told q none others most =
         covered p q (named_two w p q)
-        (λ r is. (0, omega arith, ap (λ (n : ℕ). Some (Waited.Port n)) (one_some p r is)))
-        (λ r is. (2, omega arith, ap (λ (n : ℕ). Some (Waited.Port n)) (one_some q r is)))
-        (λ r set is in_it. let here : set_of w p ≡ Some set = ap (set_of w) (one_some p r is) ∙ in_it in rw here (1, omega arith, refl))
-        (λ r set is in_it. let here : set_of w q ≡ Some set = ap (set_of w) (one_some q r is) ∙ in_it in rw here (3, omega arith, refl))
+        (λ r is. unless_covers (sets_at w p) inner (Waited.Port r) (unless_covers (sets_at w q) both (Waited.Port r) (0, omega arith, ap (λ (n : ℕ). Some (Waited.Port n)) (one_some p r is))))
+        (λ r is. unless_covers (sets_at w p) inner (Waited.Port r) (unless_covers (sets_at w q) both (Waited.Port r) (2, omega arith, ap (λ (n : ℕ). Some (Waited.Port n)) (one_some q r is))))
+        (λ r set is in_it.
+        unless_set (sets_at w p) inner set (subst (λ (n : ℕ). Contains (sets_at w n) set) (sym (one_some p r is)) in_it) (λ one. unless_covers (sets_at w q) both (Waited.Set set) (1, omega arith, one)))
+        (λ r set is in_it.
+        unless_covers (sets_at w p) inner (Waited.Set set) (unless_set (sets_at w q) both set (subst (λ (n : ℕ). Contains (sets_at w n) set) (sym (one_some q r is)) in_it) (λ one. (3, omega arith, one))))
         (destroyed_changes p e s mid owed sh.lawful lives d none) (destroyed_owing_one p e s mid owed sh.lawful lives d q others most)
+      where
+        both : Touched
+        both = Few (Some (Waited.Port p) ∷ lone (sets_at w p) ∷ Some (Waited.Port q) ∷ lone (sets_at w q) ∷ [])
+
+        inner : Touched
+        inner = unless_several (sets_at w q) both
 
     destroyed : (cs : List Carried) → message_rights e.message ≡ rights_of cs → OwnTouches s mid owed (touched_by w (by_destroying p cs))
     destroyed cs are = go (receives_of cs) (filter_map noticed_of cs) refl refl

@@ -6,14 +6,14 @@ use Rattle.mach_types.specs.declared.calls.Reply.{Reply}
 use Rattle.mach_types.specs.declared.calls.Waited.{Waited}
 use Rattle.mach_model.specs.State.{State}
 use Rattle.mach_laws.specs.Counts.{takes_from}
-use Rattle.member_lists.specs.Lists.{without}
-use Rattle.port.specs.Ports.{PortView}
-use Rattle.port.specs.Turns.{turns_of, with_turns}
-use Rattle.copyin_base.specs.declared.code.Code.{Code}
-use Rattle.copyin_base.specs.Serving.{code_number, Completes, IsDone}
+use Rattle.port.specs.Ports.{PassesTurn, PortView}
+use Rattle.port.specs.Turns.{ReadyLists, turns_of, left, passed}
+use Rattle.mach_types.specs.declared.codes.Code.{Code}
+use Rattle.mach_types.specs.Codes.{code_number}
+use Rattle.copyin_base.specs.Serving.{Completes, IsDone}
 use Rattle.copyin_base.specs.Kept.{Kept}
 use Rattle.copyin_base.specs.Shows.{Shows}
-use Rattle.copyin_base.specs.Worlds.{WorldView, entry_at, port_at}
+use Rattle.copyin_base.specs.Worlds.{WorldView, entry_at, port_at, sets_at}
 use Rattle.destroy.specs.Stages.{SettlesIn}
 use Rattle.kernel_core.specs.Receive.{waited_at, TakesOne}
 
@@ -30,13 +30,14 @@ IsFirst w (Waited.Port p) port = Unit {0}
 abbrev pub queue_at : WorldView → (port : ℕ) → Option (List Kept)
 queue_at w port = option_map (λ (v : PortView Kept). v.queue) (port_at w port)
 
--- the port, if it has messages
-abbrev pub if_ready : (port : ℕ) → List Kept → List ℕ
-if_ready port [] = []
-if_ready port (m ∷ ms) = port ∷ []
+-- the turns once the member's message is taken by this set, and these are left: it goes to the end there, and keeps its turns in its other sets; or
+-- it has none in any
+abbrev pub turns_behind : WorldView → (set member : ℕ) → List Kept → ReadyLists
+turns_behind w set member [] = left w.ports.ready member (sets_at w member)
+turns_behind w set member (m ∷ ms) = passed w.ports.ready member set
 
--- The front message of the member whose turn it is leaves its queue. The member goes to the end of the turns, or has none where it has no more
--- messages; the others keep their order, and those of other sets theirs.
+-- The front message of the member whose turn it is leaves its queue. The member goes to the end of the turns in this set, and keeps them in its other
+-- sets; where it has no more messages it has none in any. The others keep their order.
 pub record TakesFirst (old : WorldView) (set : ℕ) (new : WorldView) : Type 0 where
   pub member : ℕ
   pub first : slice_get (in_turn old set) 0 ≡ Some member
@@ -44,9 +45,14 @@ pub record TakesFirst (old : WorldView) (set : ℕ) (new : WorldView) : Type 0 w
   pub behind : List Kept
   pub queue : queue_at old member ≡ Some (front ∷ behind)
   pub taken : queue_at new member ≡ Some behind
-  pub turns : new.ports.ready ≡ with_turns old.ports.ready set (without member (in_turn old set) ++ if_ready member behind)
+  pub turns : new.ports.ready ≡ turns_behind old set member behind
 
--- Messages come to the ends of queues: the turns stay, and behind them come members that had none.
+-- A message is taken of this port by a set: the port has its turn there after all others that are ready.
+abbrev pub PassesIn : (old : WorldView) → Waited → (port : ℕ) → (new : WorldView) → Type 0
+PassesIn old (Waited.Set set) port new = PassesTurn old.ports set port new.ports × (new ≡ record old { ports = new.ports })
+PassesIn old (Waited.Port p) port new = new ≡ old
+
+-- Messages come to the ends of queues: the turns in this set stay, and behind them come members that had none.
 pub record JoinsTurns (old : WorldView) (set : ℕ) (new : WorldView) : Type 0 where
   pub queues : (port : ℕ) → (more : List Kept) × (queue_at new port ≡ option_map (λ (ms : List Kept). ms ++ more) (queue_at old port))
   pub joined : List ℕ
@@ -54,11 +60,11 @@ pub record JoinsTurns (old : WorldView) (set : ℕ) (new : WorldView) : Type 0 w
   pub turns : in_turn new set ≡ in_turn old set ++ joined
 
 -- A receipt by a set takes from the member whose turn it is. A message that is too long stays, and its member keeps its turn; or it is destroyed, and
--- notices of its rights come to queues. Where there is none, no member has a turn. A refusal changes nothing.
+-- notices of its rights come to queues, whose ports join the turns of their sets. Where there is none, no member has a turn. A refusal changes nothing.
 abbrev pub TakesInTurn : (old : WorldView) → Waited → (large : Bool) → Reply → (new : WorldView) → Type 0
 TakesInTurn old (Waited.Set set) large (Reply.Message bytes) new = TakesFirst old set new
 TakesInTurn old (Waited.Set set) true (Reply.TooLarge n) new = new ≡ old
-TakesInTurn old (Waited.Set set) false (Reply.TooLarge n) new = (mid : WorldView) × TakesFirst old set mid × JoinsTurns mid set new
+TakesInTurn old (Waited.Set set) false (Reply.TooLarge n) new = (mid : WorldView) × TakesFirst old set mid × ((each : ℕ) → JoinsTurns mid each new)
 TakesInTurn old (Waited.Set set) large (Reply.Empty told) new = (in_turn old set ≡ []) × (new ≡ old)
 TakesInTurn old waited large (Reply.Code code) new = new ≡ old
 TakesInTurn old waited large reply new = Unit {0}

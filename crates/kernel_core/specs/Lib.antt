@@ -1,6 +1,5 @@
 pub mod Answers
 pub mod Kernels
-pub mod Send
 pub mod Receive
 pub mod InTurn
 pub mod Wanted

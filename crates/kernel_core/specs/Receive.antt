@@ -1,5 +1,5 @@
 -- What receiving takes from, and what it does to the tables.
-use Rattle.std.specs.Prelude.{◌≡◌, ◌≢◌, ℕ, ◌+◌, ◌<◌, ◌≤◌, Bool, [], length, max, Option, Some, None, false, if◌then◌else◌}
+use Rattle.std.specs.Prelude.{◌≡◌, ◌≢◌, ℕ, ◌+◌, ◌<◌, ◌≤◌, Bool, [], length, max, Option, Some, None, false, if◌then◌else◌, Contains}
 use Rattle.mach_types.specs.declared.calls.Event.{Event}
 use Rattle.mach_types.specs.declared.calls.Reply.{Reply}
 use Rattle.mach_types.specs.declared.calls.Waited.{Waited}
@@ -11,7 +11,7 @@ use Rattle.mach_model.specs.ReceiptRefusals.{ReceiptRefuses}
 use Rattle.mach_model.specs.Refusals.{again_guards, call_guards}
 use Rattle.name_space.specs.declared.Entry.{Entry}
 use Rattle.name_space.specs.declared.Entry.TheVariants as entry
-use Rattle.port.specs.Ports.{PortView}
+use Rattle.port.specs.Ports.{PortView, sets_in}
 use Rattle.copyin_base.specs.Changes.{NotesSenders, MakesNoSends}
 use Rattle.copyin_base.specs.Kept.{Kept}
 use Rattle.copyin_base.specs.Posted.{with_posted, IsLeft}
@@ -49,7 +49,7 @@ pub record IsAlone (w : WorldView) (port : ℕ) : Type 0 where
 
 abbrev pub IsOf : Waited → (port : ℕ) → PortView Kept → Type 0
 IsOf (Waited.Port q) p v = p ≡ q
-IsOf (Waited.Set set) p v = v.attributes.set ≡ Some set
+IsOf (Waited.Set set) p v = Contains (sets_in v) set
 
 pub record IsFrom (w : WorldView) (waited : Waited) (port : ℕ) : Type 0 where
   pub v : PortView Kept

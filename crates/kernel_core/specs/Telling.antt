@@ -1,28 +1,12 @@
 -- What is told of a step while it is done.
-use Rattle.std.specs.Prelude.{◌≡◌, ℕ, List, Option, Bool, if◌then◌else◌, ◌⊎◌}
+use Rattle.std.specs.Prelude.{◌≡◌, ℕ, Option, Bool, if◌then◌else◌}
 use Rattle.mach_types.specs.declared.calls.Event.{Event}
 use Rattle.mach_types.specs.declared.calls.Reply.{Reply}
 use Rattle.copyin_base.specs.Worlds.{WorldView, IsIdle}
-use Rattle.copyin.specs.declared.judge.Plan.{Plan}
 use Rattle.kernel_change.specs.declared.change.Change.{Change}
-use Rattle.kernel_change.specs.declared.change.Change.TheVariants.{Queue}
-use Rattle.kernel_change.specs.Changing.{receives_of, by_taking, by_message, by_too_long, by_receipt, Changes}
+use Rattle.kernel_change.specs.Changing.{by_message, by_too_long, by_receipt, Changes}
+use Rattle.message_send.specs.Telling.{TellsSend}
 use Rattle.kernel_core.specs.InTurn.{source}
-use Rattle.kernel_core.specs.Send.{MovesNoReceive, PlansText}
-
--- Of the message of a plan its port is told, and each port whose receive right goes along.
-abbrev pub TellsAlong : WorldView → Plan → (told : Change) → Type 0
-TellsAlong w plan told = told ≡ by_taking w plan.port (receives_of plan.message.rights)
-
--- Where no receive right goes along, its port alone is told.
-abbrev pub TellsPlan : WorldView → Plan → (told : Change) → Type 0
-TellsPlan w plan told = MovesNoReceive plan.words.body.items × (told ≡ Queue plan.port) ⊎ TellsAlong w plan told
-
--- The same of the bytes that the plan sends.
-pub record TellsSend (w : WorldView) (task : ℕ) (bytes : List ℕ) (told : Change) : Type 0 where
-  pub plan : Plan
-  pub planned : PlansText w task bytes plan
-  pub tells : TellsPlan w plan told
 
 -- by the reply to a receipt: a message that is destroyed as too long is told of
 abbrev pub by_length : WorldView → (large : Bool) → (from : Option ℕ) → Reply → (told : Change) → Change

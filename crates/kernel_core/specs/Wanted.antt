@@ -6,13 +6,13 @@ use Rattle.mach_types.specs.declared.calls.Reply.{Reply}
 use Rattle.mach_types.specs.declared.calls.Waited.{Waited}
 use Rattle.mach_types.specs.declared.codes.KernReturn.TheVariants.{ResourceShortage}
 use Rattle.mach_types.specs.declared.codes.MsgReturn.TheVariants.{SendNoBuffer, ReceiveBodyErrorMemory}
-use Rattle.mach_types.specs.Codes.{kern_number, msg_number}
+use Rattle.mach_types.specs.Codes.{kern_number, msg_number, code_number}
 use Rattle.mach_model.specs.State.{State}
 use Rattle.mach_laws.specs.Counts.{accepts, takes_from}
 use Rattle.mach_laws.specs.Queued.{MakesAsNeeded}
 use Rattle.rights.specs.Unused.{IsUnusedOfAll}
-use Rattle.copyin_base.specs.declared.code.Code.{Code}
-use Rattle.copyin_base.specs.Serving.{code_number, IsDone, Serves}
+use Rattle.mach_types.specs.declared.codes.Code.{Code}
+use Rattle.copyin_base.specs.Serving.{IsDone, Serves}
 use Rattle.copyin_base.specs.Shows.{Shows}
 use Rattle.copyin_base.specs.Wanted.{room_of}
 use Rattle.copyin_base.specs.Worlds.{WorldView, entry_at}

@@ -1,17 +1,15 @@
 //! A kernel, and its steps.
-ghost use Rattle.std.specs.Prelude.{◌≡◌, ◌≢◌, ◌≤◌, ◌⊎◌, ℕ, List, true, Err, None, IfOk, IfErr, OnOk, OnErr, MatchBool};
+ghost use Rattle.std.specs.Prelude.{◌≡◌, ◌≤◌, ◌⊎◌, ℕ, List, true, Err, None, IfOk, IfErr, OnOk, OnErr, MatchBool};
 ghost use Rattle.mach_types.specs.declared.codes.KernReturn.TheVariants as kern;
-ghost use Rattle.mach_types.specs.declared.profiles.Profile.TheVariants.{Three};
 ghost use Rattle.mach_types.specs.Numbers.{most_bytes};
-ghost use Rattle.mach_types.specs.Codes.{kern_number};
+ghost use Rattle.mach_types.specs.Codes.{kern_number, code_number};
 ghost use Rattle.mach_types.specs.declared.calls.Event.{Event as AnyEvent};
 ghost use Rattle.mach_types.specs.declared.calls.Reply.{Reply as AnyReply};
 ghost use Rattle.mach_model.specs.State.{State, opening_in};
 ghost use Rattle.mach_model.specs.Machine.{opening, Step};
 ghost use Rattle.mach_laws.specs.Judging.{IsBySet};
 ghost use Rattle.mach_laws.specs.Queued.{unused_onces};
-ghost use Rattle.copyin_base.specs.declared.code.Code.TheVariants.{Kern};
-ghost use Rattle.copyin_base.specs.Serving.{HasTasks, Declines, Serves, code_number};
+ghost use Rattle.copyin_base.specs.Serving.{HasTasks, Declines, Serves};
 ghost use Rattle.rights.specs.Unused.{IsUnusedOfAll};
 ghost use Rattle.copyin_base.specs.Shows.{Shows, SlotsSuffice};
 ghost use Rattle.copyin_base.specs.Stands.{Stands};
@@ -24,9 +22,10 @@ ghost use Rattle.transfer.specs.Wanted.{WantsToInsert, WantsToExtract};
 ghost use Rattle.kernel_core.specs.Answers.{Answers};
 ghost use Rattle.kernel_core.specs.Bounds.{most_told, IsWithin};
 ghost use Rattle.kernel_change.specs.declared.change.Change.TheVariants.{Nothing};
-ghost use Rattle.kernel_change.specs.Changing.{few, by_losing_one, by_moving, ByLosingAll, by_handing, by_request, EndsAs};
+ghost use Rattle.kernel_change.specs.Changing.{few, by_losing_one, by_moving, by_pairing, ByLosingAll, by_handing, by_request, EndsAs};
 ghost use Rattle.kernel_core.specs.Choices.{SameButTurns};
 ghost use Rattle.kernel_core.specs.InTurn.{StepsInTurn};
+ghost use Rattle.kernel_core_base.specs.Sets.{WantsToEnter};
 ghost use Rattle.kernel_core.specs.Kernels.{TakesTurns};
 ghost use Rattle.kernel_core.specs.Limits.{HasRoomFor, IsNearLimit};
 ghost use Rattle.kernel_core.specs.MemoryCodes.{TellsMemoryCode};
@@ -36,18 +35,19 @@ ghost use Rattle.kernel_core.specs.Wanted.{Wanted, Spares, Performs};
 
 use crate::memory::{has_room_for, tell_memory_code};
 use crate::receive::{Buffer, receive, receive_again};
-use crate::send::send;
 use crate::{bound, choice};
-use copyin_base::{Code, World};
+use copyin_base::World;
 use destroy::{is_idle, settle};
 use kernel_change::Change;
 use kernel_core_base::{
-    allocate, allocate_name, create_task, deallocate, destroy, get_refs, has_tasks, list_names,
-    mod_refs, move_member, name_type, receive_status, rename, set_mscount, set_qlimit, set_seqno,
-    set_status, terminate_task,
+    allocate, allocate_name, create_task, deallocate, destroy, extract_member, get_refs, has_tasks,
+    insert_member, list_names, mod_refs, move_member, name_type, rename, set_status,
+    terminate_task,
 };
-use mach_types::{Event, KernReturn, Name, Profile, Reply, TaskId, Touched};
+use mach_types::{Code, Event, KernReturn, Name, Profile, Reply, TaskId, Touched};
+use message_send::send;
 use notifications::{Asked, request_notification};
+use receive_right::{receive_status, set_mscount, set_qlimit, set_seqno};
 use std::alloc::{AllocError, Global};
 use std::marker::Model;
 use transfer::{TaskName, extract, insert};
@@ -75,7 +75,7 @@ impl Model for Kernel {
     ghost use Rattle.mach_types.specs.contracts.identities.PortId as port_id;
     ghost use Rattle.request_table.specs.contracts.Request as request;
     ghost use Rattle.copyin_base.specs.Kept.{kept_code};
-    ghost use Rattle.copyin_base.specs.Requests.{request_tables_code};
+    ghost use Rattle.request_table.specs.Tables.{request_tables_code};
     ghost use Rattle.copyin_base.specs.contracts.Carried as carried;
     ghost use Rattle.mach_types.specs.contracts.profiles.Profile as profile_of;
     ghost use Rattle.copyin_base.specs.Worlds.{world_code};
@@ -104,10 +104,9 @@ impl Kernel {
         Kernel::with_profile(alloc, Profile::One)
     }
 
-    /// A kernel of this profile, in which nothing was made yet: in the second fresh names have a
-    /// generation. Takes no memory.
+    /// A kernel of this profile, in which nothing was made yet: in the second and the third fresh names have
+    /// a generation, and in the third a port may be in several sets. Takes no memory.
     pub fn with_profile(alloc: Global, profile: Profile) -> Kernel
-        requires one_set { profile ≢ Three }
         ensures shows { Shows result.tables (opening_in profile) }
         ensures none { result.tables.ports.spare ≡ 0 }
         ensures turns { result.turns ≡ 0 }
@@ -253,7 +252,8 @@ impl Kernel {
     /// None before the first step and after a refusal. None or few after:
     ///
     /// - a call that makes or renames something, that asks, or that sets a limit or a count;
-    /// - a port that went to another set, or a right that went to another task;
+    /// - a port that entered a set beside others, or left one of several;
+    /// - a port that went to another set, or a right that went to another task, where the port was in one set at most;
     /// - references of send rights or dead names that were dropped, or a send-once right that was lost;
     /// - a request for a notice;
     /// - a message that was sent with one receive right at most, or with two or three that fit into the four places
@@ -394,15 +394,49 @@ fn put_in_set(
     ensures tells { OnOk result (told.new ≡ by_moving world.old task member) }
 {
     let moved = move_member(world, task, member, after)?;
-    *told = Change::by_leaving(moved.port, moved.left);
+    *told = Change::by_moving_from(moved.port, moved.left);
     Ok(Reply::Code(0))
 }
 
-/// Refuses a call that is for ports in several sets: here a port is in one set at most.
-fn refuse_several() -> Result<Reply, Code>
-    ensures { result ≡ Err (Kern kern.InvalidArgument) }
+/// Puts a port into a set beside those that it is in, as [`insert_member`]. In `told` it leaves what that changes.
+#[inline(never)]
+fn enter_set(
+    world: &mut World,
+    task: TaskId,
+    member: Name,
+    set: Name,
+    told: &mut Change,
+) -> Result<Reply, Code>
+    requires there { HasTask world.old task }
+    requires stands { Stands world.old }
+    ensures serves { Serves world.old (AnyEvent.InsertMember task member set) result world.new }
+    ensures spares { KeepsSpares world.old world.new }
+    ensures wanted { IfErr result (λ code. code_number code ≡ kern_number kern.ResourceShortage → WantsToEnter world.old task member) }
+    ensures tells { OnOk result (told.new ≡ by_pairing world.old task member set) }
 {
-    Err(Code::Kern(KernReturn::InvalidArgument))
+    let pair = insert_member(world, task, member, set)?;
+    *told = Change::Member(pair.port, pair.set);
+    Ok(Reply::Code(0))
+}
+
+/// Takes a port out of a set, as [`extract_member`]. In `told` it leaves what that changes.
+#[inline(never)]
+fn leave_set(
+    world: &mut World,
+    task: TaskId,
+    member: Name,
+    set: Name,
+    told: &mut Change,
+) -> Result<Reply, Code>
+    requires there { HasTask world.old task }
+    requires stands { Stands world.old }
+    ensures serves { Serves world.old (AnyEvent.ExtractMember task member set) result world.new }
+    ensures spares { KeepsSpares world.old world.new }
+    ensures tells { OnOk result (told.new ≡ by_pairing world.old task member set) }
+{
+    let pair = extract_member(world, task, member, set)?;
+    *told = Change::Member(pair.port, pair.set);
+    Ok(Reply::Code(0))
 }
 
 /// Hands a right of a task to another by its own name, as [`insert`]. In `told` it leaves what that changes.
@@ -503,7 +537,8 @@ fn serve(world: &mut World, alloc: Global, event: &Event, told: &mut Change) -> 
         Event::ReceiveStatus(task, name) => receive_status(world, *task, *name),
         Event::SetStatus(task, name) => set_status(world, alloc, *task, *name),
         Event::MoveMember(task, member, after) => put_in_set(world, *task, *member, *after, told),
-        Event::InsertMember(..) | Event::ExtractMember(..) => refuse_several(),
+        Event::InsertMember(task, member, set) => enter_set(world, *task, *member, *set, told),
+        Event::ExtractMember(task, member, set) => leave_set(world, *task, *member, *set, told),
         Event::SetQlimit(task, name, limit) => {
             *told = Change::PortNamed(*task, *name);
             set_qlimit(world, *task, *name, *limit)

@@ -13,7 +13,6 @@ mod kernel;
 mod memory;
 mod receive;
 mod runs;
-mod send;
 
 pub use kernel::Kernel;
 pub use runs::{run, run_with};

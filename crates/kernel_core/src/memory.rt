@@ -5,12 +5,12 @@ ghost use Rattle.mach_types.specs.declared.calls.Waited.TheVariants as AnyWaited
 ghost use Rattle.mach_types.specs.declared.codes.MsgReturn.TheVariants as msg;
 ghost use Rattle.mach_types.specs.declared.codes.KernReturn.TheVariants as kern;
 ghost use Rattle.mach_types.specs.Numbers.{most_rights};
-ghost use Rattle.mach_types.specs.Codes.{kern_number, msg_number};
+ghost use Rattle.mach_types.specs.Codes.{kern_number, msg_number, code_number};
 ghost use Rattle.mach_model.specs.State.{State, lookup};
 ghost use Rattle.mach_model.specs.NameGuards.{IsSet};
 ghost use Rattle.mach_model.specs.Refusals.{again_guards};
 ghost use Rattle.mach_laws.specs.Judging.{IsBySet};
-ghost use Rattle.copyin_base.specs.Serving.{code_number, HasTasks, IsAllowed};
+ghost use Rattle.copyin_base.specs.Serving.{HasTasks, IsAllowed};
 ghost use Rattle.copyin_base.specs.Shows.{Shows};
 ghost use Rattle.copyin_base.specs.Stands.{Stands};
 ghost use Rattle.copyin_base.specs.Worlds.{HasTask};
@@ -20,12 +20,13 @@ ghost use Rattle.kernel_core.specs.Receive.{StaysFor};
 ghost use Rattle.kernel_core.specs.Wanted.{memory_code};
 
 use crate::receive::{find_source, judge_again};
-use copyin_base::{Code, World};
+use copyin_base::World;
 use kernel_core_base::{
-    check_allocate, check_allocate_name, check_create_task, check_rename, check_set_status,
+    check_allocate, check_allocate_name, check_create_task, check_insert_member, check_rename,
+    check_set_status,
 };
 use mach_types::limits::MOST_RIGHTS;
-use mach_types::{Bytes, Event, KernReturn, MsgReturn, Name, PortId, TaskId, Waited};
+use mach_types::{Bytes, Code, Event, KernReturn, MsgReturn, Name, PortId, TaskId, Waited};
 use message_codec::parse;
 use notifications::{Asked, check_request};
 use std::alloc::{AllocError, Global};
@@ -101,6 +102,9 @@ fn may_lack_room(world: &World, event: &Event) -> bool
         Event::Names(_) => true,
         Event::Rename(task, from, to) => check_rename(world, *task, *from, *to).is_ok(),
         Event::SetStatus(task, name) => check_set_status(world, *task, *name).is_ok(),
+        Event::InsertMember(task, member, set) => {
+            check_insert_member(world, *task, *member, *set).is_ok()
+        }
         Event::InsertRight(task, name, from, poly, number) => {
             let to = TaskName::new(*task, *name);
             let from = TaskName::new(*from, *poly);

@@ -4,24 +4,24 @@ ghost use Rattle.std.specs.Option.{option_and_then};
 ghost use Rattle.mach_types.specs.declared.codes.MsgReturn.TheVariants as msg;
 ghost use Rattle.mach_types.specs.declared.calls.Event.{Event as AnyEvent};
 ghost use Rattle.mach_types.specs.declared.calls.Waited.TheVariants as AnyWaited;
-ghost use Rattle.mach_types.specs.Codes.{msg_number};
+ghost use Rattle.mach_types.specs.Codes.{msg_number, code_number};
 ghost use Rattle.mach_model.specs.Refusals.{again_guards};
-ghost use Rattle.copyin_base.specs.Serving.{code_number, Serves, IsRefused, IsAllowed};
+ghost use Rattle.copyin_base.specs.Serving.{Serves, IsRefused, IsAllowed};
 ghost use Rattle.copyin_base.specs.Finds.{FindsReceive};
 ghost use Rattle.copyin_base.specs.Stands.{Stands};
-ghost use Rattle.copyin_base.specs.Worlds.{entry_at, port_at, HasTask};
+ghost use Rattle.copyin_base.specs.Worlds.{WorldView, entry_at, port_at, HasTask};
 ghost use Rattle.kernel_change.specs.declared.change.Change.TheVariants.{Nothing};
 ghost use Rattle.kernel_change.specs.Changing.{by_receipt, by_too_long};
-ghost use Rattle.kernel_core.specs.InTurn.{IsFirst, source, TakesInTurn, KeepsTurns, CompletesInTurn, told_by};
+ghost use Rattle.kernel_core.specs.InTurn.{IsFirst, PassesIn, source, TakesInTurn, KeepsTurns, CompletesInTurn, told_by};
 ghost use Rattle.kernel_core.specs.Receive.{named_guards, Sources, IsFrom, IsMember, IsAlone, HasMessage, NoneWaits, IsReceipt, StaysFor, waited_at, FreesSlot};
 ghost use Rattle.kernel_core.specs.Telling.{by_length, with_message};
 ghost use Rattle.kernel_core.specs.Wanted.{WantsToTake, WantsMemory, LeavesSpares};
 ghost use Rattle.notifications.specs.Destroying.{CanDestroy, DestroysMessage};
 
-use copyin_base::{Code, World};
+use copyin_base::World;
 use copyout::Refusal;
 use kernel_change::Change;
-use mach_types::{MsgReturn, Name, PortId, Reply, SetId, TaskId, Waited};
+use mach_types::{Code, MsgReturn, Name, PortId, Reply, SetId, TaskId, Waited};
 use notifications::lose_message;
 use std::alloc::Global;
 
@@ -69,10 +69,20 @@ pub(crate) fn receive(
     ensures takes { IfOk result (λ reply. CompletesInTurn world.old (AnyEvent.Receive task name buffer.room buffer.large) reply world.new) }
 {
     let Source { waited, ready } = find_source(world, task, name)?;
-    let name = known_name(&waited, name);
+    // A set has its own copy of what follows: a receive by a port then keeps nothing of what it waits for until its
+    // message is taken.
+    let Waited::Port(port) = waited else {
+        let name = None;
+        let origin = Origin {
+            waited,
+            name,
+            ready,
+        };
+        return receive_from(world, alloc, task, origin, buffer, told);
+    };
     let origin = Origin {
-        waited,
-        name,
+        waited: Waited::Port(port),
+        name: Some(name),
         ready,
     };
     let reply = take(world, alloc, task, origin, buffer, told)?;
@@ -115,9 +125,7 @@ pub(crate) fn receive_again(
         name,
         ready,
     };
-    let reply = take(world, alloc, task, origin, buffer, told)?;
-    tell_message(task, &reply, told);
-    Ok(reply)
+    receive_from(world, alloc, task, origin, buffer, told)
 }
 
 // ---- where from
@@ -140,16 +148,6 @@ pub(crate) struct Source {
     pub(crate) waited: Waited,
     /// The port that it takes its message from, if one has any.
     pub(crate) ready: Option<PortId>,
-}
-
-/// The name that stands for this, where it is a port's.
-fn known_name(waited: &Waited, name: Name) -> Option<Name>
-    ensures { IfSome result (λ known. (known ≡ name) × ((port : ℕ) × (waited.now ≡ AnyWaited.Port port))) }
-{
-    match waited {
-        Waited::Port(_) => Some(name),
-        Waited::Set(_) => None,
-    }
 }
 
 /// What a receive by the name takes from: a port that is in no set, whose receive right is under it, or
@@ -299,14 +297,46 @@ fn take(
     };
     let name = name_of(world, task, port, origin.name);
     match copyout::receive(world, alloc, task, port, name, buffer.room) {
-        Ok(bytes) => Ok(Reply::Message(bytes)),
+        Ok(bytes) => {
+            pass_turn(world, origin.waited, port);
+            Ok(Reply::Message(bytes))
+        }
         Err(Refusal::TooLarge(length)) => {
-            lose_or_keep(world, port, buffer.large, told);
+            lose_or_keep(world, origin.waited, port, buffer.large, told);
             Ok(Reply::TooLarge(length))
         }
         Err(Refusal::Names) => Err(MsgReturn::ReceiveBodyErrorNames),
         Err(Refusal::Memory) => Err(MsgReturn::ReceiveBodyErrorMemory),
     }
+}
+
+/// Receives from what the task may take from, as [`take`]. In `told` it leaves what a message changed that was received
+/// or destroyed.
+#[inline(always)]
+fn receive_from(
+    world: &mut World,
+    alloc: Global,
+    task: TaskId,
+    origin: Origin,
+    buffer: Buffer,
+    told: &mut Change,
+) -> Result<Reply, Code>
+    requires there { HasTask world.old task }
+    requires stands { Stands world.old }
+    requires may { IsAllowed world.old (λ s. again_guards s task origin.waited) }
+    requires known { IfSome origin.name (λ name. (port : ℕ) → IsFrom world.old origin.waited port → FindsReceive world.old task name port) }
+    requires ready { MatchOption origin.ready (NoneWaits world.old origin.waited) (HasMessage world.old origin.waited) }
+    requires first { IsFirst world.old origin.waited origin.ready }
+    ensures ok { IfOk result (λ reply. IsReceipt world.old task origin.waited buffer.room buffer.large origin.ready reply world.new) }
+    ensures err { IfErr result (λ code. (world.new ≡ world.old) × StaysFor world.old task origin.waited buffer.room (code_number code)) }
+    ensures wanted { IfErr result (λ code. code_number code ≡ msg_number msg.ReceiveBodyErrorMemory → WantsToTake world.old task origin.waited) }
+    ensures spares { IfOk result (λ reply. FreesSlot world.old buffer.large reply world.new) }
+    ensures turns { IfOk result (λ reply. TakesInTurn world.old origin.waited buffer.large reply world.new) }
+    ensures tells { IfOk result (λ reply. told.new ≡ with_message task reply (by_length world.old buffer.large origin.ready reply told.old)) }
+{
+    let reply = take(world, alloc, task, origin, buffer, told)?;
+    tell_message(task, &reply, told);
+    Ok(reply)
 }
 
 /// Leaves in `told` what a message changed that was received. After another reply `told` stays.
@@ -319,15 +349,27 @@ fn tell_message(task: TaskId, reply: &Reply, told: &mut Change)
     }
 }
 
+/// A message was taken from the port: where it was received by a set, the port has its turn there after all others
+/// that are ready.
+#[inline(always)]
+fn pass_turn(world: &mut World, waited: Waited, port: PortId)
+    ensures { PassesIn world.old waited port world.new }
+{
+    if let Waited::Set(set) = waited {
+        world.pass_turn(set, port);
+    }
+}
+
 /// A message that is too long is destroyed, unless it was asked that it stay. In `told` it leaves what that changes.
 #[inline(never)]
-fn lose_or_keep(world: &mut World, port: PortId, large: bool, told: &mut Change)
+fn lose_or_keep(world: &mut World, waited: Waited, port: PortId, large: bool, told: &mut Change)
     requires { CanDestroy world.old port }
-    ensures ends { MatchBool large (world.new ≡ world.old) (DestroysMessage world.old port world.new) }
+    ensures ends { MatchBool large (world.new ≡ world.old) ((mid : WorldView) × PassesIn world.old waited port mid × DestroysMessage mid port world.new) }
     ensures tells { told.new ≡ (if large then told.old else by_too_long world.old (Some port)) }
 {
     if !large {
         *told = Change::by_too_long(world, port);
+        pass_turn(world, waited, port);
         lose_message(world, port);
     }
 }

@@ -1,6 +1,6 @@
 //! Whole runs.
-ghost use Rattle.std.specs.Prelude.{◌≢◌, ◌≤◌, IfOk};
-ghost use Rattle.mach_types.specs.declared.profiles.Profile.TheVariants.{One, Three};
+ghost use Rattle.std.specs.Prelude.{◌≤◌, IfOk};
+ghost use Rattle.mach_types.specs.declared.profiles.Profile.TheVariants.{One};
 ghost use Rattle.mach_model.specs.State.{State};
 ghost use Rattle.mach_model.specs.Machine.{Run, RunIn};
 ghost use Rattle.mach_laws.specs.Headline.{Headline};
@@ -38,7 +38,6 @@ pub fn run_with(
     profile: Profile,
     events: Vec<Event>,
 ) -> Result<(Kernel, Vec<Reply>), AllocError>
-    requires one_set { profile ≢ Three }
     ensures { IfOk result (λ done. (s : State) × RunIn profile events.items done.1.items s × Shows done.0.tables s
         × (h : Headline profile events.items done.1.items s) × JudgedPath profile h.stages s
         × SlotsWithin done.0.tables.ports.spare h.stages s

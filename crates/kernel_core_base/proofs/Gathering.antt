@@ -9,15 +9,19 @@ use Rattle.std.proofs.lemmas.Cmp.{nat_cmp_total}
 use Rattle.std.proofs.lemmas.List.Elements.{All-contains, filter_passes, Contains-push_cases}
 use Rattle.std.proofs.lemmas.Map.Lookups.{btree_set_from_contains}
 use Rattle.std.proofs.lemmas.Map.Views.{btree_set_contains_iff}
+use Rattle.std.specs.Option.{option_and_then}
+use Rattle.name_space.specs.declared.Entry.{Entry}
+use Rattle.name_space.specs.Entry.{port_named, receive_named}
 use Rattle.name_space.specs.Names.{Names, port_at}
-use Rattle.port.specs.Ports.{PortView}
+use Rattle.port.specs.Ports.{IsIn, PortView, sets_in}
 use Rattle.copyin_base.specs.Kept.{Kept}
 use Rattle.copyin_base.specs.Worlds.{WorldView}
 use Rattle.copyin_base.specs.Worlds as world
+use Rattle.copyin_base.proofs.InSets.{in_set, set_has}
 use Rattle.copyin_base.proofs.Told.{receive_has}
 use Rattle.kernel_core_base.specs.Gathered.{IsNoted, AreGathered}
 use Rattle.kernel_core_base.specs.Sets.{is_member, members_in}
-use Rattle.kernel_core_base.proofs.Members.{same_key, kept_key, kept_sorted, member_is, in_set_by}
+use Rattle.kernel_core_base.proofs.Members.{same_key, kept_key, kept_sorted, is_one, member_is}
 
 no_true : false ≡ true → ⊥
 no_true e = cc
@@ -43,6 +47,14 @@ keeps false old e = e
 pub noted_some : (old new : BTreeSet ℕ) (k : ℕ) → IsOrdered nat_cmp new → Updates nat_cmp old new k true → IsNoted old new (Some k)
 noted_some old new k ordered up = grind (arith, either, same_key, keeps)
 
+-- ---- one name that is looked at
+
+pub stands_for : (names : Names) (n : ℕ) (e : Entry) (p : ℕ) → map.get names n ≡ Some e → receive_named e ≡ Some p → port_at names n ≡ Some p
+stands_for names n e p under named = ap (option_and_then port_named) under ∙ (receive_has e p named).0
+
+pub is_of_set : (w : WorldView) (set : ℕ) (o : Option Entry) (e : Entry) (p : ℕ) → o ≡ Some e → receive_named e ≡ Some p → IsIn w.ports set p → is_member w set o ≡ true
+is_of_set w set o e p under named i = is_one w set o record { e = e; under = under; p = p; named = named; in_it = set_has w p set i.view i.there i.member }
+
 -- ---- all names
 
 pub gathered_none : (w : WorldView) (set : ℕ) (names : Names) (numbers : BTreeSet ℕ) → IsOrdered nat_cmp numbers → IsEmpty numbers → AreGathered w set names [] numbers
@@ -65,12 +77,15 @@ gathered_more w set names ports p old new name g noted found only = record {
 }
 
 -- what a member's name is for is one of the set's ports
-named_port : (w : WorldView) (set : ℕ) (names : Names) (ports : List ℕ) → ((p : ℕ) (v : PortView Kept) → world.port_at w p ≡ Some v → v.attributes.set ≡ Some set → Contains ports p)
+named_port : (w : WorldView) (set : ℕ) (names : Names) (ports : List ℕ) → ((p : ℕ) (v : PortView Kept) → world.port_at w p ≡ Some v → Contains (sets_in v) set → Contains ports p)
     → (n : ℕ) → is_member w set (map.get names n) ≡ true → (p : ℕ) × Contains ports p × (port_at names n ≡ Some p)
-named_port w set names ports all n is = grind (arith, member_is, in_set_by, receive_has)
+named_port w set names ports all n is =
+    let m = member_is w set (map.get names n) is in
+    let i = in_set w m.p set m.in_it in
+    (m.p, all m.p i.view i.there i.member, stands_for names n m.e m.p m.under m.named)
 
 pub gathered_all : (w : WorldView) (set : ℕ) (names : Names) (ports : List ℕ) (numbers : BTreeSet ℕ) → AreGathered w set names ports numbers
-    → ((p : ℕ) (v : PortView Kept) → world.port_at w p ≡ Some v → v.attributes.set ≡ Some set → Contains ports p) → numbers.keys ≡ members_in w set names
+    → ((p : ℕ) (v : PortView Kept) → world.port_at w p ≡ Some v → Contains (sets_in v) set → Contains ports p) → numbers.keys ≡ members_in w set names
 gathered_all w set names ports numbers g all = btree_set_from_contains nat_cmp_total numbers listed g.ordered (kept_sorted names test) (λ n. same_bool (contains nat_cmp numbers n) (contains nat_cmp listed n) (to n) (back n)) equal_same
   where
     test : ℕ → Bool

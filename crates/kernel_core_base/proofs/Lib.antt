@@ -7,9 +7,8 @@ pub mod ReferencesSet
 pub mod NamesListed
 pub mod Renamed
 pub mod Members
+pub mod Paired
 pub mod Gathering
-pub mod ReceiveRight
-pub mod Holding
 pub mod ReceiveTaken
 pub mod ReferencesTold
 pub mod ReferencesJudged

@@ -1,5 +1,5 @@
 -- The names of a set's members.
-use Rattle.std.proofs.Common.{◌≡◌, ℕ, zero, suc, ◌<◌, Bool, true, false, ◌&&◌, T, List, [], ◌∷◌, refl, sym, ap, ◌∙◌, arith, map as list_map, Option, Some, None, subst, inl, inr, length}
+use Rattle.std.proofs.Common.{◌≡◌, ℕ, zero, suc, ◌<◌, Bool, true, false, ◌&&◌, T, List, [], ◌∷◌, refl, sym, ap, ◌∙◌, arith, map as list_map, Option, Some, None, subst, inl, inr}
 use Rattle.std.specs.Prelude.{AllPairs, All, Contains, filter, is_some, ◌≢◌}
 use Rattle.std.specs.declared.cmp.Ordering.{Ordering}
 use Rattle.std.specs.declared.cmp.Ordering.TheVariants.{Less, Equal, Greater}
@@ -12,9 +12,8 @@ use Rattle.std.specs.FinMap.{nat_cmp-IsAntisymmetric}
 use Rattle.std.specs.FinMap.Entries.{is_sorted, below_all}
 use Rattle.std.proofs.lemmas.List.Kept.{AllPairs-cons, AllPairs-filter, IsStrictlySortedBy-filter}
 use Rattle.std.proofs.lemmas.Map.Views.{any-filter_same, Contains-from_any}
-use Rattle.std.specs.Option.{option_map, option_to_list, option_and_then}
-use Rattle.std.proofs.lemmas.Bool.Decides.{eqb_tells}
-use Rattle.std.proofs.lemmas.List.Elements.{filter_passes}
+use Rattle.std.specs.Option.{option_map, option_to_list}
+use Rattle.std.proofs.lemmas.List.Elements.{All-contains, filter_passes}
 use Rattle.mach_types.specs.declared.calls.Event.{Event}
 use Rattle.mach_types.specs.declared.calls.Reply.{Reply}
 use Rattle.mach_types.specs.declared.codes.KernReturn.TheVariants.{ResourceShortage, NotInSet}
@@ -30,21 +29,18 @@ use Rattle.name_space.specs.declared.Entry.{Entry}
 use Rattle.name_space.specs.declared.Entry.TheVariants as entry
 use Rattle.name_space.specs.Entry.{port_named, has_receive, receive_named}
 use Rattle.name_space.specs.Names.{SpaceView}
-use Rattle.port.specs.Ports.{PortView}
-use Rattle.port.specs.declared.Attributes.{Attributes}
+use Rattle.port_base.specs.Turns.{contains_number}
+use Rattle.port.proofs.Each.{contains_or_not, is_contained}
 use Rattle.copyin_base.specs.Serving.{IsAllowed, Completes, Declines, IsRefused}
 use Rattle.copyin_base.proofs.Acting.{done, looked, refused_later}
-use Rattle.copyin_base.specs.Kept.{Kept}
-use Rattle.copyin_base.specs.Worlds.{WorldView, entry_in, entry_at, port_at, space_at, HasTask}
+use Rattle.copyin_base.specs.Worlds.{WorldView, entry_in, entry_at, sets_at, space_at, HasTask}
 use Rattle.copyin_base.specs.Shows.{target_of, Agrees, Shows}
 use Rattle.copyin_base.proofs.Told.{port_of, names_port, used, found, port_there}
-use Rattle.copyin_base.specs.Changes.{HasAttributes, SetsAttributes}
 use Rattle.copyin_base.specs.Finds.{FindsReceive}
-use Rattle.copyin_base.specs.Stands.{Stands}
-use Rattle.copyin_base.proofs.AttributesSet.{set_agrees}
-use Rattle.copyin_base.proofs.Finding.{finds_used, finds_port, finds_receive, receive_port_lives, receive_port_there}
-use Rattle.kernel_core_base.specs.Sets.{set_of_port, is_set, is_member, members_in, GoesTo, MayMove}
-use Rattle.kernel_core_base.proofs.ReceiveRight.{sets_so}
+use Rattle.copyin_base.proofs.InSets.{in_set, sets_are}
+use Rattle.copyin_base.proofs.SetsChanged.{PutsIn, in_sets_so}
+use Rattle.copyin_base.proofs.Finding.{finds_used, finds_port, finds_receive, receive_port_lives}
+use Rattle.kernel_core_base.specs.Sets.{is_in, is_member, members_in, GoesTo, MayMove}
 
 -- ---- The keys of a map that pass a test: they rise, and each key that passes is among them.
 
@@ -117,54 +113,39 @@ pub record Member (w : WorldView) (set : ℕ) (o : Option Entry) : Type 0 where
   pub under : o ≡ Some e
   pub p : ℕ
   pub named : receive_named e ≡ Some p
-  pub in_it : set_of_port w p ≡ Some set
+  pub in_it : Contains (sets_at w p) set
 
-none_is : (set : ℕ) → is_set None set ≡ true → ⊥
-none_is set e = cc
+pub not_true : false ≡ true → ⊥
+not_true e = cc
 
-same_set : (o : Option ℕ) (set : ℕ) → is_set o set ≡ true → o ≡ Some set
-same_set None set e = absurd (none_is set e)
-same_set (Some t) set e = grind arith
-
-is_itself : (set : ℕ) → is_set (Some set) set ≡ true
-is_itself set = elim (eqb_tells set set) [ inl h ↦ h.0 | inr h ↦ absurd (h.1 refl) ]
+is_listed : (xs : List ℕ) (x : ℕ) → contains_number xs x ≡ true → Contains xs x
+is_listed xs x is = elim (contains_or_not xs x) [
+  | inl h ↦ h.0
+  | inr h ↦ absurd (not_true (sym h.1 ∙ is))
+]
 
 pub member_is : (w : WorldView) (set : ℕ) (o : Option Entry) → is_member w set o ≡ true → Member w set o
-member_is w set None e = absurd (none_is set e)
-member_is w set (Some x) e = grind (arith, none_is, same_set)
+member_is w set None is = absurd (not_true is)
+member_is w set (Some e) is = go (receive_named e) refl is
+  where
+    go : (o : Option ℕ) → receive_named e ≡ o → is_in w set o ≡ true → Member w set (Some e)
+    go None named is = absurd (not_true is)
+    go (Some p) named is = record { e = e; under = refl; p = p; named = named; in_it = is_listed (sets_at w p) set is }
 
 pub is_one : (w : WorldView) (set : ℕ) (o : Option Entry) → Member w set o → is_member w set o ≡ true
-is_one w set o m = grind (arith, is_itself)
+is_one w set o m = ap (is_member w set) m.under ∙ ap (is_in w set) m.named ∙ is_contained (sets_at w m.p) set m.in_it
 
 -- ---- the sets of a port
 
-pub record InSet (w : WorldView) (p set : ℕ) : Type 0 where
-  pub v : PortView Kept
-  pub there : port_at w p ≡ Some v
-  pub is : v.attributes.set ≡ Some set
+-- they are those of the machine
+pub sets_shown : (w : WorldView) (s : State) → Agrees w s → (p : ℕ) → s.live_port p ≡ true → s.sets_of p ≡ sets_at w p
+sets_shown w s a p live = let h = port_there w s a p live in sym (sets_are w p h.0 h.1 ∙ (a.ports p h.0 h.1).sets)
 
-pub in_set_by : (w : WorldView) (p set : ℕ) → set_of_port w p ≡ Some set → InSet w p set
-in_set_by w p set e = grind arith
+pub set_there : (w : WorldView) (s : State) → Agrees w s → (p set : ℕ) → Contains (sets_at w p) set → Contains (s.sets_of p) set
+set_there w s a p set has = let m = in_set w p set has in subst (λ (xs : List ℕ). Contains xs set) ((a.ports p m.view m.there).sets) m.member
 
-pub sets_are : (w : WorldView) (s : State) → Agrees w s → (p set : ℕ) → set_of_port w p ≡ Some set → s.sets_of p ≡ set ∷ []
-sets_are w s a p set e = let h = in_set_by w p set e in sym ((a.ports p h.v h.there).sets) ∙ ap option_to_list h.is
-
-pub sets_none : (w : WorldView) (s : State) → Agrees w s → (p : ℕ) → s.live_port p ≡ true → set_of_port w p ≡ None → s.sets_of p ≡ []
-sets_none w s a p live e =
-    let h = port_there w s a p live in
-    let none : (h.0).attributes.set ≡ None = sym (ap (option_and_then (λ (v : PortView Kept). v.attributes.set)) h.1) ∙ e in
-    sym ((a.ports p h.0 h.1).sets) ∙ ap option_to_list none
-
-listed_once : (o : Option ℕ) (set : ℕ) → Contains (option_to_list o) set → o ≡ Some set
-listed_once None set (k, below, e) = absurd (omega (arith, below))
-listed_once (Some t) set (zero, below, e) = ap Some e
-listed_once (Some t) set (suc k, below, e) = absurd (omega (arith, below))
-
-set_found : (w : WorldView) (s : State) → Agrees w s → (p set : ℕ) → s.live_port p ≡ true → Contains (s.sets_of p) set → set_of_port w p ≡ Some set
-set_found w s a p set live in_it =
-    let h = port_there w s a p live in
-    ap (option_and_then (λ (v : PortView Kept). v.attributes.set)) h.1
-    ∙ listed_once ((h.0).attributes.set) set (subst (λ (xs : List ℕ). Contains xs set) (sym ((a.ports p h.0 h.1).sets)) in_it)
+set_found : (w : WorldView) (s : State) → Agrees w s → (p set : ℕ) → s.live_port p ≡ true → Contains (s.sets_of p) set → Contains (sets_at w p) set
+set_found w s a p set live has = subst (λ (xs : List ℕ). Contains xs set) (sets_shown w s a p live) has
 
 -- ---- the receive rights of the set's task
 
@@ -194,7 +175,10 @@ module _ (w : WorldView) (s : State) (sh : Shows w s) (task name set : ℕ) (spa
   IsNamed n = (p : ℕ) × (lookup s task n ≡ Some (Target.port p)) × Contains (s.sets_of p) set
 
   only : (n : ℕ) → Contains (members_in w set space.names) n → IsNamed n
-  only n c = grind (arith, filter_passes, member_is, sets_are, names_port, under)
+  only n c =
+      let test : ℕ → Bool = λ k. is_member w set (map.get space.names k) in
+      let m = member_is w set (map.get space.names n) (All-contains (λ k. test k ≡ true) (members_in w set space.names) n (filter_passes test (map.keys space.names)) c) in
+      (m.p, names_port w s sh.agrees task n m.e m.p (under n ∙ m.under) m.named, set_there w s sh.agrees m.p set m.in_it)
 
   all : (n : ℕ) → IsNamed n → Contains (members_in w set space.names) n
   all n (p, named, in_it) =
@@ -234,11 +218,8 @@ module _ (w : WorldView) (task name set : ℕ) (is : entry_at w task name ≡ So
 
 -- ---- MoveMember: what refuses it, and what it does.
 
-one_port : (p q : ℕ) (o : Option Target) → o ≡ Some (Target.port p) → o ≡ Some (Target.port q) → p ≡ q
+pub one_port : (p q : ℕ) (o : Option Target) → o ≡ Some (Target.port p) → o ≡ Some (Target.port q) → p ≡ q
 one_port p q o e f = grind arith
-
-some_set : (set : ℕ) → set ∷ [] ≡ [] → ⊥
-some_set set e = let f : 1 ≡ 0 = ap length e in omega (arith, f)
 
 -- ---- what is judged
 
@@ -248,11 +229,11 @@ module _ (w : WorldView) (task member : ℕ) where
   leaving_refused code r = grind arith
 
   module _ (p : ℕ) (f : FindsReceive w task member p) where
-    pub not_in_set : (o : Option ℕ) → o ≡ set_of_port w p → o ≡ None → IsRefused w (λ s. move_guards s task member 0) (kern_number NotInSet)
-    not_in_set o is none = grind (arith, finds_used, finds_receive, finds_port, sets_none, receive_port_lives)
+    pub not_in_set : sets_at w p ≡ [] → IsRefused w (λ s. move_guards s task member 0) (kern_number NotInSet)
+    not_in_set none = grind (arith, finds_used, finds_receive, finds_port, sets_shown, receive_port_lives)
 
-    pub may_leave : (o : Option ℕ) (set : ℕ) → o ≡ set_of_port w p → o ≡ Some set → MayMove w task member 0 p None
-    may_leave o set is some = grind (arith, finds_used, finds_receive, some_set, sets_are, one_port, finds_port)
+    pub may_leave : sets_at w p ≢ [] → MayMove w task member 0 p None
+    may_leave some = grind (arith, finds_used, finds_receive, sets_shown, receive_port_lives, one_port, finds_port)
 
   -- a port that is to go into the set under another name
   module _ (after : ℕ) (some : after ≢ 0) where
@@ -272,14 +253,9 @@ module _ (w : WorldView) (task member : ℕ) where
 
 -- ---- what it does
 
-pub mover_there : (w : WorldView) (task member after p : ℕ) (set : Option ℕ) → Stands w → MayMove w task member after p set → is_some (port_at w p) ≡ true
-mover_there w task member after p set stands m = receive_port_there w task member p m.finds stands
-
-pub moved : (w : WorldView) (task member after p : ℕ) (set : Option ℕ) → HasTask w task → MayMove w task member after p set →
-    (b : Attributes) → HasAttributes w p b → (new : WorldView) → SetsAttributes w p (record b { set = set }) new → Completes w (Event.MoveMember task member after) (Reply.Code 0) new
-moved w task member after p set below m b h new r = done w (Event.MoveMember task member after) (Reply.Code 0) new below m.allowed
-    (λ now s sh. sets_so w p b h (record b { set = set }) refl new r (Event.MoveMember task member after) now s (record s { sets_of = at s.sets_of p (option_to_list set) }) sh
-    (refl, joins s sh.agrees set m.goes, refl) tt tt (set_agrees w s sh.agrees p b h set new r))
+pub moved : (w : WorldView) (task member after p : ℕ) (set : Option ℕ) → HasTask w task → MayMove w task member after p set → (new : WorldView) → PutsIn w p (option_to_list set) new → Completes w (Event.MoveMember task member after) (Reply.Code 0) new
+moved w task member after p set below m new put = done w (Event.MoveMember task member after) (Reply.Code 0) new below m.allowed
+    (λ now s sh. in_sets_so w new p (option_to_list set) put (Event.MoveMember task member after) now s sh (refl, joins s sh.agrees set m.goes, refl) tt tt)
   where
     joins : (s : State) → Agrees w s → (set : Option ℕ) → GoesTo w task after set → JoinsSet task member after s (record s { sets_of = at s.sets_of p (option_to_list set) })
     joins s a (Some set) goes = (p, (finds_port w task member p m.finds s a), inr (set, found w s a task after (entry.Set set) goes, refl))

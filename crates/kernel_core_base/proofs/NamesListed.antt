@@ -22,7 +22,7 @@ use Rattle.name_space.specs.Names.{Names as TableNames, SpaceView}
 use Rattle.name_space.specs.declared.Entry.TheVariants as entry
 use Rattle.name_space.specs.Entry.{type_in}
 use Rattle.request_table.specs.Requests.{name_key}
-use Rattle.copyin_base.specs.Requests.{RequestTablesView}
+use Rattle.request_table.specs.Tables.{RequestTablesView}
 use Rattle.copyin_base.specs.Shows.{target_of, Agrees, Shows}
 use Rattle.copyin_base.specs.Serving.{Completes}
 use Rattle.copyin_base.specs.Worlds.{WorldView, entry_in, entry_at, space_at, HasTask}

@@ -26,7 +26,8 @@ use Rattle.port.specs.Holding.{held as held_port}
 use Rattle.port.specs.Ports.{PortView, PortsView, with_port}
 use Rattle.port_set.specs.declared.SetRecord.{SetRecord}
 use Rattle.port_set.specs.Sets.{removed}
-use Rattle.copyin_base.specs.Requests.{request_left, requests_after}
+use Rattle.request_table.specs.Tables.{request_left}
+use Rattle.copyin_base.specs.Requests.{requests_after}
 use Rattle.copyin_base.specs.Worlds.{WorldView, put, space_at, entry_in, port_at}
 use Rattle.copyin_base.specs.Shows.{target_of, SetsAgree, Agrees, RequestsStand, HasCount, onces_queued, CountsAgree, Shows}
 use Rattle.copyin_base.proofs.Agreeing.{own_names, own_rights, put_names, put_rights, ports_put}

@@ -37,11 +37,12 @@ use Rattle.copyin_base.proofs.SendersNoted.{noted_slots, counts_own, KeepsSends,
 use Rattle.copyin_base.proofs.Slots.{slots_same, slots_kept}
 use Rattle.copyin_base.specs.Kept.{Kept}
 use Rattle.copyin_base.specs.Stands.{Stands}
-use Rattle.copyin_base.proofs.Changing.{target_named, same_port}
+use Rattle.copyin_base.proofs.Changing.{target_named}
 use Rattle.copyin_base.proofs.Gets.{seen, of_some, same_found}
 use Rattle.copyin_base.proofs.Tied.{stands_tied, stands_is_tied}
 use Rattle.copyin_base.proofs.Told.{found, port_entered, receive_has, port_got}
-use Rattle.copyin_base.specs.Requests.{requests_after, RequestTablesView}
+use Rattle.request_table.specs.Tables.{RequestTablesView}
+use Rattle.copyin_base.specs.Requests.{requests_after}
 use Rattle.copyin_base.proofs.Putting.{put_own, put_same, each_put}
 use Rattle.copyin_base.proofs.Carriers.{carriers_same, carriers_disbanded, carriers_held}
 use Rattle.copyin_base.proofs.Idle.{none_lost_same, none_lost_disbanded}
@@ -54,6 +55,7 @@ use Rattle.copyin_base.proofs.Holders.{ReceivesIn, ReceivesAt, IsReceive, no_rec
 use Rattle.copyin_base.proofs.Listed.{listed_one}
 use Rattle.tables_base.proofs.Reading.{named_port}
 use Rattle.copyin_base.proofs.Spares.{keeps_space}
+use Rattle.copyin_base.proofs.Written.{disbanded_ports}
 use Rattle.copyin_base.specs.Losing.{CanLose, CanPost, DropsSet, LosesPort}
 use Rattle.kernel_core_base.specs.declared.references.Due.{Due}
 use Rattle.kernel_core_base.specs.declared.references.Due.TheVariants.{LosingOnce, Killing, Nothing, References, Disbanding}
@@ -320,7 +322,7 @@ same_senders v task name (Some e) = refl
 -- ---- the members of a set stay ports that are there
 
 disbanded_live : (old new : PortsView Kept) (set : ℕ) → IsDisbanded old new set → (p : ℕ) → IsLive old p → IsLive new p
-disbanded_live old new set d p lives = grind (arith, seen, same_port)
+disbanded_live old new set d p live = (disbanded_ports old new set d).live p ∙ live
 
 -- ---- in the tables
 

@@ -6,7 +6,7 @@ use Rattle.mach_types.specs.declared.calls.Event.{Event}
 use Rattle.mach_types.specs.declared.calls.Reply.{Reply}
 use Rattle.mach_types.specs.declared.codes.KernReturn.{KernReturn}
 use Rattle.mach_types.specs.declared.codes.KernReturn.TheVariants.{ResourceShortage}
-use Rattle.mach_types.specs.Codes.{kern_number}
+use Rattle.mach_types.specs.Codes.{kern_number, code_number}
 use Rattle.mach_types.specs.declared.calls.Waited.{Waited}
 use Rattle.mach_types.specs.Guards.{Guards, FirstIs}
 use Rattle.mach_types.specs.Tokens.{send, Token, count, is_of}
@@ -14,9 +14,9 @@ use Rattle.mach_model.specs.State.{State}
 use Rattle.mach_model.specs.Refusals.{RefusesLater, call_guards, Refuses, guards}
 use Rattle.mach_model.specs.Notices.{right_unused}
 use Rattle.rights.specs.Ledger.{counts_of}
-use Rattle.copyin_base.specs.declared.code.Code.{Code}
-use Rattle.copyin_base.specs.declared.code.Code.TheVariants.{Kern}
-use Rattle.copyin_base.specs.Serving.{Serves, HasTasks, IsAllowed, IsRefused, code_number, Completes}
+use Rattle.mach_types.specs.declared.codes.Code.{Code}
+use Rattle.mach_types.specs.declared.codes.Code.TheVariants.{Kern}
+use Rattle.copyin_base.specs.Serving.{Serves, HasTasks, IsAllowed, IsRefused, Completes}
 use Rattle.copyin_base.specs.Changes.{SameButRoom}
 use Rattle.copyin_base.specs.Worlds.{WorldView, HasTask}
 use Rattle.copyin_base.proofs.Acting.{tasks_live, done_leaving}
@@ -116,6 +116,7 @@ TakesNoMemory (Event.SetQlimit task name n) = Unit {0}
 TakesNoMemory (Event.SetMscount task name n) = Unit {0}
 TakesNoMemory (Event.SetSeqno task name n) = Unit {0}
 TakesNoMemory (Event.MoveMember task member after) = Unit {0}
+TakesNoMemory (Event.ExtractMember task member set) = Unit {0}
 TakesNoMemory event = ⊥
 
 none_later : (s : State) (event : Event) → TakesNoMemory event → (code : ℕ) → RefusesLater s event code → ⊥
@@ -137,7 +138,7 @@ none_later s (Event.Names task) none code later = none
 none_later s (Event.Rename task o n) none code later = none
 none_later s (Event.SetStatus task name) none code later = none
 none_later s (Event.InsertMember task member set) none code later = none
-none_later s (Event.ExtractMember task member set) none code later = none
+none_later s (Event.ExtractMember task member set) none code later = cc
 none_later s (Event.InsertRight task name from poly number) none code later = none
 none_later s (Event.ExtractRight task name number to) none code later = none
 none_later s (Event.RequestNotification task name variant sync notify number) none code later = none

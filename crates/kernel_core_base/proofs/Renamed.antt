@@ -26,8 +26,8 @@ use Rattle.port_set.specs.declared.SetRecord.{SetRecord}
 use Rattle.request_table.specs.declared.Request.{Request as NameRequest}
 use Rattle.request_table.specs.Requests.{name_key, key_of}
 use Rattle.copyin_base.specs.Kept.{Kept}
-use Rattle.copyin_base.specs.Requests.{RequestTablesView, notify_of, rights_kept, rights_went, AreMade, AreEnded, RequestsAgree}
-use Rattle.copyin_base.specs.Asking.{renamed_by, request_moved}
+use Rattle.request_table.specs.Tables.{RequestTablesView, renamed_by, request_moved}
+use Rattle.copyin_base.specs.Requests.{notify_of, rights_kept, rights_went, AreMade, AreEnded, RequestsAgree}
 use Rattle.copyin_base.specs.Shows.{IsOnName, RequestsStand, Agrees, HoldersAgree, Shows, SetsAgree, target_of}
 use Rattle.copyin_base.specs.Worlds.{WorldView, space_in, space_at, entry_in, entry_at, HasTask}
 use Rattle.copyin_base.proofs.Gets.{same_found}

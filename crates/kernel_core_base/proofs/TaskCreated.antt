@@ -101,7 +101,7 @@ module _ (w : WorldView) (s : State) (a : Agrees w s) where
       names_kept = each (λ _ o m. (x : SpaceView) → o ≡ Some x → map.len x.names ≡ map.len m)
           (λ x is. ap (λ (y : SpaceView). map.len y.names) (same_found (Some (no_names w.profile)) x (no_names w.profile) is refl) ∙ map.len-empty nat_cmp Entry ∙ sym (map.len-empty nat_cmp Target)) a.names_kept;
       counted = each (λ _ o m. (n : ℕ) (e : Entry) → entry_in o n ≡ Some e → HasCount e) (λ n e is. absurd (none_under w.profile n e is)) a.counted;
-      profiles = a.profiles;
+      same_profile = a.same_profile;
       counts_given = counts_given;
       none_given = λ u index unmade. let made = a.tasks_made in a.none_given u index (omega (arith, unmade, made));
     };

@@ -1,6 +1,5 @@
 pub mod Names
 pub mod References
-pub mod ReceiveRight
 pub mod Sets
 pub mod Wanted
 pub mod Gathered

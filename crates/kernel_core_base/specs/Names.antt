@@ -14,7 +14,7 @@ use Rattle.port_set.specs.Sets.{SetsView, created, renamed}
 use Rattle.request_table.specs.declared.Request.{Request}
 use Rattle.request_table.specs.Requests.{name_key}
 use Rattle.copyin_base.specs.Coming.{HasRoomForPort, with_new_port}
-use Rattle.copyin_base.specs.Requests.{RequestTablesView}
+use Rattle.request_table.specs.Tables.{RequestTablesView}
 use Rattle.copyin_base.specs.Worlds.{WorldView, space_at}
 use Rattle.kernel_core_base.specs.declared.names.NewRight.{NewRight}
 use Rattle.kernel_core_base.specs.declared.names.NewRight.TheVariants as new_right

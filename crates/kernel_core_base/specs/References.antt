@@ -19,7 +19,8 @@ use Rattle.rights.specs.Ledger.{LedgerView, IsEntered, counts_of, made, taken}
 use Rattle.copyin_base.specs.declared.Notice.TheVariants as notice
 use Rattle.copyin_base.specs.Changes.{PutsLeft, NotesSenderless}
 use Rattle.copyin_base.specs.Kept.{Kept}
-use Rattle.copyin_base.specs.Requests.{request_left, requests_after}
+use Rattle.request_table.specs.Tables.{request_left}
+use Rattle.copyin_base.specs.Requests.{requests_after}
 use Rattle.copyin_base.specs.Shows.{SlotsSuffice}
 use Rattle.copyin_base.specs.Worlds.{WorldView, entry_at, put, space_at, port_at}
 use Rattle.copyin_base.specs.Losing.{Posts}

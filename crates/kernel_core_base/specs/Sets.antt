@@ -1,32 +1,33 @@
 -- Port sets in the tables: which names are those of a set's members, and which port may go to which set.
-use Rattle.std.specs.Prelude.{◌≡◌, ℕ, ◌==◌, Bool, false, List, Option, Some, None, filter, Result, Ok, Err}
+use Rattle.std.specs.Prelude.{◌≡◌, ℕ, Bool, true, false, List, Option, Some, None, filter, Result, Ok, Err}
 use Rattle.std.specs.Option.{option_and_then}
 use Rattle.std.specs.FinMap as map
+use Rattle.mach_types.specs.declared.calls.Event.{Event}
 use Rattle.mach_types.specs.declared.calls.Reply.{Reply}
-use Rattle.mach_model.specs.Refusals.{move_guards}
+use Rattle.mach_model.specs.Refusals.{call_guards, move_guards}
 use Rattle.name_space.specs.declared.Entry.{Entry}
 use Rattle.name_space.specs.declared.Entry.TheVariants as entry
 use Rattle.name_space.specs.Entry.{receive_named}
 use Rattle.name_space.specs.Names.{Names}
-use Rattle.copyin_base.specs.declared.code.Code.{Code}
-use Rattle.copyin_base.specs.Serving.{IsAllowed}
+use Rattle.mach_types.specs.declared.codes.Code.{Code}
+use Rattle.copyin_base.specs.Serving.{IsAllowed, IsRefused}
 use Rattle.copyin_base.specs.Finds.{FindsReceive}
-use Rattle.copyin_base.specs.Worlds.{WorldView, entry_at, port_at}
+use Rattle.copyin_base.specs.Worlds.{WorldView, entry_at, has_several_sets, sets_at}
+pub use Rattle.kernel_core_base.specs.Wanted.{WantsToEnter}
 use Rattle.kernel_core_base.specs.declared.sets.Moved.{Moved}
+use Rattle.kernel_core_base.specs.declared.sets.Member.{Member}
+use Rattle.port_base.specs.Turns.{contains_number}
+use Rattle.port_base.specs.Memberships.{membership_in}
 
 -- ---- members
 
--- the set that the port is in
-abbrev pub set_of_port : WorldView → (port : ℕ) → Option ℕ
-set_of_port w p = option_and_then (λ v. v.attributes.set) (port_at w p)
-
-abbrev pub is_set : Option ℕ → ℕ → Bool
-is_set (Some t) set = t == set
-is_set None set = false
+abbrev pub is_in : WorldView → (set : ℕ) → Option ℕ → Bool
+is_in w set None = false
+is_in w set (Some p) = contains_number (sets_at w p) set
 
 -- whether what stands under a name is the receive right of a port in the set
 abbrev pub is_member : WorldView → (set : ℕ) → Option Entry → Bool
-is_member w set o = is_set (option_and_then (set_of_port w) (option_and_then receive_named o)) set
+is_member w set o = is_in w set (option_and_then receive_named o)
 
 -- the members' names among these, rising
 abbrev pub members_in : WorldView → (set : ℕ) → Names → List ℕ
@@ -49,7 +50,30 @@ abbrev pub moved_reply : Result Moved Code → Result Reply Code
 moved_reply (Ok moved) = Ok (Reply.Code 0)
 moved_reply (Err code) = Err code
 
--- What is told of the port that moved: which it is, and the set that it was in.
+-- What is told of the port that moved: which it is, and the sets that it was in.
 pub record TellsMoved (w : WorldView) (task member : ℕ) (moved : Moved) : Type 0 where
   pub finds : FindsReceive w task member moved.port
-  pub left : set_of_port w moved.port ≡ moved.left
+  pub left : membership_in (sets_at w moved.port) ≡ moved.left
+
+-- ---- a port that enters a set beside others, or leaves one of several
+
+-- The first name has the port's receive right, and the other is the set's.
+pub record MayPair (w : WorldView) (task member set : ℕ) (pair : Member) : Type 0 where
+  pub several : has_several_sets w.profile ≡ true
+  pub finds : FindsReceive w task member pair.port
+  pub stands : entry_at w task set ≡ Some (entry.Set pair.set)
+
+-- Each of the two calls is refused so, whether or not the port is in the set.
+abbrev pub IsUnpaired : WorldView → (task member set code : ℕ) → Type 0
+IsUnpaired w task member set code =
+    IsRefused w (λ s. call_guards s (Event.InsertMember task member set)) code × IsRefused w (λ s. call_guards s (Event.ExtractMember task member set)) code
+
+-- the reply to the call
+abbrev pub pair_reply : Result Member Code → Result Reply Code
+pair_reply (Ok pair) = Ok (Reply.Code 0)
+pair_reply (Err code) = Err code
+
+-- What is told of it: which port and which set.
+pub record TellsPair (w : WorldView) (task member set : ℕ) (pair : Member) : Type 0 where
+  pub finds : FindsReceive w task member pair.port
+  pub stands : entry_at w task set ≡ Some (entry.Set pair.set)

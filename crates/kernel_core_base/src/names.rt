@@ -5,14 +5,14 @@ ghost use Rattle.std.specs.FinMap as map;
 ghost use Rattle.mach_types.specs.declared.calls.Event.{Event};
 ghost use Rattle.mach_types.specs.declared.codes.KernReturn.TheVariants as kern;
 ghost use Rattle.mach_types.specs.Numbers.{most_rights, most_identities};
-ghost use Rattle.mach_types.specs.Codes.{kern_number};
+ghost use Rattle.mach_types.specs.Codes.{kern_number, code_number};
 ghost use Rattle.mach_model.specs.Refusals.{IsNoMaking, call_guards};
 ghost use Rattle.name_space.specs.Names.{IsUsable};
 ghost use Rattle.name_space.specs.declared.Entry.TheVariants as entry_of;
 ghost use Rattle.port_set.specs.Sets.{IsThere, created};
 ghost use Rattle.request_table.specs.Requests.{name_key};
 ghost use Rattle.copyin_base.specs.Changes.{MayRename};
-ghost use Rattle.copyin_base.specs.Serving.{code_number, Serves, IsRefused, IsAllowed};
+ghost use Rattle.copyin_base.specs.Serving.{Serves, IsRefused, IsAllowed};
 ghost use Rattle.copyin_base.specs.Stands.{Stands};
 ghost use Rattle.copyin_base.specs.Wanted.{KeepsSpares};
 ghost use Rattle.copyin_base.specs.Worlds.{entry_at, HasTask};
@@ -20,9 +20,9 @@ ghost use Rattle.kernel_core_base.specs.declared.names.NewRight.TheVariants as A
 ghost use Rattle.kernel_core_base.specs.Names.{right_made, IsFullFor, HasRoomFor, IsFullOf, HasRoomOf, MayMake, CanAdd, Adds, MakesRight, sets_named, bit_requested, type_of_entry, type_found, types_of};
 ghost use Rattle.kernel_core_base.specs.Wanted.{MayLackMemory};
 
-use copyin_base::{Code, TaskNames, World};
+use copyin_base::{TaskNames, World};
 use mach_types::limits::MOST_RIGHTS;
-use mach_types::{KernReturn, Name, NameTypes, Reply, Right, TaskId};
+use mach_types::{Code, KernReturn, Name, NameTypes, Reply, Right, TaskId};
 use name_space::Entry;
 use std::alloc::{AllocError, Global};
 use user_refs::UserRefs;

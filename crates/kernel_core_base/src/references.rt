@@ -16,9 +16,9 @@ ghost use Rattle.copyin_base.specs.Wanted.{UsesSpares};
 ghost use Rattle.copyin_base.specs.Worlds.{entry_at, HasTask};
 ghost use Rattle.kernel_core_base.specs.References.{whole_loss, left_with, recounted_at, CanCount, CanSet, NotesLost, NotesFewer, CountsReferences, SetsReferences, RemovesSet, LosesOnce, sends_left, CanKill, TakesReceive, LosesReceive, CanCarry, Carries, deallocated, destroyed, IsChange, more_in, CanSum, CannotSum, changed_whole, FindsRight, CanChange, CannotChange};
 
-use copyin_base::{Code, Notice, World};
+use copyin_base::{Notice, World};
 use mach_types::limits::{MOST_REFERENCES, MOST_RIGHTS};
-use mach_types::{KernReturn, Name, PortId, Reply, Right, SetId, TaskId};
+use mach_types::{Code, KernReturn, Name, PortId, Reply, Right, SetId, TaskId};
 use name_space::Entry;
 use rights::RightKind;
 use user_refs::UserRefs;

@@ -8,9 +8,9 @@ ghost use Rattle.copyin_base.specs.Stands.{Stands};
 ghost use Rattle.copyin_base.specs.Wanted.{KeepsSpares, UsesSpares};
 ghost use Rattle.copyin_base.specs.Worlds.{HasTask};
 
-use copyin_base::{Code, World};
+use copyin_base::World;
 use mach_types::limits::MOST_TASKS;
-use mach_types::{KernReturn, Reply, TaskId};
+use mach_types::{Code, KernReturn, Reply, TaskId};
 use notifications::end_task;
 use std::alloc::Global;
 

@@ -1,7 +1,7 @@
 //! The kernel behind its lock, with its history.
 ghost use Rattle.std.specs.Prelude.{◌≡◌, ◌≢◌, ◌+◌, ◌<◌, ◌≤◌, ◌^◌, ℕ, true, false, [], ◌∷◌, length, None, IfOk, IfErr, slice_index_or, slice_set};
 ghost use Rattle.mach_types.specs.declared.calls.Reply.{Reply as AnyReply};
-ghost use Rattle.mach_types.specs.declared.profiles.Profile.TheVariants.{One, Three};
+ghost use Rattle.mach_types.specs.declared.profiles.Profile.TheVariants.{One};
 ghost use Rattle.mach_model.specs.State.{opening_in};
 ghost use Rattle.copyin_base.specs.Shows.{Shows};
 ghost use Rattle.kernel_change.specs.Changing.{few};
@@ -92,7 +92,6 @@ impl Model for LockedKernel {
 impl LockedKernel {
     // A kernel of this profile in which nothing was made yet, with the empty history and no callers. Takes no memory.
     fn new(alloc: Global, seat: Place, profile: Profile, keeps: bool) -> LockedKernel
-        requires one_set { profile ≢ Three }
         requires seat { seat.me ≡ (desk_view profile [] 0, []) }
         ensures tied { result.table ≡ seat.table_id }
         ensures of_profile { result.profile ≡ profile }
@@ -370,7 +369,6 @@ impl Shared {
     /// A kernel of this profile in which nothing was made yet, with the empty history, whose entries will be kept. An
     /// error means that memory for its board or its place was refused.
     pub fn with_profile(alloc: Global, profile: Profile) -> Result<Shared, AllocError>
-        requires one_set { profile ≢ Three }
         ensures { IfOk result (λ s. (s.profile ≡ profile) × (s.keeps ≡ true)) }
     {
         Shared::keeping(alloc, profile, true)
@@ -382,14 +380,12 @@ impl Shared {
         alloc: Global,
         profile: Profile,
     ) -> Result<Shared, AllocError>
-        requires one_set { profile ≢ Three }
         ensures { IfOk result (λ s. (s.profile ≡ profile) × (s.keeps ≡ false)) }
     {
         Shared::keeping(alloc, profile, false)
     }
 
     fn keeping(alloc: Global, profile: Profile, keeps: bool) -> Result<Shared, AllocError>
-        requires one_set { profile ≢ Three }
         ensures { IfOk result (λ s. (s.profile ≡ profile) × (s.keeps ≡ keeps)) }
     {
         let (board, desk) = Board::open(alloc, profile)?;

@@ -1,7 +1,6 @@
 //! A kernel with its last call.
 ghost use Rattle.std.specs.Prelude.{◌≡◌, ◌≢◌, IfOk, MatchBool, OnErr};
 ghost use Rattle.mach_types.specs.declared.calls.Reply.{Reply as AnyReply};
-ghost use Rattle.mach_types.specs.declared.profiles.Profile.TheVariants.{Three};
 ghost use Rattle.mach_model.specs.State.{opening_in};
 ghost use Rattle.copyin_base.specs.Shows.{Shows};
 ghost use Rattle.kernel_core.specs.Bounds.{IsWithin};
@@ -57,7 +56,6 @@ impl Model for RecordedKernel {
 impl RecordedKernel {
     /// A kernel of this profile, in which nothing was made yet; its calls aren't kept. Takes no memory.
     pub fn new(alloc: Global, profile: Profile) -> RecordedKernel
-        requires one_set { profile ≢ Three }
         ensures shows { Shows result.kernel.tables (opening_in profile) }
         ensures last { result.last ≡ AnyLast.NotKept }
     {

@@ -3,8 +3,6 @@
 //! Or prints what the last call may have changed in place of the replies: a line for each port and set, or `all`. The
 //! script has calls only: a line that begins a block, or is a message call that waits, is a bad call here.
 //! `mach_run run` plays a script call by call instead (`perform`). The gate compares what both print with the same file.
-ghost use Rattle.std.specs.Prelude.{◌≢◌, IfSome};
-ghost use Rattle.mach_types.specs.declared.profiles.Profile.TheVariants.{Three};
 
 use crate::JobFault;
 use kernel_core::run_with;
@@ -50,12 +48,11 @@ pub fn play_file<R: Files + AllocGlobal, W: Write + Drop>(
 }
 
 /// Returns the profile of this number, if a kernel can have it.
-fn profile_numbered(number: &str) -> Option<Profile>
-    ensures { IfSome result (λ profile. profile ≢ Three) }
-{
+fn profile_numbered(number: &str) -> Option<Profile> {
     match number {
         "1" => Some(Profile::One),
         "2" => Some(Profile::Two),
+        "3" => Some(Profile::Three),
         _ => None,
     }
 }
@@ -67,9 +64,7 @@ fn print_run<W: Write + Drop>(
     events: Vec<Event>,
     wanted: Wanted,
     out: W,
-) -> Result<(), JobFault>
-    requires one_set { profile ≢ Three }
-{
+) -> Result<(), JobFault> {
     let Ok((kernel, replies)) = run_with(alloc, profile, events) else {
         return Err(JobFault::OutOfMemory);
     };

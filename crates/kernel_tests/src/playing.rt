@@ -1,6 +1,5 @@
 //! Rows, played on a kernel by itself or on one behind its lock.
-ghost use Rattle.std.specs.Prelude.{◌≡◌, ◌≢◌};
-ghost use Rattle.mach_types.specs.declared.profiles.Profile.TheVariants.{Three};
+ghost use Rattle.std.specs.Prelude.{◌≡◌};
 
 use crate::judging::Fault;
 use kernel_core::Kernel;
@@ -35,9 +34,7 @@ impl Tried {
         rt: &R,
         side: Side,
         profile: Profile,
-    ) -> Result<Tried, AllocError>
-        requires { profile ≢ Three }
-    {
+    ) -> Result<Tried, AllocError> {
         let shared = Shared::with_profile(rt.alloc(), profile)?;
         let pass = shared.pass(rt)?;
         let watch = shared.watch(rt);

@@ -144,7 +144,6 @@ pub fn memory_code(event: &Event) -> Option<u32> {
         | Event::SetMscount(_, _, _)
         | Event::SetSeqno(_, _, _)
         | Event::MoveMember(_, _, _)
-        | Event::InsertMember(_, _, _)
         | Event::ExtractMember(_, _, _) => None,
         Event::Send(_, _) => Some(MsgReturn::SendNoBuffer.number()),
         Event::Receive(_, _, _, _) | Event::ReceiveAgain(_, _, _, _) => {

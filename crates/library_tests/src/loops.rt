@@ -77,7 +77,7 @@ fn each_is_looked_for(ports: &Ports<Empty>) -> bool {
 
 #[test]
 fn a_way_is_followed_to_a_task(rt: HostRuntime) {
-    let mut ports = Ports::new(rt.alloc());
+    let mut ports = Ports::new(rt.alloc(), false);
     let queues = [Some(1), Some(2), Some(3), None, None];
     assert!(rt; make_all(&mut ports, &queues));
     assert!(rt; ends_at_a_task(&ports) && each_is_looked_for(&ports));

@@ -1,6 +1,6 @@
 //! Ports by number: their queues, destroyed messages, and the members of sets that are ready.
 use mach_types::{PortId, SetId, TaskId};
-use port::{Message, Ports};
+use port::{Membership, Message, Ports};
 use port_set::{disband, move_member, ready_member};
 use std::alloc::Global;
 
@@ -156,7 +156,7 @@ fn are_destroyed(ports: &mut Ports<Note>) -> bool {
 
 #[test]
 fn messages_come_out_in_order(rt: HostRuntime) {
-    let mut ports = Ports::new(rt.alloc());
+    let mut ports = Ports::new(rt.alloc(), false);
     assert!(rt; are_posted(&mut ports) && are_taken(&mut ports) && ports.spare() == 2);
     assert!(rt; is_counted(&mut ports) && is_gone(&mut ports) && are_destroyed(&mut ports));
 }
@@ -174,7 +174,9 @@ fn is_ready(ports: &mut Ports<Note>) -> bool {
 /// Returns whether two members of a set have their turns, until the set is no more.
 fn have_turns(ports: &mut Ports<Note>) -> bool {
     let is_first = join(ports, 1, 1) && ready(ports, 0).is_none() && ready(ports, 1) == Some(0);
-    let is_next = take(ports, 0) == Some(1) && ready(ports, 1) == Some(1);
+    let is_kept = take(ports, 0) == Some(1) && ready(ports, 1) == Some(0);
+    ports.pass_turn(SetId::new(1), PortId::new(0));
+    let is_next = is_kept && ready(ports, 1) == Some(1);
     disband(ports, SetId::new(1));
     is_first && is_next && ready(ports, 1).is_none() && ports.queued(PortId::new(0)) == 1
 }
@@ -189,6 +191,76 @@ fn members_are_ready(ports: &mut Ports<Note>) -> bool {
 
 #[test]
 fn a_member_with_a_message_is_ready(rt: HostRuntime) {
-    let mut ports = Ports::new(rt.alloc());
+    let mut ports = Ports::new(rt.alloc(), false);
     assert!(rt; members_are_ready(&mut ports));
+}
+
+/// Puts a port into a set beside those that it is in, if it is there and not in the set.
+fn enter(ports: &mut Ports<Note>, port: u64, set: u64) -> bool {
+    let port = PortId::new(port);
+    let set = SetId::new(set);
+    ports.contains(port) && !ports.is_in(port, set) && ports.enter(port, set).is_ok()
+}
+
+/// Takes a port out of a set alone, if it is in it.
+fn leave(ports: &mut Ports<Note>, port: u64, set: u64) -> bool {
+    let port = PortId::new(port);
+    let set = SetId::new(set);
+    let is_in = ports.is_in(port, set);
+    if is_in {
+        ports.leave(port, set);
+    }
+    is_in
+}
+
+/// Returns whether the ports 0 and 1 are in the sets 7, 8 and 9, with a message each, and have their turns in each.
+fn are_in_three(ports: &mut Ports<Note>) -> bool {
+    for set in 7..10 {
+        if !enter(ports, 0, set) || !enter(ports, 1, set) {
+            return false;
+        }
+    }
+    post(ports, 0, 1)
+        && post(ports, 1, 2)
+        && ready(ports, 7) == Some(0)
+        && ready(ports, 8) == Some(0)
+        && ready(ports, 9) == Some(0)
+}
+
+/// Returns whether a turn is passed in one set alone, and a port that leaves its first set keeps its turns in the others.
+fn keep_turns(ports: &mut Ports<Note>) -> bool {
+    ports.pass_turn(SetId::new(8), PortId::new(0));
+    let is_passed = ready(ports, 7) == Some(0)
+        && ready(ports, 8) == Some(1)
+        && ready(ports, 9) == Some(0);
+    let has_left = leave(ports, 0, 7) && !leave(ports, 0, 7);
+    is_passed
+        && has_left
+        && ready(ports, 7) == Some(1)
+        && ready(ports, 8) == Some(1)
+        && ready(ports, 9) == Some(0)
+}
+
+/// Returns whether a port without messages is ready in none of its sets, and one that moves is in its set alone.
+fn leave_all(ports: &mut Ports<Note>) -> bool {
+    let is_empty = take(ports, 0) == Some(1) && ready(ports, 9) == Some(1);
+    let has_moved = join(ports, 1, 9);
+    disband(ports, SetId::new(9));
+    is_empty
+        && has_moved
+        && ready(ports, 7).is_none()
+        && ready(ports, 8).is_none()
+        && ready(ports, 9).is_none()
+        && ports.membership(PortId::new(0)) == Membership::Alone(8)
+        && ports.membership(PortId::new(1)) == Membership::Nowhere
+}
+
+#[test]
+fn a_port_has_turns_in_several_sets(rt: HostRuntime) {
+    let mut ports = Ports::new(rt.alloc(), true);
+    assert!(rt; allocate(&mut ports) == Some(0) && allocate(&mut ports) == Some(1));
+    assert!(rt; ports.reserve_slots(2).is_ok());
+    assert!(rt; are_in_three(&mut ports));
+    assert!(rt; keep_turns(&mut ports));
+    assert!(rt; leave_all(&mut ports));
 }

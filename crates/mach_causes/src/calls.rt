@@ -123,7 +123,10 @@ fn explain_kernel_call(follower: &Follower, event: &Event, code: KernReturn) -> 
             let set = place_of(*task, *set);
             about_call(explain_move(follower, &place_of(*task, *member), &set, code))
         }
-        Event::InsertMember(..) | Event::ExtractMember(..) => about_call(Some(Reason::OneSet)),
+        Event::InsertMember(task, member, set) | Event::ExtractMember(task, member, set) => {
+            let set = place_of(*task, *set);
+            about_call(explain_pair(follower, &place_of(*task, *member), &set, code))
+        }
         _ => about_call(explain_name_call(follower, event, code)),
     }
 }
@@ -258,6 +261,33 @@ fn explain_move(
         return Some(Reason::InNoSet(*member, port));
     }
     lacks(follower, set, Wanted::Set)
+}
+
+/// Finds why a port doesn't enter a set beside others, or doesn't leave it.
+fn explain_pair(
+    follower: &Follower,
+    member: &Place,
+    set: &Place,
+    code: KernReturn,
+) -> Option<Reason> {
+    match code {
+        KernReturn::InvalidArgument => Some(Reason::OneSet),
+        KernReturn::InvalidName => either(absent(follower, member), absent(follower, set)),
+        KernReturn::InvalidRight => either(
+            lacks(follower, member, Wanted::Receive),
+            lacks(follower, set, Wanted::Set),
+        ),
+        KernReturn::AlreadyInSet | KernReturn::NotInSet => {
+            let port = standing_under(follower, member)?.receive_port()?;
+            let set = standing_under(follower, set)?.set()?;
+            if code == KernReturn::NotInSet {
+                return Some(Reason::NotIn(*member, port, set));
+            }
+            Some(Reason::AlreadyIn(*member, port, set))
+        }
+        KernReturn::ResourceShortage => Some(Reason::Memory),
+        _ => None,
+    }
 }
 
 /// Returns the first reason, or the second if there is no first.

@@ -32,6 +32,17 @@ fn write_reason(reason: &Reason, labels: &Labels, out: &mut Text) {
             write_sight(*port, place.name, labels, out);
             out.words(" is in no set");
         }
+        Reason::AlreadyIn(place, port, set) => {
+            write_sight(*port, place.name, labels, out);
+            out.words(" is in the set ");
+            labels.write_set(*set, out);
+            out.words(" already");
+        }
+        Reason::NotIn(place, port, set) => {
+            write_sight(*port, place.name, labels, out);
+            out.words(" isn't in the set ");
+            labels.write_set(*set, out);
+        }
         Reason::InSet(place, port, set) => {
             write_sight(*port, place.name, labels, out);
             out.words(" is in the set ");

@@ -1,10 +1,13 @@
 -- What a reason tells of the tables is true in each state that they show.
-use Rattle.std.proofs.Common.{◌≡◌, ℕ, ◌≤◌, Bool, true, false, Option, Some, None, List, length, refl, sym, ap, subst, ◌∙◌, arith, zero}
+use Rattle.std.proofs.Common.{◌≡◌, ℕ, ◌≤◌, Bool, true, false, Option, Some, None, List, [], length, refl, sym, ap, subst, ◌∙◌, arith, zero}
 use Rattle.std.specs.Prelude.{is_some, Contains}
-use Rattle.std.specs.Option.{option_map, option_to_list}
+use Rattle.std.specs.Option.{option_map}
 use Rattle.std.specs.FinMap as map
 use Rattle.mach_types.specs.declared.calls.Waited.{Waited}
+use Rattle.mach_types.specs.declared.profiles.Profile.{Profile}
+use Rattle.mach_types.specs.declared.profiles.Profile.TheVariants.{One, Two, Three}
 use Rattle.mach_model.specs.State.{State, Target, lookup, queue}
+use Rattle.mach_model.specs.NameGuards.{HasSeveral}
 use Rattle.mach_model.specs.SendRefusals.{Reaches}
 use Rattle.name_space.specs.declared.Entry.{Entry as Standing}
 use Rattle.name_space.specs.declared.Entry.TheVariants as entry
@@ -13,7 +16,7 @@ use Rattle.circularity.specs.Chains.{Leads}
 use Rattle.port.specs.Ports.{PortView}
 use Rattle.port_set.specs.declared.SetRecord.{SetRecord}
 use Rattle.copyin_base.specs.Kept.{Kept}
-use Rattle.copyin_base.specs.Worlds.{WorldView, port_at}
+use Rattle.copyin_base.specs.Worlds.{WorldView, has_several_sets, port_at}
 use Rattle.copyin_base.specs.Shows.{target_of, Shows}
 use Rattle.copyin_base.proofs.Listed.{listed_one}
 use Rattle.copyin_base.proofs.Told.{found, unused, no_task, names_port, holds_receive, task_holds}
@@ -23,7 +26,7 @@ use Rattle.mach_follow.specs.declared.follower.Place.{Place}
 use Rattle.mach_causes_base.specs.declared.cause.Reason.{Reason}
 use Rattle.mach_causes_base.specs.Facts as facts
 use Rattle.mach_causes_base.specs.Facts.{IsTrueIn, StandsFor, Receives, IsMissing, IsGone}
-use Rattle.mach_causes_base.specs.Tables.{Tells, under, LacksTask, HasNames, HasPort, IsIn, IsFull, LacksWaited, IsKeptFrom, IsOthers, IsOutOfReach}
+use Rattle.mach_causes_base.specs.Tables.{Tells, under, LacksTask, HasNames, HasPort, IsIn, IsNotIn, IsFull, LacksWaited, IsKeptFrom, IsOthers, IsOutOfReach}
 use Rattle.name_space.specs.Entry.{receive_named}
 
 -- an entry for a port shows as the port's
@@ -34,6 +37,12 @@ named_target (entry.ReceiveAndSend q n) p is = let g : q ≡ p = cc in ap (λ (x
 named_target (entry.SendOnce q) p is = absurd (cc)
 named_target (entry.DeadName m) p is = absurd (cc)
 named_target (entry.Set m) p is = absurd (cc)
+
+-- a profile in which a port can't be in several sets
+one_set : (own profile : Profile) → own ≡ profile → has_several_sets own ≡ false → ¬ (HasSeveral profile)
+one_set One profile same one several = subst HasSeveral (sym same) several
+one_set Two profile same one several = subst HasSeveral (sym same) several
+one_set Three profile same one several = let e : true ≡ false = one in cc
 
 module _ (w : WorldView) (s : State) (sh : Shows w s) where
   -- ---- tasks
@@ -69,11 +78,22 @@ module _ (w : WorldView) (s : State) (sh : Shows w s) where
   lives : (port : ℕ) (v : PortView Kept) → port_at w port ≡ Some v → s.live_port port ≡ true
   lives port v at = sym (sh.agrees.live_port port) ∙ ap is_some at
 
-  sets_are : (port : ℕ) (set : Option ℕ) → IsIn w port set → s.sets_of port ≡ option_to_list set
-  sets_are port set t = sym (sh.agrees.ports port t.view t.there).sets ∙ ap option_to_list t.in_set
+  in_no_set : (port : ℕ) → IsIn w port None → s.sets_of port ≡ []
+  in_no_set port t = sym (sh.agrees.ports port t.view t.there).sets ∙ t.in_set
 
   in_set : (port set : ℕ) → IsIn w port (Some set) → Contains (s.sets_of port) set
-  in_set port set t = subst (λ (sets : List ℕ). Contains sets set) (sym (sets_are port (Some set) t)) (zero, omega arith, refl)
+  in_set port set t = subst (λ (sets : List ℕ). Contains sets set) (sh.agrees.ports port t.view t.there).sets t.in_set
+
+  not_in : (port set : ℕ) → IsNotIn w port set → ¬ (Contains (s.sets_of port) set)
+  not_in port set t = λ within.
+      let given = sh.lawful.made_port port (lives port t.view t.there) in
+      let made = sh.agrees.ports_made in
+      t.not_in (record {
+        given = omega (arith, given, made);
+        view = t.view;
+        there = t.there;
+        member = subst (λ (sets : List ℕ). Contains sets set) (sym (sh.agrees.ports port t.view t.there).sets) within;
+      })
 
   is_full : (port queued limit : ℕ) → IsFull w port queued limit → (s.live_port port ≡ true) × (length (queue s port) ≡ queued) × (s.limit port ≡ limit) × (limit ≤ queued)
   is_full port queued limit t =
@@ -124,8 +144,10 @@ module _ (w : WorldView) (s : State) (sh : Shows w s) where
   told (Reason.References place standing) t = (stands place standing t.0, t.1)
   told (Reason.Change place standing delta) t = (stands place standing t.0, t.1, t.2)
   told (Reason.DeadUnasked place) t = (t.references, found w s sh.agrees place.task place.name (entry.DeadName t.references) t.there)
-  told (Reason.InNoSet place port) t = (receives place port t.0, sets_are port None t.1)
+  told (Reason.InNoSet place port) t = (receives place port t.0, in_no_set port t.1)
   told (Reason.InSet place port set) t = (receives place port t.0, in_set port set t.1)
+  told (Reason.AlreadyIn place port set) t = (receives place port t.0, in_set port set t.1)
+  told (Reason.NotIn place port set) t = (receives place port t.0, not_in port set t.1)
   told (Reason.Full port queued limit) t = is_full port queued limit t
   told (Reason.Died waited once) t = gone waited once t
   told (Reason.Member port set) t = in_set port set t
@@ -133,7 +155,7 @@ module _ (w : WorldView) (s : State) (sh : Shows w s) where
   told (Reason.OwnDestination place port) t = receives place port t
   told (Reason.Loop place carried destination) t =
       (receives place carried t.0, t.1, let leads = t.2 in subst (λ (p : ℕ). Reaches s destination p) (listed_one carried leads.0 leads.1) (reaches destination leads.0 leads.2))
-  told Reason.OneSet t = sh.agrees.one_set
+  told Reason.OneSet t = one_set w.profile s.profile sh.agrees.same_profile t
   told (Reason.NotMade right) t = t
   told (Reason.NoRight right) t = t
   told (Reason.NoName name) t = t

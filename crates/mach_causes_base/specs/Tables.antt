@@ -1,5 +1,5 @@
 -- What a reason tells, as the kernel's tables have it. From this follows what it tells of each state that they show.
-use Rattle.std.specs.Prelude.{◌≡◌, ◌≢◌, ℕ, ◌<◌, ◌≤◌, ◌+◌, pos, negsuc, Bool, true, false, [], ◌∷◌, length, Option, Some, None, is_some}
+use Rattle.std.specs.Prelude.{◌≡◌, ◌≢◌, ℕ, ◌<◌, ◌≤◌, ◌+◌, pos, negsuc, Bool, true, false, List, [], ◌∷◌, length, Option, Some, None, is_some, Contains}
 use Rattle.std.specs.FinMap as map
 use Rattle.mach_types.specs.Numbers.{most_tasks, most_names, most_references, most_rights, greatest_limit}
 use Rattle.mach_types.specs.declared.calls.Waited.{Waited}
@@ -10,11 +10,11 @@ use Rattle.name_space.specs.declared.Entry.TheVariants.{DeadName}
 use Rattle.name_space.specs.Entry.{port_named, receive_named}
 use Rattle.name_space.specs.Names.{SpaceView}
 use Rattle.circularity.specs.Chains.{LeadsToAny}
-use Rattle.port.specs.Ports.{PortView}
+use Rattle.port.specs.Ports.{PortView, sets_in, IsIn as IsMember}
 use Rattle.port.specs.declared.Holder.TheVariants.{Task}
 use Rattle.port_set.specs.declared.SetRecord.{SetRecord}
 use Rattle.copyin_base.specs.Kept.{Kept}
-use Rattle.copyin_base.specs.Worlds.{WorldView, HasTask, space_at, entry_at, port_at}
+use Rattle.copyin_base.specs.Worlds.{WorldView, HasTask, has_several_sets, space_at, entry_at, port_at}
 use Rattle.mach_follow.specs.declared.follower.Place.{Place}
 use Rattle.mach_causes_base.specs.declared.cause.Reason.{Reason}
 use Rattle.mach_causes_base.specs.Needs.{meets, counted, is_dead, is_set, IsWanted, IsOutOfRange}
@@ -49,10 +49,19 @@ pub record HasPort (port_in : Standing → Option ℕ) (w : WorldView) (place : 
   pub for_port : port_in standing ≡ Some port
 
 -- the port is there, and is in this set, or in none
+abbrev pub AreIn : List ℕ → Option ℕ → Type 0
+AreIn sets None = sets ≡ []
+AreIn sets (Some set) = Contains sets set
+
 pub record IsIn (w : WorldView) (port : ℕ) (set : Option ℕ) : Type 0 where
   pub view : PortView Kept
   pub there : port_at w port ≡ Some view
-  pub in_set : view.attributes.set ≡ set
+  pub in_set : AreIn (sets_in view) set
+
+pub record IsNotIn (w : WorldView) (port set : ℕ) : Type 0 where
+  pub view : PortView Kept
+  pub there : port_at w port ≡ Some view
+  pub not_in : ¬ (IsMember w.ports set port)
 
 pub record IsFull (w : WorldView) (port queued limit : ℕ) : Type 0 where
   pub view : PortView Kept
@@ -105,6 +114,8 @@ Tells w (Reason.Change place standing delta) = (under w place ≡ Some standing)
 Tells w (Reason.DeadUnasked place) = IsDead w place
 Tells w (Reason.InNoSet place port) = HasPort receive_named w place port × IsIn w port None
 Tells w (Reason.InSet place port set) = HasPort receive_named w place port × IsIn w port (Some set)
+Tells w (Reason.AlreadyIn place port set) = HasPort receive_named w place port × IsIn w port (Some set)
+Tells w (Reason.NotIn place port set) = HasPort receive_named w place port × IsNotIn w port set
 Tells w (Reason.Full port queued limit) = IsFull w port queued limit
 Tells w (Reason.Died waited was_made) = LacksWaited w waited was_made
 Tells w (Reason.Member port set) = IsIn w port (Some set)
@@ -123,4 +134,4 @@ Tells w (Reason.NoReferences delta) = (delta ≢ pos 0) × (delta ≢ negsuc 0)
 Tells w (Reason.Message fault) = Unit {0}
 Tells w Reason.Memory = Unit {0}
 Tells w Reason.NoBuffer = Unit {0}
-Tells w Reason.OneSet = Unit {0}
+Tells w Reason.OneSet = has_several_sets w.profile ≡ false

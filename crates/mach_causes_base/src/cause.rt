@@ -76,7 +76,11 @@ pub enum Reason {
     Limit(u32),
     /// The name's port is in no set.
     InNoSet(Place, PortId),
-    /// The call is always refused, since a port is in at most one set.
+    /// The name's port is in this set already.
+    AlreadyIn(Place, PortId, SetId),
+    /// The name's port isn't in this set.
+    NotIn(Place, PortId, SetId),
+    /// The call is refused in this profile, in which a port is in one set at most.
     OneSet,
     /// No disposition has this number.
     NoDisposition(u32),

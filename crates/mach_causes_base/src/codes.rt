@@ -70,7 +70,8 @@ fn is_of_state(reason: &Reason, code: u32) -> bool
     match reason {
         Reason::Used(..) => code == 13,
         Reason::Elsewhere(..) => code == 21,
-        Reason::InNoSet(..) => code == 12,
+        Reason::InNoSet(..) | Reason::NotIn(..) => code == 12,
+        Reason::AlreadyIn(..) => code == 11,
         Reason::OneSet | Reason::DeadUnasked(_) => code == 4,
         Reason::References(..) => code == 19,
         Reason::Change(_, _, delta) => is_of_change(*delta, code),

@@ -4,7 +4,7 @@ ghost use Rattle.mach_types.specs.Numbers.{most_rights};
 ghost use Rattle.name_space.specs.Entry.{port_named, receive_named};
 ghost use Rattle.copyin_base.specs.Worlds.{HasTask, WorldView};
 ghost use Rattle.mach_causes_base.specs.Needs as needs;
-ghost use Rattle.mach_causes_base.specs.Tables.{HasNames, HasPort, IsDead, IsFull, IsIn, IsKeptFrom, IsNotThere, IsOthers, IsOutOfReach, LacksTask, LacksWaited, Tells, WasMadeOnce, under};
+ghost use Rattle.mach_causes_base.specs.Tables.{HasNames, HasPort, IsDead, IsFull, IsIn, IsNotIn, IsKeptFrom, IsNotThere, IsOthers, IsOutOfReach, LacksTask, LacksWaited, Tells, WasMadeOnce, under};
 
 use crate::cause::{Reason, Wanted};
 use crate::needs::suffices;
@@ -12,7 +12,7 @@ use copyin_base::World;
 use mach_follow::{Place, Standing};
 use mach_types::limits::{MOST_NAMES, MOST_REFERENCES, MOST_RIGHTS, MOST_TASKS};
 use mach_types::{PortId, SetId, TaskId, Waited};
-use port::Holder;
+use port::{Holder, Membership};
 
 /// Whether the reason is true of the tables. Constant time, but for a loop of queues: there it is linear in the way from the
 /// message's destination.
@@ -29,12 +29,15 @@ pub(crate) fn is_true(world: &World, reason: &Reason) -> bool
         }
         Reason::InNoSet(..)
         | Reason::InSet(..)
+        | Reason::AlreadyIn(..)
+        | Reason::NotIn(..)
         | Reason::Full(..)
         | Reason::Died(..)
         | Reason::Member(..)
         | Reason::Changed(..)
         | Reason::OwnDestination(..)
-        | Reason::Loop(..) => is_true_of_ports(world, reason),
+        | Reason::Loop(..)
+        | Reason::OneSet => is_true_of_ports(world, reason),
         _ => is_true_of_name(world, reason) || is_true_of_numbers(reason),
     }
 }
@@ -72,9 +75,13 @@ fn is_true_of_ports(world: &World, reason: &Reason) -> bool
         Reason::InNoSet(place, port) => {
             names_receive(world, place, *port) && is_in(world, *port, None)
         }
-        Reason::InSet(place, port, set) => {
+        Reason::InSet(place, port, set) | Reason::AlreadyIn(place, port, set) => {
             names_receive(world, place, *port) && is_in(world, *port, Some(*set))
         }
+        Reason::NotIn(place, port, set) => {
+            names_receive(world, place, *port) && is_not_in(world, *port, *set)
+        }
+        Reason::OneSet => !world.has_several_sets(),
         Reason::Full(port, queued, limit) => is_full(world, *port, *queued, *limit),
         Reason::Died(waited, was_made) => is_gone(world, waited, *was_made),
         Reason::Member(port, set) => is_in(world, *port, Some(*set)),
@@ -103,7 +110,7 @@ fn is_true_of_numbers(reason: &Reason) -> bool
         Reason::PaysBy(number) => *number != 18 && *number != 21,
         Reason::Sync(number) => *number > 0,
         Reason::NoReferences(delta) => *delta != 0 && *delta != -1,
-        Reason::Message(_) | Reason::Memory | Reason::NoBuffer | Reason::OneSet => true,
+        Reason::Message(_) | Reason::Memory | Reason::NoBuffer => true,
         _ => false,
     }
 }
@@ -170,13 +177,20 @@ fn names_receive(world: &World, place: &Place, port: PortId) -> bool
     }
 }
 
-/// Whether the port is there, and in this set, or in none.
+/// Whether the port is there, and not in this set.
+fn is_not_in(world: &World, port: PortId, set: SetId) -> bool
+    ensures { IsTrue result → IsNotIn world.now port set }
+{
+    world.has_port(port) && !world.is_in(port, set)
+}
+
+/// Whether the port is there, and in this set beside others perhaps, or in none.
 fn is_in(world: &World, port: PortId, set: Option<SetId>) -> bool
     ensures { IsTrue result → IsIn world.now port set }
 {
-    match world.find_attributes(port) {
-        Some(attributes) => attributes.set == set,
-        None => false,
+    match set {
+        Some(set) => world.is_in(port, set),
+        None => world.has_port(port) && world.membership(port) == Membership::Nowhere,
     }
 }
 

@@ -1,6 +1,5 @@
 //! The follower, and the questions that it is asked.
-ghost use Rattle.std.specs.Prelude.{◌≡◌, ◌≢◌};
-ghost use Rattle.mach_types.specs.declared.profiles.Profile.TheVariants.{Three};
+ghost use Rattle.std.specs.Prelude.{◌≡◌};
 ghost use Rattle.mach_model.specs.State.{opening_in};
 ghost use Rattle.copyin_base.specs.Shows.{Shows};
 
@@ -57,7 +56,6 @@ impl Follower {
     /// Makes a follower at the beginning of a history of this profile: its tables show the state in which nothing was made
     /// yet. Takes no memory.
     pub fn new(alloc: Global, profile: Profile) -> Follower
-        requires one_set { profile ≢ Three }
         ensures opens { Shows result.kernel.tables (opening_in profile) }
     {
         Follower {

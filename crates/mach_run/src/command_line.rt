@@ -1,7 +1,4 @@
 //! The words of the command line, and the job that they name ([`read_words`]).
-ghost use Rattle.std.specs.Prelude.{◌≢◌, IfOk};
-ghost use Rattle.mach_types.specs.declared.profiles.Profile.TheVariants.{Three};
-ghost use Rattle.mach_run_base.specs.Jobs.{HasKernel};
 
 use clap::{Arg, ArgAction, ArgMatches, Command, Error};
 use mach_run_base::Job;
@@ -28,8 +25,8 @@ const CALLS: &str = "\
     mscount T NAME N\n  \
     seqno T NAME N\n  \
     move T MEMBER SET             SET 0: into none\n  \
-    insmember T MEMBER SET        refused with code 4,\n  \
-    exmember T MEMBER SET         since a port is in one set at most\n  \
+    insmember T MEMBER SET        into SET too; in profiles 1 and 2 refused with code 4,\n  \
+    exmember T MEMBER SET         out of SET alone; since a port is in one set at most\n  \
     members T NAME\n  \
     notify T NAME VARIANT SYNC NOTIFY DISP\n  \
                                   VARIANT 69: port destroyed, 70: no senders, 72: dead name;\n  \
@@ -45,7 +42,7 @@ const CALLS: &str = "\
 const LEVELS: &[&str] = &["info", "warn"];
 
 /// The profiles of `run` and `trace`.
-const PROFILES: &[&str] = &["1", "2"];
+const PROFILES: &[&str] = &["1", "2", "3"];
 
 /// What the words ask for.
 #[derive(Clone, Copy)]
@@ -60,9 +57,7 @@ pub struct Request<'a> {
 ///
 /// An error comes where the words name no job of the program, ask for help, or memory is refused;
 /// its kind tells which, and its text shows the usage.
-pub fn read_words<'a>(alloc: Global, words: &'a [String]) -> Result<Request<'a>, Error>
-    ensures profile { IfOk result (λ request. HasKernel request.job) }
-{
+pub fn read_words<'a>(alloc: Global, words: &'a [String]) -> Result<Request<'a>, Error> {
     let matches = program(alloc)?.try_get_matches_from(words)?;
     Ok(Request {
         job: job_named(&matches),
@@ -71,9 +66,7 @@ pub fn read_words<'a>(alloc: Global, words: &'a [String]) -> Result<Request<'a>,
 }
 
 /// The job of the subcommand.
-fn job_named(matches: &ArgMatches<'_>) -> Job
-    ensures profile { HasKernel result }
-{
+fn job_named(matches: &ArgMatches<'_>) -> Job {
     match matches.subcommand() {
         Some(("trace", of_subcommand)) => Job::Trace {
             profile: profile_named(of_subcommand),
@@ -87,11 +80,10 @@ fn job_named(matches: &ArgMatches<'_>) -> Job
 }
 
 /// The profile that the words after the subcommand name, the first where they name none.
-fn profile_named(of_subcommand: &ArgMatches<'_>) -> Profile
-    ensures profile { result ≢ Three }
-{
+fn profile_named(of_subcommand: &ArgMatches<'_>) -> Profile {
     match of_subcommand.get_str("PROFILE") {
         Some("2") => Profile::Two,
+        Some("3") => Profile::Three,
         _ => Profile::One,
     }
 }
@@ -127,7 +119,9 @@ fn profile_option<'a>(alloc: Global) -> Arg<'a> {
         .long("profile")
         .action(ArgAction::Set)
         .value_parser(PROFILES)
-        .help("How fresh names are made: 1, the least number; 2, with a generation")
+        .help(
+            "1: a fresh name is the least number; 2: it has a generation; 3: so, and a port may be in several sets",
+        )
 }
 
 /// The option that names a level.

@@ -4,8 +4,6 @@
 //! reader and writers.
 #![tactic(auto)]
 
-ghost use Rattle.mach_run_base.specs.Jobs.{HasKernel};
-
 mod command_line;
 
 use clap::error::ErrorKind;
@@ -85,9 +83,7 @@ fn open<R: Files + Input + AllocGlobal + Threads + Wait + Sync, W: Write + Drop,
     request: &Request<'_>,
     out: W,
     err: &mut E,
-) -> u8
-    requires profile { HasKernel request.now.job }
-{
+) -> u8 {
     let Some(name) = request.file else {
         return start(rt, request.job, "-", &mut rt.reader(), out, err);
     };
@@ -105,9 +101,7 @@ fn start<H: AllocGlobal + Threads + Wait + Sync, R: Read, W: Write + Drop, E: Wr
     file: &mut R,
     out: W,
     err: &mut E,
-) -> u8
-    requires profile { HasKernel job }
-{
+) -> u8 {
     let alloc = rt.alloc();
     match BufWriter::with_capacity(alloc, WRITTEN_AT_ONCE, out) {
         Ok(mut out) => perform(rt, alloc, job, name, file, &mut out, err),

@@ -65,7 +65,7 @@ pub no-heading : (a : Option (List ℕ)) (line : List ℕ) → IfSome a (λ left
 no-heading None line is none = tt
 no-heading (Some left) line is none =
     IsFirstBadLine.no_heading refl
-    (λ profile rest had same. none profile [] had (append-nil (heading profile) ∙ sym (first (heading_text profile) rest (heading_lacks profile)) ∙ ap (take_through 10) same ∙ sym is))
+    (λ profile rest same. none profile [] (append-nil (heading profile) ∙ sym (first (heading_text profile) rest (heading_lacks profile)) ∙ ap (take_through 10) same ∙ sym is))
 
 -- one more entry is read
 pub entry-read : (profile : Profile) (a b c : Option (List ℕ)) (done : List Entry) (e : Entry) (line rest : List ℕ) → Consumes a b (history_text profile done) → IfSome b (λ left. line ≡ take_through 10 left)
@@ -78,22 +78,20 @@ entry-read profile (Some text) (Some left) c done e line rest so_far is taken fi
     (Consumes-trans (Some text) (Some left) c (history_text profile done) (entry_line e) so_far (subst (Consumes (Some left) c) (is ∙ sym whole) taken))
 
 -- all is read
-pub text-read : (profile : Profile) (a b : Option (List ℕ)) (done : List Entry) → profile ≢ Three → All FitsLine done → Consumes a b (history_text profile done) → IsAtEnd b → IsTextOf a profile done
-text-read profile a b done had fit so_far end = record {
-  had = had;
+pub text-read : (profile : Profile) (a b : Option (List ℕ)) (done : List Entry) → All FitsLine done → Consumes a b (history_text profile done) → IsAtEnd b → IsTextOf a profile done
+text-read profile a b done fit so_far end = record {
   fit = fit;
   spelled = Consumes-whole a b (history_text profile done) (λ text. history_text profile done ≡ text) so_far end refl;
 }
 
 -- what is left begins with no entry's line
-pub bad-entry : (profile : Profile) (a b : Option (List ℕ)) (done : List Entry) (line : List ℕ) (n : ℕ) → profile ≢ Three → All FitsLine done → Consumes a b (history_text profile done)
+pub bad-entry : (profile : Profile) (a b : Option (List ℕ)) (done : List Entry) (line : List ℕ) (n : ℕ) → All FitsLine done → Consumes a b (history_text profile done)
     → IfSome b (λ left. line ≡ take_through 10 left) → StartsNoEntry line → 0 < length line → length done + 2 ≡ n → IfSome a (λ text. IsFirstBadLine text n)
-bad-entry profile None b done line n had fit so_far is bad some number = tt
-bad-entry profile (Some text) None done line n had fit so_far is bad some number = absurd so_far
-bad-entry profile (Some text) (Some left) done line n had fit so_far is bad some number =
+bad-entry profile None b done line n fit so_far is bad some number = tt
+bad-entry profile (Some text) None done line n fit so_far is bad some number = absurd so_far
+bad-entry profile (Some text) (Some left) done line n fit so_far is bad some number =
     IsFirstBadLine.no_entry (record {
       profile = profile;
-      had = had;
       entries = done;
       fit = fit;
       number = number;
@@ -107,7 +105,7 @@ bad-entry profile (Some text) (Some left) done line n had fit so_far is bad some
 pub text-good : (bytes : Option (List ℕ)) (text : List ℕ) (profile : Profile) (entries : List Entry) (n : ℕ) → bytes ≡ Some text → IsTextOf bytes profile entries → IsFirstBadLine text n → ⊥
 text-good bytes text profile entries n known is bad =
     let same : history_text profile entries ≡ text = subst (λ (o : Option (List ℕ)). IfSome o (λ whole. history_text profile entries ≡ whole)) known is.spelled in
-    no-bad-line profile entries text n is.had is.fit same bad
+    no-bad-line profile entries text n is.fit same bad
 
 -- no entry was seen
 pub seen-none : (profile : Profile) (judge : Judge) → judge.unconfirmed ≡ None → Shows judge.kernel.tables (opening_in profile) → HasSeen profile judge []

@@ -1,9 +1,8 @@
 -- What a job that was done has written.
-use Rattle.std.specs.Prelude.{◌≡◌, ◌≢◌, ℕ, Bool, true, false, List, [], ◌++◌, Option, IfSome, flat_map, if◌then◌else◌}
+use Rattle.std.specs.Prelude.{◌≡◌, ℕ, Bool, true, false, List, [], ◌++◌, Option, IfSome, flat_map, if◌then◌else◌}
 use Rattle.log.specs.Level.{allows}
 use Rattle.log.specs.declared.level.LevelFilter.{LevelFilter}
 use Rattle.mach_types.specs.declared.profiles.Profile.{Profile}
-use Rattle.mach_types.specs.declared.profiles.Profile.TheVariants.{Three}
 use Rattle.kernel_lock.specs.declared.entry.Entry.{Entry}
 use Rattle.kernel_lock.specs.History.{Known, Legal}
 use Rattle.tracer.specs.Histories.{heading, entry_line}
@@ -18,12 +17,6 @@ use Rattle.mach_run_base.specs.Callers.{IsOfScript}
 use Rattle.mach_run_base.specs.Output.{IsAnswered}
 use Rattle.mach_run_base.specs.Scripts.{IsScript, IsFirstBadLine, said_script}
 use Rattle.mach_run_base.specs.Verdicts.{IsLegalText, verdict_line}
-
--- A kernel of the job's profile can be had.
-abbrev pub HasKernel : Job → Type 0
-HasKernel (Job.Run profile) = profile ≢ Three
-HasKernel (Job.Trace profile warn) = profile ≢ Three
-HasKernel Job.Check = Unit {0}
 
 abbrev pub profile_of : Shown → Profile
 profile_of (Shown.Replies profile) = profile

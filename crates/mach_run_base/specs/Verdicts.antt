@@ -1,7 +1,6 @@
 -- What is told of a history, and of which text.
-use Rattle.std.specs.Prelude.{◌≡◌, ◌≢◌, ℕ, List, [], ◌∷◌, ◌++◌, All, Option, IfSome, IfNone, codes, decimal, length}
+use Rattle.std.specs.Prelude.{◌≡◌, ℕ, List, [], ◌∷◌, ◌++◌, All, Option, IfSome, IfNone, codes, decimal, length}
 use Rattle.mach_types.specs.declared.profiles.Profile.{Profile}
-use Rattle.mach_types.specs.declared.profiles.Profile.TheVariants.{Three}
 use Rattle.kernel_lock.specs.declared.entry.Entry.{Entry}
 use Rattle.kernel_lock.specs.History.{Legal}
 use Rattle.kernel_lock.specs.Replays.{Replays}
@@ -12,7 +11,6 @@ use Rattle.mach_run_base.specs.declared.checking.Verdict.{Verdict}
 
 -- The bytes, where they are known, are the text of the history of these entries by this profile.
 pub record IsTextOf (bytes : Option (List ℕ)) (profile : Profile) (entries : List Entry) : Type 0 where
-  pub had : profile ≢ Three
   pub fit : All FitsLine entries
   pub spelled : IfSome bytes (λ text. history_text profile entries ≡ text)
 

@@ -1,8 +1,7 @@
 //! Histories judged line by line, so that neither their text nor their entries take memory.
-ghost use Rattle.std.specs.Prelude.{◌≡◌, ◌≢◌, ◌+◌, ◌++◌, ℕ, List, [], ◌∷◌, Option, None, IfOk, OnOk, length};
+ghost use Rattle.std.specs.Prelude.{◌≡◌, ◌+◌, ◌++◌, ℕ, List, [], ◌∷◌, Option, None, IfOk, OnOk, length};
 ghost use Rattle.std.specs.Io.KnownBytes.{Appends, Consumes};
 ghost use Rattle.mach_types.specs.declared.profiles.Profile.{Profile as AnyProfile};
-ghost use Rattle.mach_types.specs.declared.profiles.Profile.TheVariants.{Three};
 ghost use Rattle.tracer.specs.Histories.{history_text};
 ghost use Rattle.kernel_lock.specs.declared.entry.Entry.{Entry as AnyEntry};
 ghost use Rattle.mach_run_base.specs.declared.checking.Verdict.{Verdict as AnyVerdict};
@@ -54,7 +53,6 @@ pub(crate) struct Judge {
 impl Judge {
     /// No entry was seen of a history of this profile. Takes no memory.
     fn new(alloc: Global, profile: Profile) -> Judge
-        requires { profile ≢ Three }
         ensures { HasSeen profile result [] }
     {
         Judge {
@@ -154,7 +152,7 @@ fn judge_entries<'a, B: BufRead>(
     reader: &mut B,
     judge: &mut Judge,
 ) -> Result<Verdict, Fault<'a>>
-    ensures { (whole : Option (List ℕ)) (profile : AnyProfile) → profile ≢ Three → HasSeen profile judge.old [] → Consumes whole (B.remaining reader.old) (history_text profile [])
+    ensures { (whole : Option (List ℕ)) (profile : AnyProfile) → HasSeen profile judge.old [] → Consumes whole (B.remaining reader.old) (history_text profile [])
         → IfOk result (IsVerdict whole) }
 {
     let mut line = Vec::new(alloc);

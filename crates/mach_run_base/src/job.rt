@@ -1,11 +1,10 @@
 //! The jobs of the program, over any reader and writers.
 ghost use Rattle.std.specs.Prelude.{◌≡◌, ◌≢◌, ◌≤◌, ℕ, true, List, map, All, Some, Ok, IfOk, IsErr, OnOk};
 ghost use Rattle.std.specs.Io.KnownBytes.{Appends, Keeps};
-ghost use Rattle.mach_types.specs.declared.profiles.Profile.TheVariants.{Three};
 ghost use Rattle.kernel_lock.specs.declared.entry.Entry.{Entry as AnyEntry};
 ghost use Rattle.kernel_lock.specs.History.{Legal};
 ghost use Rattle.mach_run_base.specs.Enrolling.{AreWhole, pass_of};
-ghost use Rattle.mach_run_base.specs.Jobs.{HasKernel, IsBad, IsDone, IsMade, IsMadeOf, IsHistory, profile_of, history_shown, head_shown, entry_shown};
+ghost use Rattle.mach_run_base.specs.Jobs.{IsBad, IsDone, IsMade, IsMadeOf, IsHistory, history_shown, head_shown, entry_shown};
 ghost use Rattle.mach_run_base.specs.Scripts.{IsFirstBadLine};
 
 use crate::checking::check_file;
@@ -87,7 +86,6 @@ pub fn perform<S: Threads + Wait + Sync, R: Read, W: Write, E: Write>(
     out: &mut W,
     err: &mut E,
 ) -> u8
-    requires profile { HasKernel job }
     ensures status { result ≤ 1 }
     ensures done { result ≡ 0 → (text : List ℕ) × IsDone job (R.remaining file.old) text × Appends (W.contents out.old) (W.contents out.new) text }
     ensures bad { (bytes : List ℕ) (n : ℕ) → R.remaining file.old ≡ Some bytes → IsBad job bytes n
@@ -108,7 +106,6 @@ fn start<'a, S: Threads + Wait + Sync, R: Read, W: Write>(
     file: &mut R,
     out: &mut W,
 ) -> Result<u8, Fault<'a>>
-    requires profile { HasKernel job }
     ensures status { IfOk result (λ status. status ≤ 1) }
     ensures done { result ≡ Ok 0 → (text : List ℕ) × IsDone job (R.remaining file.old) text × Appends (W.contents out.old) (W.contents out.new) text }
     ensures bad { (bytes : List ℕ) (n : ℕ) → R.remaining file.old ≡ Some bytes → IsBad job bytes n
@@ -132,7 +129,6 @@ fn run_file<'a, S: Threads + Wait + Sync, R: Read, W: Write>(
     file: &mut R,
     out: &mut W,
 ) -> Result<u8, Fault<'a>>
-    requires profile { profile_of shown ≢ Three }
     ensures status { IfOk result (λ status. status ≡ 0) }
     ensures done { OnOk result ((text : List ℕ) × IsMadeOf shown (R.remaining file.old) text × Appends (W.contents out.old) (W.contents out.new) text) }
     ensures bad { (bytes : List ℕ) (n : ℕ) → R.remaining file.old ≡ Some bytes → IsFirstBadLine bytes n
@@ -153,7 +149,6 @@ fn make<S: Threads + Wait + Sync, W: Write>(
     script: Script,
     out: &mut W,
 ) -> Result<(), Fault<'static>>
-    requires profile { profile_of shown ≢ Three }
     ensures { OnOk result ((text : List ℕ) × IsMade shown script text × Appends (W.contents out.old) (W.contents out.new) text) }
 {
     match shown {
@@ -173,7 +168,6 @@ fn answer_script<S: Threads + Wait + Sync, W: Write>(
     script: Script,
     out: &mut W,
 ) -> Result<(), Fault<'static>>
-    requires profile { profile ≢ Three }
     ensures { OnOk result ((text : List ℕ) × IsMade (Shown.Replies profile) script text × Appends (W.contents out.old) (W.contents out.new) text) }
 {
     let shared = Shared::with_profile_without_entries(alloc, profile)?;

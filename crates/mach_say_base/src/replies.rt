@@ -6,7 +6,7 @@ use mach_causes_base::Cause;
 use mach_follow::Follower;
 use mach_say_play::{Board, Play};
 use mach_say_words::{TOLD_AT, has_data, right_at};
-use mach_types::{Event, Name, Profile, Reply, TaskId};
+use mach_types::{Event, Name, Reply, TaskId};
 use mach_words::{Text, notice_word, task_of, word_at, write_code, write_type};
 use message_codec::{Received, read_received};
 use std::alloc::Global;
@@ -65,11 +65,7 @@ fn is_message(entry: &Entry) -> bool {
 /// Writes why the last call was refused with the code, if a cause is found. It owns the follower, and does nothing else: each
 /// way out of a function drops what it owns, and the follower has all tables of a kernel.
 fn write_why(play: &Play, entry: &Entry, code: u32, out: &mut Text) {
-    let profile = match play.stage.profile() {
-        Profile::Two => Profile::Two,
-        _ => Profile::One,
-    };
-    let mut follower = Follower::new(play.alloc, profile);
+    let mut follower = Follower::new(play.alloc, play.stage.profile());
     write_why_by(&mut follower, play, entry, code, out);
 }
 

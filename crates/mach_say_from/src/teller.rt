@@ -1,6 +1,4 @@
 //! Goes through a history, and writes a statement for each entry.
-ghost use Rattle.std.specs.Prelude.{◌≢◌};
-ghost use Rattle.mach_types.specs.declared.profiles.Profile.TheVariants.{Three};
 
 use crate::label::{Label, NUMBERS};
 use crate::words::{Actor, Table, is_name};
@@ -48,11 +46,11 @@ pub fn tell(
     entries: &[Entry],
     labels: Labels,
     out: &mut Text,
-) -> Result<(), TellFault>
-    requires one_set { profile ≢ Three }
-{
-    if profile == Profile::Two {
-        out.words("profile 2\n");
+) -> Result<(), TellFault> {
+    match profile {
+        Profile::One => {}
+        Profile::Two => out.words("profile 2\n"),
+        Profile::Three => out.words("profile 3\n"),
     }
     let mut teller = Teller {
         alloc,

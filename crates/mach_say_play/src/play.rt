@@ -1,8 +1,7 @@
 //! Makes the calls of a storyboard's statements.
-ghost use Rattle.std.specs.Prelude.{◌≡◌, ◌≢◌, [], ◌∷◌, ◌++◌, List, All, OnOk, length};
+ghost use Rattle.std.specs.Prelude.{◌≡◌, [], ◌∷◌, ◌++◌, List, All, OnOk, length};
 ghost use Rattle.kernel_lock.specs.declared.entry.Entry.{Entry as AnyEntry};
 ghost use Rattle.mach_say_play.specs.Played.{Adds, AreOf, IsAsSaid, MakesTask};
-ghost use Rattle.mach_types.specs.declared.profiles.Profile.TheVariants.{Three};
 
 use crate::board::{Actor, Board};
 use crate::fault::{PlayFault, span_of};
@@ -41,7 +40,6 @@ impl Drop for Play {
 impl Play {
     /// Has a kernel of the storyboard's profile, on which no call was made. Takes no memory.
     pub fn new(alloc: Global, profile: Profile) -> Play
-        requires one_set { profile ≢ Three }
         ensures profile { result.stage.profile ≡ profile }
         ensures none { result.stage.entries ≡ [] }
     {
@@ -200,9 +198,7 @@ fn check_waits(actor: &Actor, said: &SaidCall<'_>) -> Result<(), PlayFault> {
 }
 
 /// Returns the profile that the storyboard begins with: the first, if it names none.
-pub fn profile_of(storyboard: &Storyboard<'_>) -> Profile
-    ensures had { result ≢ Three }
-{
+pub fn profile_of(storyboard: &Storyboard<'_>) -> Profile {
     match storyboard.statements.as_slice() {
         [first, ..] => said_profile(&first.statement),
         [] => Profile::One,
@@ -210,11 +206,10 @@ pub fn profile_of(storyboard: &Storyboard<'_>) -> Profile
 }
 
 /// Returns the profile that the statement names: the first, if it names none.
-fn said_profile(statement: &Statement<'_>) -> Profile
-    ensures had { result ≢ Three }
-{
+fn said_profile(statement: &Statement<'_>) -> Profile {
     match statement {
         Statement::Profile(Profile::Two) => Profile::Two,
+        Statement::Profile(Profile::Three) => Profile::Three,
         _ => Profile::One,
     }
 }

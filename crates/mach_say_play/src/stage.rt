@@ -1,7 +1,6 @@
 //! A kernel with the history of its calls.
-ghost use Rattle.std.specs.Prelude.{◌≡◌, ◌≢◌, [], ◌∷◌, ◌++◌, IfOk, OnOk, OnErr};
+ghost use Rattle.std.specs.Prelude.{◌≡◌, [], ◌∷◌, ◌++◌, IfOk, OnOk, OnErr};
 ghost use Rattle.mach_types.specs.declared.calls.Reply.{Reply as AnyReply};
-ghost use Rattle.mach_types.specs.declared.profiles.Profile.TheVariants.{Three};
 ghost use Rattle.kernel_lock.specs.History.{Legal, entry};
 ghost use Rattle.mach_say_words.specs.Fits.{Fits};
 
@@ -35,7 +34,6 @@ impl Model for Stage {
 impl Stage {
     /// Makes a kernel of this profile, on which no call was made. Takes no memory.
     pub(crate) fn new(alloc: Global, profile: Profile) -> Stage
-        requires one_set { profile ≢ Three }
         ensures profile { result.profile ≡ profile }
         ensures none { result.entries ≡ [] }
     {

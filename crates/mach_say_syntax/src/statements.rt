@@ -141,6 +141,7 @@ fn profile(reader: &mut Reader<'_>) -> Profile {
     match word.text {
         b"1" => Profile::One,
         b"2" => Profile::Two,
+        b"3" => Profile::Three,
         _ => {
             reader.fail(Fault::At(word.column, Cause::NoProfile(word.text)));
             Profile::One

@@ -103,7 +103,7 @@ fn write_about(cause: &Cause<'_>, out: &mut Text) {
         Cause::NoCall(word) => (word, " is no call of a script; 'mach_show lint' says why"),
         Cause::NoReply(word) => (word, " is no reply"),
         Cause::NoAnswer(word) => (word, " is nothing that this call answers"),
-        Cause::NoProfile(word) => (word, " is no profile of a kernel; profiles are 1 and 2"),
+        Cause::NoProfile(word) => (word, " is no profile of a kernel; profiles are 1, 2 and 3"),
         _ => return,
     };
     out.quoted(word);

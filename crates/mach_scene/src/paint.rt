@@ -385,6 +385,11 @@ impl<'a> Painter<'a> {
             part(text);
             text.words("in set ");
             self.labels.write_set(SetId::new(set), text);
+            if frame.more_sets > 0 {
+                text.words(" and ");
+                text.number(frame.more_sets);
+                text.words(" more");
+            }
         }
         for (word, told) in [
             ("no-senders:", frame.no_senders),

@@ -84,6 +84,7 @@ pub(crate) fn frame_of(state: &State<'_>, identity: u64) -> Option<Frame> {
             Some(set) => Some(set.number()),
             None => None,
         },
+        more_sets: said.more_sets as u64,
         is_carried: matches!(said.holder, Holder::QueueOf(_)),
         no_senders: live(state, said.no_senders),
         port_destroyed: live(state, said.port_destroyed),

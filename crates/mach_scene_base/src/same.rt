@@ -43,6 +43,7 @@ fn are_same_frames(one: &Frame, other: &Frame) -> bool
         && one.made == other.made
         && one.next == other.next
         && one.set == other.set
+        && one.more_sets == other.more_sets
         && one.is_carried == other.is_carried
         && one.no_senders == other.no_senders
         && one.port_destroyed == other.port_destroyed

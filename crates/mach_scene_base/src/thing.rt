@@ -43,8 +43,10 @@ pub struct Frame {
     pub made: u32,
     /// The sequence number of the next message.
     pub next: u32,
-    /// The set that the port is in.
+    /// The set that the port is in; the first of them, where it is in several.
     pub set: Option<u64>,
+    /// In how many sets it is beside the first.
+    pub more_sets: u64,
     /// Whether a message carries its receive right.
     pub is_carried: bool,
     /// The live port that the no-senders request tells.

@@ -1,6 +1,4 @@
 //! The job `state`: shows the state after an entry.
-ghost use Rattle.std.specs.Prelude.{◌≢◌};
-ghost use Rattle.mach_types.specs.declared.profiles.Profile.TheVariants.{Three};
 
 use kernel_lock::Entry;
 use mach_fates::Fates;
@@ -49,9 +47,7 @@ fn show_after<'a, R: Read>(
     reader: &mut BufReader<&mut R>,
     line: &mut Vec<u8>,
     out: &mut Output,
-) -> Result<Done, Fault<'a>>
-    requires one_set { profile ≢ Three }
-{
+) -> Result<Done, Fault<'a>> {
     let mut stander = Stander::new(asked, profile);
     stander.show(reader, line, out)
 }
@@ -72,9 +68,7 @@ struct Stander<'a> {
 
 impl<'a> Stander<'a> {
     /// Stands at the beginning of a history of this profile. Takes no memory.
-    fn new(asked: &Asked<'a>, profile: Profile) -> Stander<'a>
-        requires one_set { profile ≢ Three }
-    {
+    fn new(asked: &Asked<'a>, profile: Profile) -> Stander<'a> {
         Stander {
             shown: asked.source,
             last: asked.last,

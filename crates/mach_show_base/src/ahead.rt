@@ -1,6 +1,4 @@
 //! Reads a history ahead, for what becomes of its messages.
-ghost use Rattle.std.specs.Prelude.{◌≢◌};
-ghost use Rattle.mach_types.specs.declared.profiles.Profile.TheVariants.{Three};
 
 use crate::fault::Fault;
 use crate::output::{Done, Output};
@@ -122,9 +120,7 @@ impl Ahead {
         profile: Profile,
         reader: &mut BufReader<&mut R>,
         line: &mut Vec<u8>,
-    ) -> Result<(), Fault<'a>>
-        requires one_set { profile ≢ Three }
-    {
+    ) -> Result<(), Fault<'a>> {
         let mut messages = Messages {
             follower: Follower::new(self.alloc, profile),
             fates: Fates::new(self.alloc),

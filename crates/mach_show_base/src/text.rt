@@ -1,6 +1,4 @@
 //! The job `text`: shows histories entry by entry.
-ghost use Rattle.std.specs.Prelude.{◌≢◌};
-ghost use Rattle.mach_types.specs.declared.profiles.Profile.TheVariants.{Three};
 
 use crate::fault::Fault;
 use crate::filter::Filter;
@@ -67,9 +65,7 @@ fn show_entries<'a, R: Read>(
     reader: &mut BufReader<&mut R>,
     line: &mut Vec<u8>,
     out: &mut Output,
-) -> Result<Done, Fault<'a>>
-    requires one_set { profile ≢ Three }
-{
+) -> Result<Done, Fault<'a>> {
     let mut teller = Teller::new(shown, profile);
     show_all(&mut teller, reader, line, out)
 }
@@ -122,9 +118,7 @@ pub struct Teller<'a, 'b> {
 
 impl<'a, 'b> Teller<'a, 'b> {
     /// Stands at the beginning of a history of this profile. Takes no memory.
-    pub fn new(shown: &Shown<'a, 'b>, profile: Profile) -> Teller<'a, 'b>
-        requires one_set { profile ≢ Three }
-    {
+    pub fn new(shown: &Shown<'a, 'b>, profile: Profile) -> Teller<'a, 'b> {
         Teller {
             shown: *shown,
             follower: Follower::new(shown.alloc, profile),

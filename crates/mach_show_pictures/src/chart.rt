@@ -1,6 +1,4 @@
 //! The job `chart`: draws a history.
-ghost use Rattle.std.specs.Prelude.{◌≢◌};
-ghost use Rattle.mach_types.specs.declared.profiles.Profile.TheVariants.{Three};
 
 use crate::source::Source;
 use kernel_lock::Entry;
@@ -80,9 +78,7 @@ fn draw_entries<'a, R: Read>(
     reader: &mut BufReader<&mut R>,
     line: &mut Vec<u8>,
     out: &mut Output,
-) -> Result<Done, Fault<'a>>
-    requires one_set { profile ≢ Three }
-{
+) -> Result<Done, Fault<'a>> {
     let mut drawer = Drawer::new(asked, profile);
     drawer.draw(reader, line, out)
 }
@@ -111,9 +107,7 @@ struct Added<'a> {
 
 impl<'a> Drawer<'a> {
     /// Stands at the beginning of a history of this profile. Takes no memory.
-    pub(crate) fn new(asked: &Asked<'a>, profile: Profile) -> Drawer<'a>
-        requires one_set { profile ≢ Three }
-    {
+    pub(crate) fn new(asked: &Asked<'a>, profile: Profile) -> Drawer<'a> {
         Drawer {
             shown: asked.source,
             style: asked.style,

@@ -1,6 +1,4 @@
 //! The job `page`, and pictures of states.
-ghost use Rattle.std.specs.Prelude.{◌≢◌};
-ghost use Rattle.mach_types.specs.declared.profiles.Profile.TheVariants.{Three};
 
 use crate::chart::{Asked as Charted, Drawer, Form, Style};
 use crate::source::Source;
@@ -125,9 +123,7 @@ fn follow_profile<'a>(
     task: (&Window, Asked<'a>),
     profile: Profile,
     out: &mut Output,
-) -> Result<Done, Fault<'a>>
-    requires one_set { profile ≢ Three }
-{
+) -> Result<Done, Fault<'a>> {
     let (window, asked) = task;
     let charted = Charted {
         source: *source,
@@ -152,9 +148,7 @@ fn tell_all<'a>(
     whole: &Whole,
     profile: Profile,
     texts: &mut Texts,
-) -> Result<(), Fault<'a>>
-    requires one_set { profile ≢ Three }
-{
+) -> Result<(), Fault<'a>> {
     let shown = Shown {
         name: pager.drawer.shown.name,
         alloc: pager.drawer.shown.alloc,
@@ -205,9 +199,7 @@ impl<'a> Pager<'a> {
         profile: Profile,
         asked: Asked<'a>,
         out: &mut Output,
-    ) -> Result<Done, Fault<'a>>
-        requires one_set { profile ≢ Three }
-    {
+    ) -> Result<Done, Fault<'a>> {
         self.read(whole)?;
         match asked {
             Asked::State(number, scheme) => self.write_state(number, scheme, out),
@@ -225,9 +217,7 @@ impl<'a> Pager<'a> {
         profile: Profile,
         title: &str,
         out: &mut Output,
-    ) -> Result<Done, Fault<'a>>
-        requires one_set { profile ≢ Three }
-    {
+    ) -> Result<Done, Fault<'a>> {
         let mut texts = Texts::new(self.drawer.shown.alloc);
         tell_all(self, whole, profile, &mut texts)?;
         self.write_page(title, &texts, out)

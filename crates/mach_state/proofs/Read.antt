@@ -1,6 +1,6 @@
 -- What the tables have of a port is so in each state that they show.
-use Rattle.std.proofs.Common.{◌≡◌, ℕ, ◌+◌, Some, List, [], ◌∷◌, length, refl, sym, ap, ◌∙◌, arith}
-use Rattle.std.specs.Prelude.{is_some}
+use Rattle.std.proofs.Common.{◌≡◌, ℕ, ◌+◌, Option, Some, None, List, [], ◌∷◌, ◌++◌, length, refl, sym, ap, ◌∙◌, arith}
+use Rattle.std.specs.Prelude.{is_some, slice_get}
 use Rattle.std.specs.Option.{option_to_list, unwrap_or}
 use Rattle.std.specs.FinMap as map
 use Rattle.mach_types.specs.Messages.{Entry}
@@ -32,10 +32,15 @@ pub record IsRead (w : WorldView) (p : ℕ) (v : PortView Kept) (a : Attributes)
   pub make_send : said.make_send ≡ a.make_send
   pub sequence : said.sequence ≡ a.sequence
   pub set : said.set ≡ a.set
+  pub none : v.attributes.set ≡ None → v.more ≡ []
   pub send_rights : said.send_rights ≡ c.send
   pub once_rights : said.once_rights ≡ c.send_once + c.destination
   pub for_no_senders : said.no_senders ≡ map.get w.requests.no_senders.map p
   pub for_its_end : said.port_destroyed ≡ map.get w.requests.port_destroyed.map p
+
+first_set : (set : Option ℕ) (more : List ℕ) → (set ≡ None → more ≡ []) → slice_get (option_to_list set ++ more) 0 ≡ set
+first_set (Some set) more none = refl
+first_set None more none = ap (λ (xs : List ℕ). slice_get xs 0) (none refl)
 
 pub read_says : (w : WorldView) (s : State) → Shows w s → (p : ℕ) (v : PortView Kept) (a : Attributes) (c : Counts) (said : PortState) → IsRead w p v a c said → SaysPort s p said
 read_says w s sh p v a c said r =
@@ -48,7 +53,7 @@ read_says w s sh p v a c said r =
       limit = sym agree.limit ∙ ap (λ (a : Attributes). a.limit) r.own ∙ sym r.limit;
       make_send = sym agree.make_send ∙ ap (λ (a : Attributes). a.make_send) r.own ∙ sym r.make_send;
       sequence = sym agree.sequence ∙ ap (λ (a : Attributes). a.sequence) r.own ∙ sym r.sequence;
-      sets = sym agree.sets ∙ ap (λ (a : Attributes). option_to_list a.set) r.own ∙ ap option_to_list (sym r.set);
+      set = ap (λ (xs : List ℕ). slice_get xs 0) (sym agree.sets) ∙ first_set v.attributes.set v.more r.none ∙ ap (λ (a : Attributes). a.set) r.own ∙ sym r.set;
       send_rights = sym counts.senders ∙ ap (λ (c : Counts). c.send) own ∙ sym r.send_rights;
       once_rights = sym counts.once_rights ∙ ap (λ (c : Counts). c.send_once + c.destination) own ∙ sym r.once_rights;
       for_no_senders = sh.agrees.of_requests.standing (Request.no_senders p) ∙ ap is_some (sym r.for_no_senders);

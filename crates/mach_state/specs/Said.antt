@@ -1,6 +1,5 @@
 -- What is said of a task's name and of a port, and when that is true of a state of the machine.
-use Rattle.std.specs.Prelude.{◌≡◌, ℕ, true, false, length, Option, Some, None, is_some}
-use Rattle.std.specs.Option.{option_to_list}
+use Rattle.std.specs.Prelude.{◌≡◌, ℕ, true, false, length, slice_get, Option, Some, None, is_some}
 use Rattle.mach_types.specs.Tokens.{receive, send, send_once, Request, count, is_of}
 use Rattle.mach_model.specs.State.{State, Target, lookup, queue, held, Holds}
 use Rattle.mach_model.specs.Telling.{one_if}
@@ -22,14 +21,14 @@ abbrev pub IsNameSaid : State → (task name : ℕ) → Option NameState → Typ
 IsNameSaid s task name (Some said) = SaysName s task name said
 IsNameSaid s task name None = lookup s task name ≡ None
 
--- The port lives, and its queue, numbers, set, rights and requests are these.
+-- The port lives, and its queue, numbers, first set, rights and requests are these.
 pub record SaysPort (s : State) (p : ℕ) (said : PortState) : Type 0 where
   pub live : s.live_port p ≡ true
   pub waiting : length (queue s p) ≡ said.queued
   pub limit : s.limit p ≡ said.limit
   pub make_send : s.make_send p ≡ said.make_send
   pub sequence : s.sequence p ≡ said.sequence
-  pub sets : s.sets_of p ≡ option_to_list said.set
+  pub set : slice_get (s.sets_of p) 0 ≡ said.set
   pub send_rights : count (is_of send p) s.ledger ≡ said.send_rights
   pub once_rights : count (is_of send_once p) s.ledger ≡ said.once_rights
   pub for_no_senders : s.stands (Request.no_senders p) ≡ is_some said.no_senders

@@ -77,11 +77,23 @@ impl<'a> State<'a> {
         out.number(state.send_rights);
         out.words("  once ");
         out.number(state.once_rights);
-        if let Some(set) = state.set {
+        self.write_sets(port, out);
+        out.words("\n");
+    }
+
+    /// Writes the sets that a port is in. Linear in them.
+    fn write_sets(&self, port: PortId, out: &mut Text) {
+        let Some(mut sets) = self.follower.tables().sets_of(port) else {
+            return;
+        };
+        if let Some(first) = sets.next_set() {
             out.words("  in set ");
+            self.labels.write_set(first, out);
+        }
+        while let Some(set) = sets.next_set() {
+            out.words(", set ");
             self.labels.write_set(set, out);
         }
-        out.words("\n");
     }
 
     /// Writes who has a port's receive right.

@@ -1,5 +1,5 @@
 //! What the tables say of a name and of a port.
-ghost use Rattle.std.specs.Prelude.{IfSome};
+ghost use Rattle.std.specs.Prelude.{◌≡◌, IfSome};
 ghost use Rattle.mach_model.specs.State.{State};
 ghost use Rattle.copyin_base.specs.Shows.{Shows};
 ghost use Rattle.mach_state.specs.Said.{IsNameSaid, IsPortSaid, Receives};
@@ -23,8 +23,10 @@ pub struct NameState {
 pub struct PortState {
     /// Who holds the receive right.
     pub holder: Holder,
-    /// The set that the port is in.
+    /// The set that the port is in; the first of them, where it is in several.
     pub set: Option<SetId>,
+    /// In how many sets it is beside the first. Nothing is promised of this number.
+    pub more_sets: usize,
     /// How many messages are queued.
     pub queued: usize,
     /// How many messages from send rights may be queued, 0 to 16.
@@ -56,7 +58,19 @@ pub fn name_state(world: &World, task: TaskId, name: Name) -> Option<NameState>
     Some(NameState { standing, notify })
 }
 
-/// Returns what the tables say of a port; `None` if it doesn't live. Constant time.
+/// Returns in how many sets the port is beside the first. Linear in them.
+fn count_more_sets(world: &World, port: PortId) -> usize {
+    let Some(mut sets) = world.sets_of(port) else {
+        return 0;
+    };
+    let mut count: usize = 0;
+    while let Some(_) = sets.next_set() {
+        count = count.saturating_add(1);
+    }
+    count.saturating_sub(1)
+}
+
+/// Returns what the tables say of a port; `None` if it doesn't live. Linear in its sets.
 pub fn port_state(world: &World, port: PortId) -> Option<PortState>
     ensures { (s : State) → Shows world.now s → IsPortSaid s port result }
 {
@@ -65,6 +79,7 @@ pub fn port_state(world: &World, port: PortId) -> Option<PortState>
     Some(PortState {
         holder: attributes.holder,
         set: attributes.set,
+        more_sets: count_more_sets(world, port),
         queued: world.queued(port),
         limit: attributes.limit,
         make_send: attributes.make_send,

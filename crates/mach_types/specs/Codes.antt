@@ -4,6 +4,8 @@ use Rattle.mach_types.specs.declared.codes.KernReturn.{KernReturn}
 use Rattle.mach_types.specs.declared.codes.KernReturn.TheVariants as kern
 use Rattle.mach_types.specs.declared.codes.MsgReturn.{MsgReturn}
 use Rattle.mach_types.specs.declared.codes.MsgReturn.TheVariants as msg
+use Rattle.mach_types.specs.declared.codes.Code.{Code}
+use Rattle.mach_types.specs.declared.codes.Code.TheVariants as any
 
 abbrev pub kern_number : KernReturn → ℕ
 kern_number kern.Success = 0  -- KERN_SUCCESS
@@ -40,3 +42,7 @@ msg_number msg.ReceivePortDied = 0x10004009  -- MACH_RCV_PORT_DIED
 msg_number msg.ReceiveInSet = 0x1000400a  -- MACH_RCV_IN_SET
 msg_number msg.ReceiveBodyErrorMemory = 0x1000480c  -- MACH_RCV_BODY_ERROR | MACH_MSG_IPC_KERNEL
 msg_number msg.ReceiveBodyErrorNames = 0x1000600c  -- MACH_RCV_BODY_ERROR | MACH_MSG_IPC_SPACE
+
+abbrev pub code_number : Code → ℕ
+code_number (any.Kern code) = kern_number code
+code_number (any.Message code) = msg_number code

@@ -73,8 +73,8 @@ pub enum Event {
     SetSeqno(TaskId, Name, u32),
     /// Asks for the names of the members of the port set under the name (`mach_port_get_set_status`).
     SetStatus(TaskId, Name),
-    /// Takes the port whose receive right is under the first name out of its set. Puts it into the set under
-    /// the second name, unless that is 0 (`mach_port_move_member`).
+    /// Takes the port whose receive right is under the first name out of each set that it is in. Puts it into
+    /// the set under the second name, unless that is 0 (`mach_port_move_member`).
     MoveMember(TaskId, Name, Name),
     /// Puts the port whose receive right is under the first name into the port set under the second, beside
     /// those that it is in. Only where a port may be in several sets.

@@ -2,7 +2,8 @@
 ghost use Rattle.std.specs.Prelude.{◌≡◌, ◌≢◌, ℕ, MatchOption};
 ghost use Rattle.mach_types.specs.declared.codes.KernReturn.{KernReturn as AnyKernReturn};
 ghost use Rattle.mach_types.specs.declared.codes.MsgReturn.{MsgReturn as AnyMsgReturn};
-ghost use Rattle.mach_types.specs.Codes.{kern_number, msg_number};
+ghost use Rattle.mach_types.specs.declared.codes.Code.TheVariants as AnyCode;
+ghost use Rattle.mach_types.specs.Codes.{kern_number, msg_number, code_number};
 
 use std::fmt;
 
@@ -228,5 +229,42 @@ impl fmt::Display for MsgReturn {
             MsgReturn::ReceiveBodyErrorMemory => "MACH_RCV_BODY_ERROR|MACH_MSG_IPC_KERNEL",
             MsgReturn::ReceiveBodyErrorNames => "MACH_RCV_BODY_ERROR|MACH_MSG_IPC_SPACE",
         })
+    }
+}
+
+/// The code that refuses a call: that of a kernel call, or that of a send or a receive.
+#[derive(Clone, Copy, Debug, PartialEq, Eq)]
+pub enum Code {
+    /// Of a kernel call.
+    Kern(KernReturn),
+    /// Of a send or a receive.
+    Message(MsgReturn),
+}
+
+impl Code {
+    /// Its number.
+    pub fn number(self) -> u32
+        ensures { result ≡ code_number self }
+    {
+        match self {
+            Code::Kern(code) => code.number(),
+            Code::Message(code) => code.number(),
+        }
+    }
+}
+
+impl From<KernReturn> for Code {
+    ghost from_gives = { λ code given. given ≡ AnyCode.Kern code };
+
+    fn from(code: KernReturn) -> Code {
+        Code::Kern(code)
+    }
+}
+
+impl From<MsgReturn> for Code {
+    ghost from_gives = { λ code given. given ≡ AnyCode.Message code };
+
+    fn from(code: MsgReturn) -> Code {
+        Code::Message(code)
     }
 }

@@ -19,7 +19,7 @@ pub mod touched;
 pub use bits::Options;
 pub use bytes::{Bytes, NameList, NameTypes};
 pub use calls::{Event, Reply, Status, Waited};
-pub use codes::{KernReturn, MsgReturn};
+pub use codes::{Code, KernReturn, MsgReturn};
 pub use identities::{Name, PortId, SetId, TaskId};
 pub use profiles::Profile;
 pub use rights::{Disposition, Right};

@@ -117,6 +117,12 @@ module _ (v : MapView BothEnds) (are : AreBlank v.map) (w : EndsMapView) (is : r
   pub len_in : map.len v.map + v.room ≡ map.len w.all + w.room
   len_in = grind (arith, all_len)
 
+  -- the ends of a list's marked items are those of its entry
+  pub mark_there : (b : BothEnds) → map.get v.map l ≡ Some b → b.marked ≡ ends_at w.marked l
+  mark_there b at =
+      let none : BothEnds = record { all = blank_ends; marked = blank_ends } in
+      ap (λ o. (unwrap_or o none).marked) (sym at) ∙ marked_at v.map are l none refl ∙ ap (λ (u : EndsMapView). ends_at u.marked l) is
+
   -- an entry is changed
   module _ (b c : BothEnds) (at : map.get v.map l ≡ Some b) where
     abbrev now : Kept
@@ -133,6 +139,12 @@ module _ (v : MapView BothEnds) (are : AreBlank v.map) (w : EndsMapView) (is : r
 
     pub all_stays : c.all ≡ b.all → all_ends now ≡ w.all
     all_stays same = grind (arith, same_gets, equal_or_not, all_get, put_here, other)
+
+    -- all but the marked ones are as they were
+    pub rest_stays : c.all ≡ b.all → ◌≡◌ {A = EndsMapView} (record { all = all_ends now; marked = marked_ends now; room = v.room }) (record w { marked = marked_ends now })
+    rest_stays same =
+        ap (λ (m : map.FinMap nat_cmp Ends). let u : EndsMapView = record { all = m; marked = marked_ends now; room = v.room } in u) (all_stays same)
+        ∙ ap (λ n. let u : EndsMapView = record { all = w.all; marked = marked_ends now; room = n } in u) (ap (λ (u : EndsMapView). u.room) is)
 
     pub marks_stay : c.marked ≡ b.marked → marked_ends now ≡ w.marked
     marks_stay same = marked_same v.map l now other (ap seen (put_here v.map l c) ∙ ap (λ (f : Ends). some_if f.first f) same ∙ sym (ap seen at)) ∙ ap (λ (u : EndsMapView). u.marked) is

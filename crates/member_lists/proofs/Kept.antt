@@ -17,6 +17,10 @@ some_or : (o : Option ℕ) (item : ℕ) → (x : ℕ) × (option_or o (Some item
 some_or None item = (item, refl)
 some_or (Some x) item = (x, refl)
 
+-- a list that an item joined has a first item
+pub linked_first : (links mores : List Link) (item : ℕ) (was now : Ends) → IsLinkedLast links mores item was now → (x : ℕ) × (now.first ≡ Some x)
+linked_first links mores item was now joined = let some = some_or was.first item in (some.0, joined.first ∙ some.1)
+
 -- the lists that these links and ends give
 abbrev pub lists_in : List Link → map.FinMap nat_cmp Ends → ListsView
 lists_in links ends = record { lists = lists_of links ends; items = length links }
@@ -36,7 +40,7 @@ module _ (links : List Link) (ends : map.FinMap nat_cmp Ends) (k : IsKept links 
 
     module _ (mores : List Link) (f : Ends) (joined : IsLinkedLast links mores item e f) where
       pub joins_some : (x : ℕ) × (f.first ≡ Some x)
-      joins_some = let some = some_or e.first item in (some.0, joined.first ∙ some.1)
+      joins_some = linked_first links mores item e f joined
 
       pub len_pushed : length mores ≡ length links
       len_pushed = len_more links mores chains k.sound v sh l item room apart e e_is joined.linked

@@ -11,3 +11,4 @@ pub mod Fields
 pub mod Both
 pub mod Marks
 pub mod Replaced
+pub mod Passed

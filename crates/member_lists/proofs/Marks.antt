@@ -1,5 +1,5 @@
 -- Lists of items of which some are marked, once the items or the marked ones of a list are others.
-use Rattle.std.proofs.Common.{◌≡◌, ◌≢◌, inl, inr, ℕ, not, eqb, ◌+◌, ◌<◌, ◌≤◌, ◌^◌, ◌++◌, ◌∷◌, [], List, Option, Some, None, length, max, true, refl, sym, subst, ◌∙◌, ap, arith, Contains}
+use Rattle.std.proofs.Common.{◌≡◌, ◌≢◌, inl, inr, ℕ, not, eqb, ◌+◌, ◌<◌, ◌≤◌, ◌^◌, ◌++◌, ◌∷◌, [], List, Option, Some, None, length, max, true, slice_get, refl, sym, subst, ◌∙◌, ap, arith, Contains}
 use Rattle.std.specs.Prelude.{unwrap_or}
 use Rattle.std.specs.FinMap as map
 use Rattle.std.proofs.lemmas.List.Elements.{Contains-append_left, Contains-push_cases}
@@ -8,13 +8,13 @@ use Rattle.member_lists.specs.declared.Ends.{Ends}
 use Rattle.member_lists.specs.Lists.{ListsView, MarkedView, list_of, with_list, without, with_room, IsApart}
 use Rattle.std.specs.Option.{option_map}
 use Rattle.member_lists.specs.Chains.{times, IsKept, IsUnlinked, items_from, ends_at, blank_ends}
-use Rattle.member_lists.specs.Ended.{EndsMapView, lists_in, IsMarked, IsLengthened}
-use Rattle.member_lists.proofs.Times.{equal_or_not, times_from_Contains, Contains_from_times, times-filter_in, times-filter_most, eqb_other, none_some, first_within}
+use Rattle.member_lists.specs.Ended.{EndsMapView, lists_in, IsMarked, IsLengthened, IsPassed}
+use Rattle.member_lists.proofs.Times.{equal_or_not, times_from_Contains, Contains_from_times, times-filter_in, times-filter_most, eqb_other, none_some, first_within, first_got}
 use Rattle.member_lists.proofs.Values.{get-with_values}
 use Rattle.member_lists.proofs.Held.{kept_none}
 use Rattle.member_lists.proofs.Sound.{shown, whole, out_here}
 use Rattle.member_lists.proofs.Kept.{leaves_in_range, leaves_ends_held, lists_left, grown, lists_more, lists_none}
-use Rattle.member_lists.proofs.Listed.{list_same, list_other, list_none}
+use Rattle.member_lists.proofs.Listed.{list_same, list_other, list_none, items_same as items_same_list}
 
 -- ---- what stands in a list
 
@@ -32,6 +32,9 @@ left_other x item ys d c =
 
 as_in : (a b : ListsView) → a ≡ b → (q x : ℕ) → Contains (list_of a q) x → Contains (list_of b q) x
 as_in a b is q x c = subst (λ w. Contains (list_of w q) x) is c
+
+first_inside : (xs : List ℕ) (x : ℕ) → slice_get xs 0 ≡ Some x → Contains xs x
+first_inside xs x at = Contains_from_times x xs (first_within xs x (first_got xs ∙ at))
 
 module _ (v : ListsView) (l item : ℕ) where
   pub stays_pushed : (q x : ℕ) → Contains (list_of v q) x → Contains (list_of (with_list v l (list_of v l ++ item ∷ [])) q) x
@@ -75,6 +78,20 @@ module _ (links marks : List Link) (ends : EndsMapView) (k : IsMarked links mark
   -- a list with items stands in the map of all
   pub all_held : (l x : ℕ) → Contains (list_of v.all l) x → map.contains_key ends.all l ≡ true
   all_held l x inside = leaves_ends_held links ends.all k.all v.all all_is l x inside
+
+  -- and so does one that isn't empty
+  pub some_held : (l : ℕ) → list_of v.all l ≢ [] → map.contains_key ends.all l ≡ true
+  some_held l some = by (list_of v.all l) refl
+    where
+      by : (xs : List ℕ) → list_of v.all l ≡ xs → map.contains_key ends.all l ≡ true
+      by [] is = absurd (some is)
+      by (x ∷ xs) is = all_held l x (first_inside (list_of v.all l) x (ap (λ ys. slice_get ys 0) is))
+
+  pub mark_apart_in : (item : ℕ) → IsApart v.marked item → IsApart (lists_in marks ends.marked) item
+  mark_apart_in item apart = subst (λ w. IsApart w item) (sym marked_is) apart
+
+  pub mark_inside_in : (l item : ℕ) → Contains (list_of v.marked l) item → Contains (list_of (lists_in marks ends.marked) l) item
+  mark_inside_in l item c = as_in v.marked (lists_in marks ends.marked) (sym marked_is) l item c
 
   module _ (l item : ℕ) (inside : Contains (list_of v.all l) item) where
     all_range : item < length links
@@ -147,6 +164,59 @@ module _ (links marks : List Link) (ends : EndsMapView) (k : IsMarked links mark
 
     pub marks_shown : record { all = lists_in links ends'.all; marked = lists_in mores ends'.marked } ≡ record v { marked = b }
     marks_shown = grind (arith, all_is)
+
+  -- the marked items of a list are others
+  module _ (mores : List Link) (ends' : EndsMapView) (kept : IsKept mores ends'.marked) (rest : ends' ≡ record ends { marked = ends'.marked }) (l : ℕ) where
+    all_stays : ends'.all ≡ ends.all
+    all_stays = ap (λ (e : EndsMapView). e.all) rest
+
+    room_stays : ends'.room ≡ ends.room
+    room_stays = ap (λ (e : EndsMapView). e.room) rest
+
+    long_stays : (ys : List ℕ) → lists_in mores ends'.marked ≡ with_list (lists_in marks ends.marked) l ys → length mores ≡ length marks
+    long_stays ys is = ap (λ (w : ListsView). w.items) is ∙ items_same_list (lists_in marks ends.marked) l ys
+
+    module _ (change : List ℕ → List ℕ) (lists : lists_in mores ends'.marked ≡ with_list (lists_in marks ends.marked) l (change (list_of (lists_in marks ends.marked) l)))
+        (still : (list x : ℕ) → Contains (list_of (with_list v.marked l (change (list_of v.marked l))) list) x → Contains (list_of v.all list) x) where
+      changed_is : lists_in mores ends'.marked ≡ with_list v.marked l (change (list_of v.marked l))
+      changed_is = lists ∙ ap (λ w. with_list w l (change (list_of w l))) marked_is
+
+      pub changed_kept : IsMarked links mores ends'
+      changed_kept = marks_kept mores ends' kept all_stays room_stays (long_stays (change (list_of (lists_in marks ends.marked) l)) lists) (with_list v.marked l (change (list_of v.marked l))) changed_is still
+
+      pub changed_shown : record { all = lists_in links ends'.all; marked = lists_in mores ends'.marked } ≡ record v { marked = with_list v.marked l (change (list_of v.marked l)) }
+      changed_shown = marks_shown mores ends' kept all_stays room_stays (long_stays (change (list_of (lists_in marks ends.marked) l)) lists) (with_list v.marked l (change (list_of v.marked l))) changed_is still
+
+    -- the first one stands behind the others
+    module _ (passed : IsPassed marks mores ends.marked ends'.marked l) where
+      same_first : slice_get (list_of (lists_in marks ends.marked) l) 0 ≡ slice_get (list_of v.marked l) 0
+      same_first = ap (λ (w : ListsView). slice_get (list_of w l) 0) marked_is
+
+      still_passed : (item : ℕ) → slice_get (list_of v.marked l) 0 ≡ Some item → (list x : ℕ) → Contains (list_of (with_list v.marked l (without item (list_of v.marked l) ++ item ∷ [])) list) x → Contains (list_of v.all list) x
+      still_passed item at list x c = elim (equal_or_not list l) [
+        | inl e ↦ elim (Contains-push_cases (without item (list_of v.marked l)) item x (rw (e, list_same v.marked l (without item (list_of v.marked l) ++ item ∷ [])) at c)) [
+          | inl old ↦ rw e (marked_within l x (left_in x item (list_of v.marked l) old))
+          | inr same ↦ rw (e, ← same) (marked_within l item (first_inside (list_of v.marked l) item at))
+        ]
+        | inr n ↦ marked_within list x (rw (list_other v.marked l (without item (list_of v.marked l) ++ item ∷ []) list n) at c)
+      ]
+
+      pub passed_none_shown : slice_get (list_of v.marked l) 0 ≡ None → record { all = lists_in links ends'.all; marked = lists_in mores ends'.marked } ≡ v
+      passed_none_shown none =
+          let lists : lists_in mores ends'.marked ≡ v.marked = passed.none (same_first ∙ none) ∙ marked_is in
+          marks_shown mores ends' kept all_stays room_stays (ap (λ (w : ListsView). w.items) (passed.none (same_first ∙ none))) v.marked lists marked_within
+
+      pub passed_some_shown : (item : ℕ) → slice_get (list_of v.marked l) 0 ≡ Some item → record { all = lists_in links ends'.all; marked = lists_in mores ends'.marked } ≡ record v { marked = with_list v.marked l (without item (list_of v.marked l) ++ item ∷ []) }
+      passed_some_shown item at = changed_shown (λ xs. without item xs ++ item ∷ []) (passed.some item (same_first ∙ at)) (still_passed item at)
+
+      pub passed_kept : IsMarked links mores ends'
+      passed_kept = by (slice_get (list_of v.marked l) 0) refl
+        where
+          by : (o : Option ℕ) → slice_get (list_of v.marked l) 0 ≡ o → IsMarked links mores ends'
+          by None at =
+              let lists : lists_in mores ends'.marked ≡ v.marked = passed.none (same_first ∙ at) ∙ marked_is in
+              marks_kept mores ends' kept all_stays room_stays (ap (λ (w : ListsView). w.items) (passed.none (same_first ∙ at))) v.marked lists marked_within
+          by (Some item) at = changed_kept (λ xs. without item xs ++ item ∷ []) (passed.some item (same_first ∙ at)) (still_passed item at)
 
   -- ---- room for more lists, and for more items
 

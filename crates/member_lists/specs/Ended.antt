@@ -1,13 +1,13 @@
 -- How lists of items of which some are marked are kept. No public clause cites this module.
-use Rattle.std.specs.Prelude.{◌≡◌, ℕ, ◌+◌, ◌<◌, ◌≤◌, List, length, slice_get, refl}
+use Rattle.std.specs.Prelude.{◌≡◌, ℕ, ◌+◌, ◌<◌, ◌≤◌, ◌++◌, List, [], ◌∷◌, Some, None, length, slice_get, refl}
 use Rattle.std.specs.List.{Contains}
 use Rattle.std.specs.Coded.{Coded, code_by, coded×, coded_ℕ}
 use Rattle.std.specs.FinMap as finite
 use Rattle.std.specs.Ordering.{nat_cmp}
 use Rattle.member_lists.specs.declared.Link.{Link}
 use Rattle.member_lists.specs.declared.Ends.{Ends}
-use Rattle.member_lists.specs.Lists.{ListsView, list_of}
-use Rattle.member_lists.specs.Chains.{lists_of, IsKept}
+use Rattle.member_lists.specs.Lists.{ListsView, list_of, with_list, without}
+use Rattle.member_lists.specs.Chains.{lists_of, ends_at, IsKept}
 
 -- the ends of the lists that have items, and of those that have marked ones, and room for so many more lists
 pub record EndsMapView : Type 0 where
@@ -41,3 +41,24 @@ pub record IsLengthened (old new : List Link) (items : ℕ) : Type 0 where
 
 abbrev pub AreLengthened : (links links' marks marks' : List Link) (items : ℕ) → Type 0
 AreLengthened links links' marks marks' items = IsLengthened links links' items × IsLengthened marks marks' items
+
+-- ---- the first item of a list stands behind the others
+
+-- the first item of this list stands behind its others, if it has any; each other list is as it was
+pub record IsPassed (old new : List Link) (was now : finite.FinMap nat_cmp Ends) (list : ℕ) : Type 0 where
+  pub kept : IsKept new now
+  pub none : slice_get (list_of (lists_in old was) list) 0 ≡ None → lists_in new now ≡ lists_in old was
+  pub some : (item : ℕ) → slice_get (list_of (lists_in old was) list) 0 ≡ Some item →
+      lists_in new now ≡ with_list (lists_in old was) list (without item (list_of (lists_in old was) list) ++ item ∷ [])
+
+-- they are the ends of one of the lists that are kept by these links
+pub record AreSomeEnds (links : List Link) (e : Ends) : Type 0 where
+  pub ends : finite.FinMap nat_cmp Ends
+  pub list : ℕ
+  pub kept : IsKept links ends
+  pub are : e ≡ ends_at ends list
+
+-- the first item of each list with the first ends stands behind the others, once the list has the other ends
+abbrev pub IsPassedBy : (old new : List Link) (was now : Ends) → Type 0
+IsPassedBy old new was now = (ends next : finite.FinMap nat_cmp Ends) (list : ℕ) → IsKept old ends → was ≡ ends_at ends list →
+    (now.first ≡ None → next ≡ finite.remove ends list) → ((x : ℕ) → now.first ≡ Some x → next ≡ finite.insert ends list now) → IsPassed old new ends next list

@@ -7,7 +7,7 @@
 //! ends of both stand in one map.
 #![tactic(auto)]
 
-ghost use Rattle.std.specs.Prelude.{◌≡◌, ◌↔◌, ℕ, ◌+◌, ◌<◌, ◌≤◌, ◌^◌, ◌++◌, ◌∷◌, [], max, eqb, IsTrue, true, length, List, Some, None, IfSome, IfNone, IfOk, OnOk, OnErr, slice_get, slice_set};
+ghost use Rattle.std.specs.Prelude.{◌≡◌, ◌≢◌, ◌↔◌, ℕ, ◌+◌, ◌<◌, ◌≤◌, ◌^◌, ◌++◌, ◌∷◌, [], max, eqb, IsTrue, true, false, length, List, Some, None, IfSome, IfNone, IfOk, OnOk, OnErr, slice_get, slice_set};
 ghost use Rattle.std.specs.List.{Contains};
 ghost use Rattle.std.specs.Option.{option_or};
 ghost use Rattle.std.specs.FinMap as map;
@@ -66,6 +66,15 @@ impl Place {
         }
     }
 
+    // Whether this is the same place, or neither is one.
+    #[inline(always)]
+    pub(crate) fn is(self, other: Place) -> bool
+        ensures yes { result ≡ true → self ≡ other }
+        ensures no { result ≡ false → self ≢ other }
+    {
+        self.0 == other.0
+    }
+
     // This place, or the other where it is none.
     fn or(self, other: Place) -> Place
         ensures { result ≡ option_or self other }
@@ -100,7 +109,7 @@ impl Link {
 #[derive(Clone, Copy, Debug, PartialEq, Eq)]
 pub(crate) struct Ends {
     pub(crate) first: Place,
-    last: Place,
+    pub(crate) last: Place,
 }
 
 // Each item takes a link, and so do the ends of a list, under its number.
@@ -407,6 +416,7 @@ fn ends_of(ends: &NumberMap<Ends>, list: u64) -> Ends
 }
 
 // Puts these ends in place of those of a list that has items, or in, where it has none.
+#[inline(always)]
 fn hold_ends(ends: &mut NumberMap<Ends>, list: u64, has_items: bool, now: Ends)
     requires held { has_items ≡ map.contains_key ends.old.map list }
     requires room { map.get ends.old.map list ≡ None → 0 < ends.old.room }
@@ -421,6 +431,7 @@ fn hold_ends(ends: &mut NumberMap<Ends>, list: u64, has_items: bool, now: Ends)
 }
 
 // Puts these ends in place of a list's, or takes its ends out, where it has no item left.
+#[inline(always)]
 fn leave_ends(ends: &mut NumberMap<Ends>, list: u64, now: Ends)
     requires { map.contains_key ends.old.map list ≡ true }
     ensures none { now.first ≡ None → ends.new.map ≡ map.remove ends.old.map list }
@@ -520,6 +531,15 @@ impl Lists {
     {
         let link = self.links.get(item)?;
         link.behind.item()
+    }
+
+    /// The item behind this one, which is in the list. Constant time.
+    #[inline(always)]
+    pub fn behind(&self, list: u64, item: usize) -> Option<usize>
+        requires { Contains (list_of self.now list) item }
+        ensures { (i : ℕ) → slice_get (list_of self.now list) i ≡ Some item → result ≡ slice_get (list_of self.now list) (i + 1) }
+    {
+        link_of(&self.links, item).behind.item()
     }
 
     /// The items of a list, in order. Linear in their number.

@@ -1,9 +1,11 @@
 //! Lists of items of which some are marked.
-ghost use Rattle.std.specs.Prelude.{◌≡◌, ℕ, ◌+◌, ◌<◌, ◌≤◌, ◌++◌, ◌∷◌, [], max, true, length, Some, None, IfOk, OnOk, OnErr, slice_get};
+ghost use Rattle.std.specs.Prelude.{◌≡◌, ◌≢◌, ℕ, ◌+◌, ◌<◌, ◌≤◌, ◌++◌, ◌∷◌, [], max, true, length, Some, None, IfOk, OnOk, OnErr, slice_get};
 ghost use Rattle.std.specs.List.{Contains};
 ghost use Rattle.std.specs.FinMap as map;
-ghost use Rattle.member_lists.specs.Chains.{ends_at, blank_ends};
-ghost use Rattle.member_lists.specs.Ended.{AreLengthened};
+ghost use Rattle.member_lists.specs.Lists.{list_of, with_list, without, IsApart};
+ghost use Rattle.member_lists.specs.Chains.{ends_at, blank_ends, blank_link, IsKept, IsUnlinked};
+ghost use Rattle.member_lists.specs.Ended.{AreLengthened, lists_in, AreSomeEnds, IsPassed, IsPassedBy};
+ghost use Rattle.member_lists.specs.declared.Link.{Link as AnyLink};
 
 use crate::{Ends, Link, MOST_ITEMS, link_last, relink, unlink};
 use number_map::NumberMap;
@@ -127,6 +129,79 @@ impl EndsMap {
     {
         self.map.value_mut(list).marked = now;
     }
+
+    // Links an item behind the last of the marked ones of a list that has items, by one look-up.
+    #[inline(always)]
+    fn link_mark(&mut self, list: u64, marks: &mut Vec<Link>, item: usize)
+        requires there { map.contains_key self.old.all list ≡ true }
+        requires kept { IsKept marks.old.items self.old.marked }
+        requires room { item < length marks.old.items }
+        requires apart { IsApart (lists_in marks.old.items self.old.marked) item }
+        ensures kept { IsKept marks.new.items self.new.marked }
+        ensures rest { self.new ≡ record self.old { marked = self.new.marked } }
+        ensures marks { lists_in marks.new.items self.new.marked ≡ with_list (lists_in marks.old.items self.old.marked) list (list_of (lists_in marks.old.items self.old.marked) list ++ item ∷ []) }
+    {
+        let both = self.map.value_mut(list);
+        both.marked = link_last(marks, item, both.marked);
+    }
+
+    // Takes an item out of the marked ones of a list that has items, by one look-up.
+    #[inline(always)]
+    fn unlink_mark(&mut self, list: u64, marks: &mut Vec<Link>, item: usize)
+        requires there { map.contains_key self.old.all list ≡ true }
+        requires kept { IsKept marks.old.items self.old.marked }
+        requires marked { Contains (list_of (lists_in marks.old.items self.old.marked) list) item }
+        ensures kept { IsKept marks.new.items self.new.marked }
+        ensures rest { self.new ≡ record self.old { marked = self.new.marked } }
+        ensures marks { lists_in marks.new.items self.new.marked ≡ with_list (lists_in marks.old.items self.old.marked) list (without item (list_of (lists_in marks.old.items self.old.marked) list)) }
+    {
+        let both = self.map.value_mut(list);
+        both.marked = unlink_one(marks, item, both.marked);
+    }
+
+    // Puts the first of the marked items of a list that has items behind the others, by one look-up.
+    #[inline(always)]
+    fn pass_mark(&mut self, list: u64, marks: &mut Vec<Link>)
+        requires there { map.contains_key self.old.all list ≡ true }
+        requires kept { IsKept marks.old.items self.old.marked }
+        ensures rest { self.new ≡ record self.old { marked = self.new.marked } }
+        ensures passed { IsPassed marks.old.items marks.new.items self.old.marked self.new.marked list }
+    {
+        let both = self.map.value_mut(list);
+        both.marked = pass_first(marks, both.marked);
+    }
+}
+
+// Unlinks an item as `unlink` does. The only item of a list has no neighbours, so that its link stays.
+#[inline(always)]
+fn unlink_one(links: &mut Vec<Link>, item: usize, ends: Ends) -> Ends
+    requires room { item < length links.old.items }
+    requires before { (link : AnyLink) → slice_get links.old.items item ≡ Some link → (x : ℕ) → link.before ≡ Some x → x < length links.old.items }
+    requires behind { (link : AnyLink) → slice_get links.old.items item ≡ Some link → (x : ℕ) → link.behind ≡ Some x → x < length links.old.items }
+    requires alone { ends.first ≡ ends.last → slice_get links.old.items item ≡ Some blank_link }
+    ensures { IsUnlinked links.old.items links.new.items item ends result }
+{
+    if ends.first.is(ends.last) {
+        return Ends::blank();
+    }
+    unlink(links, item, ends)
+}
+
+// Links the first item of a list, if it has any, behind the others, and returns the list's ends then.
+#[inline(always)]
+fn pass_first(links: &mut Vec<Link>, was: Ends) -> Ends
+    requires { AreSomeEnds links.old.items was }
+    ensures blank { result.first ≡ None → result ≡ blank_ends }
+    ensures passed { IsPassedBy links.old.items links.new.items was result }
+{
+    let Some(item) = was.first.item() else {
+        return was;
+    };
+    if was.first.is(was.last) {
+        return was;
+    }
+    let others = unlink(&mut *links, item, was);
+    link_last(links, item, others)
 }
 
 // Makes blank links at the end of both, so that each has so many.
@@ -172,7 +247,7 @@ impl Model for MarkedLists {
 }
 
 impl MarkedLists {
-    ghost use Rattle.member_lists.specs.Lists.{list_of, with_list, without, with_room, replaced, IsApart, IsMarkedIn};
+    ghost use Rattle.member_lists.specs.Lists.{with_room, replaced, IsMarkedIn};
 
     /// No lists, and no items. Allocates nothing; constant time.
     pub fn new(alloc: Global) -> MarkedLists
@@ -240,24 +315,33 @@ impl MarkedLists {
     }
 
     /// Marks an item of a list, as the last of those that are marked. Constant time.
+    #[inline(always)]
     pub fn mark(&mut self, list: u64, item: usize)
         requires there { Contains (list_of self.old.all list) item }
         requires unmarked { IsApart self.old.marked item }
         ensures { self.new ≡ record self.old { marked = with_list self.old.marked list (list_of self.old.marked list ++ item ∷ []) } }
     {
-        let ends = self.ends.marked(list);
-        let now = link_last(&mut self.marks, item, ends);
-        self.ends.mark(list, now);
+        self.ends.link_mark(list, &mut self.marks, item);
     }
 
     /// Takes the mark from a marked item of a list; the order of the others stays. Constant time.
+    #[inline(always)]
     pub fn unmark(&mut self, list: u64, item: usize)
         requires { Contains (list_of self.old.marked list) item }
         ensures { self.new ≡ record self.old { marked = with_list self.old.marked list (without item (list_of self.old.marked list)) } }
     {
-        let ends = self.ends.marked(list);
-        let now = unlink(&mut self.marks, item, ends);
-        self.ends.mark(list, now);
+        self.ends.unlink_mark(list, &mut self.marks, item);
+    }
+
+    /// Puts the first of the marked items of a list, which has items, behind the other marked ones. Takes no memory;
+    /// constant time.
+    #[inline(always)]
+    pub fn pass_mark(&mut self, list: u64)
+        requires { list_of self.old.all list ≢ [] }
+        ensures none { slice_get (list_of self.old.marked list) 0 ≡ None → self.new ≡ self.old }
+        ensures some { (item : ℕ) → slice_get (list_of self.old.marked list) 0 ≡ Some item → self.new ≡ record self.old { marked = with_list self.old.marked list (without item (list_of self.old.marked list) ++ item ∷ []) } }
+    {
+        self.ends.pass_mark(list, &mut self.marks);
     }
 
     /// Puts another item, which is in no list, in the place of this one, and among the marked ones too where

@@ -12,7 +12,8 @@ use Rattle.mach_model.proofs.Lost.{same_request_is}
 use Rattle.number_map.specs.Maps.{MapView}
 use Rattle.request_table.specs.declared.Request.{Request as NameRequest}
 use Rattle.request_table.specs.Requests.{RequestsView, name_key, key_of}
-use Rattle.copyin_base.specs.Requests.{RequestTablesView, notify_of, rights_kept, rights_went, AreEnded, RequestsAgree}
+use Rattle.request_table.specs.Tables.{RequestTablesView}
+use Rattle.copyin_base.specs.Requests.{notify_of, rights_kept, rights_went, AreEnded, RequestsAgree}
 use Rattle.copyin_base.specs.Asking.{taken_at}
 use Rattle.copyin_base.proofs.Putting.{get_removed, put_own, put_other}
 use Rattle.copyin_base.proofs.Requesting.{same_key}

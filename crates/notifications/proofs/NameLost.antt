@@ -20,7 +20,8 @@ use Rattle.port.specs.Ports.{with_port}
 use Rattle.port_set.specs.Sets.{removed}
 use Rattle.request_table.specs.Requests.{RequestsView}
 use Rattle.copyin_base.specs.Reading.{live_in, reading, read_space}
-use Rattle.copyin_base.specs.Requests.{request_left, requests_after}
+use Rattle.request_table.specs.Tables.{request_left}
+use Rattle.copyin_base.specs.Requests.{requests_after}
 use Rattle.copyin_base.specs.Worlds.{WorldView, port_at, entry_at, with_space, put, space_in, space_at, entry_in}
 use Rattle.tables_base.proofs.Reading.{reads_same, get_read}
 use Rattle.copyin_base.specs.Shows.{Shows, SlotsSuffice, Agrees}

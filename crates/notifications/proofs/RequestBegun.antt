@@ -37,7 +37,8 @@ use Rattle.copyin_base.specs.Worlds.{WorldView, entry_in, entry_at, put, space_a
 use Rattle.copyin_base.proofs.Gets.{same_found}
 use Rattle.copyin_base.proofs.Putting.{put_own, put_other, len_put, len_removed, get_removed}
 use Rattle.copyin_base.proofs.Spaces.{space-set_same}
-use Rattle.copyin_base.specs.Requests.{RequestTablesView, notify_of, rights_kept, rights_went, RequestsAgree, AreEnded, left_by, requests_after}
+use Rattle.request_table.specs.Tables.{RequestTablesView, left_by}
+use Rattle.copyin_base.specs.Requests.{notify_of, rights_kept, rights_went, RequestsAgree, AreEnded, requests_after}
 use Rattle.copyin_base.proofs.Counting.{counts_same}
 use Rattle.copyin_base.proofs.Taking.{Without, take_lying}
 use Rattle.copyin_base.specs.declared.Mark.{Mark}

@@ -46,7 +46,8 @@ use Rattle.copyin_base.specs.Worlds.{WorldView, entry_in, entry_at, space_at, Ha
 use Rattle.copyin_base.specs.declared.Mark.TheVariants as mark
 use Rattle.copyin_base.proofs.Gets.{same_found}
 use Rattle.copyin_base.proofs.Told.{found, names_port, space_there}
-use Rattle.copyin_base.specs.Requests.{notify_of, rights_kept, RequestTablesView}
+use Rattle.request_table.specs.Tables.{RequestTablesView}
+use Rattle.copyin_base.specs.Requests.{notify_of, rights_kept}
 use Rattle.copyin_base.specs.Asking.{taken_at}
 use Rattle.copyin_base.proofs.Acting.{refused, refused_later, Leaves-so, done_leaving, makes_none, none_left}
 use Rattle.copyin_base.specs.declared.Mark.{Mark}

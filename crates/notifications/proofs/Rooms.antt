@@ -3,7 +3,8 @@ use Rattle.std.proofs.Common.{◌≡◌, ℕ, Option, refl, subst, arith}
 use Rattle.mach_types.specs.Tokens.{Request, no_senders, port_destroyed, dead_name}
 use Rattle.mach_model.specs.State.{State}
 use Rattle.copyin_base.specs.Changes.{with_slots}
-use Rattle.copyin_base.specs.Requests.{RequestTablesView, notify_of, RequestsAgree}
+use Rattle.request_table.specs.Tables.{RequestTablesView}
+use Rattle.copyin_base.specs.Requests.{notify_of, RequestsAgree}
 use Rattle.copyin_base.specs.Worlds.{WorldView}
 use Rattle.copyin_base.specs.Shows.{Shows}
 use Rattle.copyin_base.proofs.Roomier.{room_shows, slots_show}

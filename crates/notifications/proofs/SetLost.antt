@@ -17,7 +17,8 @@ use Rattle.port_set.specs.Sets.{removed}
 use Rattle.request_table.specs.Requests.{name_key}
 use Rattle.rights.specs.Ledger.{LedgerView, counts_of}
 use Rattle.copyin_base.specs.Posted.{with_posted}
-use Rattle.copyin_base.specs.Requests.{notify_of, RequestsAgree, request_left}
+use Rattle.request_table.specs.Tables.{request_left}
+use Rattle.copyin_base.specs.Requests.{notify_of, RequestsAgree}
 use Rattle.copyin_base.specs.Shows.{target_of, SetsAgree, Agrees, SlotsSuffice, Shows}
 use Rattle.copyin_base.specs.Worlds.{WorldView, entry_in, entry_at}
 use Rattle.copyin_base.proofs.Agreeing.{own_names, own_rights, put_names, put_rights}

@@ -11,7 +11,7 @@ use Rattle.number_map.specs.Maps.{MapView}
 use Rattle.port.specs.Ports.{IsLive}
 use Rattle.request_table.specs.declared.Request.{Request}
 use Rattle.request_table.specs.Requests.{RequestsView, name_key, key_of}
-use Rattle.copyin_base.specs.Requests.{RequestTablesView}
+use Rattle.request_table.specs.Tables.{RequestTablesView}
 use Rattle.copyin_base.specs.Asking.{taken_at}
 use Rattle.copyin_base.specs.Shows.{IsOnName, RequestsStand}
 use Rattle.copyin_base.specs.Worlds.{WorldView, entry_at}

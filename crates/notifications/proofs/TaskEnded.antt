@@ -42,7 +42,8 @@ use Rattle.copyin_base.specs.Shows.{GivenAgrees, CountsAgree, target_of, HasCoun
 use Rattle.copyin_base.proofs.Counting.{one_of, none_of_port, right_of, counts_agree}
 use Rattle.copyin_base.proofs.Taking.{take_held}
 use Rattle.copyin_base.specs.Kept.{Kept}
-use Rattle.copyin_base.specs.Requests.{RequestTablesView, requests_after, notify_of}
+use Rattle.request_table.specs.Tables.{RequestTablesView}
+use Rattle.copyin_base.specs.Requests.{requests_after, notify_of}
 use Rattle.copyin_base.specs.Worlds.{WorldView, space_in, space_at, with_space, put, entry_in, entry_at, port_at}
 use Rattle.tables_base.proofs.Reading.{named_port}
 use Rattle.copyin_base.proofs.Changing.{named_no_set, target_named, changed_agrees}
@@ -630,7 +631,7 @@ module _ (now : ℕ) (start : WorldView) (task : ℕ) (s : State) (sh : Shows st
           (λ n. ap (λ (m : Names). map.get m n) (at_own s.naming task map.empty) ∙ get-empty nat_cmp n) (λ k not n. b.naming k n);
       names_kept = each (λ k o. (y : SpaceView) → o ≡ Some y → map.len y.names ≡ map.len (at s.naming task map.empty k)) (λ y e. absurd (no_some y e)) (λ k not y e. b.names_kept k y e);
       counted = each (λ k o. (n : ℕ) (e : Entry) → entry_in o n ≡ Some e → HasCount e) (λ n e is. absurd (no_some e is)) (λ k not n e is. b.counted k n e is);
-      profiles = b.profiles;
+      same_profile = b.same_profile;
       counts_given = each (λ k o. (y : SpaceView) → o ≡ Some y → GivenAgrees s.profile y.given (s.given k)) (λ y e. absurd (no_some y e)) (λ k not y e. b.counts_given k y e);
       none_given = b.none_given;
     };

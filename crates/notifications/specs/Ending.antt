@@ -11,7 +11,7 @@ use Rattle.rights.specs.Ledger.{IsEntered, counts_of}
 use Rattle.copyin_base.specs.declared.Notice.TheVariants as notice
 use Rattle.copyin_base.specs.Changes.{NotesSenders}
 use Rattle.copyin_base.specs.Posted.{with_posted, IsLeft}
-use Rattle.copyin_base.specs.Requests.{request_left}
+use Rattle.request_table.specs.Tables.{request_left}
 use Rattle.copyin_base.specs.Shows.{Agrees, HoldersAgree, CarriersAgree, SlotsSuffice, RequestsStand, Shows}
 use Rattle.copyin_base.specs.Worlds.{WorldView}
 use Rattle.copyin_base.specs.Losing.{CanLose, CanPost, DropsSet, LosesPort, LosesSends, Posts}

@@ -19,7 +19,8 @@ use Rattle.name_space.specs.Entry.{port_of, receive_named}
 use Rattle.name_space.specs.Names.{SpaceView}
 use Rattle.port.specs.Ports.{IsLive}
 use Rattle.copyin_base.specs.declared.Mark.TheVariants as mark
-use Rattle.copyin_base.specs.Requests.{RequestTablesView, notify_of}
+use Rattle.request_table.specs.Tables.{RequestTablesView}
+use Rattle.copyin_base.specs.Requests.{notify_of}
 use Rattle.copyin_base.specs.Worlds.{WorldView, entry_at, space_at}
 use Rattle.dispositions.specs.Copies.{copied_from}
 use Rattle.dispositions.specs.declared.Copied.{Copied}

@@ -2,7 +2,7 @@
 -- a right brings which is made.
 use Rattle.std.specs.Prelude.{◌≡◌, ℕ, ◌+◌, ◌<◌, ◌≤◌, true, Option, Some, None, is_some, if◌then◌else◌, max}
 use Rattle.copyin_base.specs.Changes.{SameButRoom, with_slots}
-use Rattle.copyin_base.specs.Requests.{RequestTablesView}
+use Rattle.request_table.specs.Tables.{RequestTablesView}
 use Rattle.copyin_base.specs.Wanted.{room_of}
 use Rattle.copyin_base.specs.Worlds.{WorldView}
 use Rattle.notifications.specs.declared.request.Paying.{Paying}

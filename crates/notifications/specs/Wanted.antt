@@ -2,7 +2,7 @@
 use Rattle.std.specs.Prelude.{◌≡◌, ℕ, ◌+◌, ◌≤◌, ◌⊎◌, ◌==◌, ◌&&◌, not, true, max, is_some, if◌then◌else◌, Option, Result, Ok, Err}
 use Rattle.mach_types.specs.declared.calls.Reply.{Reply}
 use Rattle.mach_types.specs.Numbers.{null_word}
-use Rattle.copyin_base.specs.declared.code.Code.{Code}
+use Rattle.mach_types.specs.declared.codes.Code.{Code}
 use Rattle.copyin_base.specs.Wanted.{room_of, LacksRoomFor, LacksSlots}
 use Rattle.copyin_base.specs.Worlds.{WorldView}
 use Rattle.notifications.specs.declared.request.Asked.{Asked}

@@ -3,12 +3,12 @@ ghost use Rattle.std.specs.Prelude.{◌≡◌, [], ◌∷◌, ◌+◌, true, is_
 ghost use Rattle.mach_types.specs.declared.codes.KernReturn.TheVariants as kern;
 ghost use Rattle.mach_types.specs.Guards.{FirstIs, NoneHolds};
 ghost use Rattle.mach_types.specs.Numbers.{disposition, kind_sent, most_references, most_rights, null_word};
-ghost use Rattle.mach_types.specs.Codes.{kern_number};
+ghost use Rattle.mach_types.specs.Codes.{kern_number, code_number};
 ghost use Rattle.mach_types.specs.Tokens.{send_once};
 ghost use Rattle.name_space.specs.declared.Entry.TheVariants as AnyEntry;
 ghost use Rattle.notifications.specs.declared.request.Variant.TheVariants as AnyVariant;
 ghost use Rattle.mach_types.specs.declared.calls.Event.TheVariants as AnyEvent;
-ghost use Rattle.copyin_base.specs.Serving.{Declines, IsRefused, Serves, code_number};
+ghost use Rattle.copyin_base.specs.Serving.{Declines, IsRefused, Serves};
 ghost use Rattle.copyin_base.specs.Changes.{with_slots};
 ghost use Rattle.copyin_base.specs.Stands.{Stands};
 ghost use Rattle.copyin_base.specs.Wanted.{LacksRoomFor, LacksSlots, KeepsSpares};
@@ -27,11 +27,11 @@ ghost use Rattle.notifications.specs.Putting.{mark_for, IsNotKept, KeepsNew, IsT
 ghost use Rattle.notifications.specs.Requesting.{IsMisasked, variant_number, CanPay, GoesNot, capability_guards, Pays, entry_left, names_left, IsSubject, subject_guards, previous_in, ComesOut, is_made_by, rights_then, LacksSpace, MayRequest};
 
 use copyin::copy_name;
-use copyin_base::{Carried, Code, Mark, Notice, World};
+use copyin_base::{Carried, Mark, Notice, World};
 use copyout::give_right;
 use dispositions::copy_right;
 use mach_types::limits::{MOST_NAMES, MOST_REFERENCES, MOST_RIGHTS};
-use mach_types::{Disposition, KernReturn, Name, PortId, Reply, TaskId};
+use mach_types::{Code, Disposition, KernReturn, Name, PortId, Reply, TaskId};
 use name_space::Entry;
 use request_table::Request;
 use std::alloc::AllocError;

@@ -1,5 +1,5 @@
--- The ready ports once a port changed, came or went.
-use Rattle.std.proofs.Common.{◌≡◌, ◌≢◌, inl, inr, ℕ, ◌<◌, ◌≤◌, Option, Some, None, Result, Ok, Err, IfOk, OnErr, is_some, List, [], ◌∷◌, length, get_or, slice_get, refl, ap, sym, subst, ◌∙◌, arith, Contains}
+-- Which ports stand in lists once one changed, came or went, and which are in a set.
+use Rattle.std.proofs.Common.{◌≡◌, inl, inr, ℕ, ◌<◌, ◌≤◌, Option, Some, None, Result, Ok, Err, IfOk, OnErr, List, [], ◌∷◌, length, get_or, slice_get, refl, ap, sym, subst, ◌∙◌, arith, Contains}
 use Rattle.std.specs.FinMap as map
 use Rattle.std.proofs.lemmas.Option.{slice_get_within, get_or_from_slice_get}
 use Rattle.std.proofs.lemmas.List.{length-map, get_or-map}
@@ -8,15 +8,17 @@ use Rattle.member_lists.specs.Lists.{ListsView, list_of}
 use Rattle.member_lists.proofs.Listed.{apart_if_none}
 use Rattle.slab.specs.Slab.{Slab, get, with_value}
 use Rattle.port_base.specs.declared.Record.{Record}
-use Rattle.port_base.specs.Turns.{ReadyLists, turns_of, ready_if}
-use Rattle.port.specs.Ports.{PortView, PortsView, IsReadyIn, NoneReadyIn, IsIn, NoneIn}
+use Rattle.shared_lists.specs.Shared.{SharedView, more_of, IsReady}
+use Rattle.port_base.specs.Turns.{turns_of, has_some}
+use Rattle.port.specs.Ports.{PortView, PortsView, sets_in, IsReadyIn, NoneReadyIn, IsIn, NoneIn}
 use Rattle.port_base.specs.Ready.{StandsIn, IsMoved}
 use Rattle.port_base.proofs.Moved.{moved_none}
-use Rattle.port_base.specs.Records.{id_in, ids_at, ready_set}
-use Rattle.port.specs.Records.{ports_of, made_of, IsListed, IsReadied, IsMembered, IsSound, IsKept}
+use Rattle.port_base.specs.Records.{id_in, ids_at, waiting_list, noting_list}
+use Rattle.port.specs.Records.{IsListed, IsSound, IsKept}
 use Rattle.port.proofs.Keys.{same_some, some_or_none, equal_or_not}
 use Rattle.port.proofs.Records.{Keyed, port_of, Turns}
-use Rattle.port.proofs.Sound.{turns-set, live_port, live_at, record_at}
+use Rattle.port.proofs.Sound.{IsOpen, turns-set, live_port, port_there}
+use Rattle.port.proofs.Membered.{wider, membered-wider, none_more}
 
 no_some : (l : ℕ) → None ≡ Some l → ⊥
 no_some l e = cc
@@ -29,15 +31,14 @@ pub on_err : {X E : Type 0} (r : Result X E) (P : Type 0) → P → OnErr r P
 on_err (Ok x) P p = tt
 on_err (Err e) P p = p
 
+nothing_held : (key : ℕ) (l : List ℕ) → slice_get l 0 ≡ None → Contains l key → ⊥
+nothing_held key [] e c = let less : c.0 < 0 = c.1 in omega arith
+nothing_held key (x ∷ l) e c = cc
+
+pub held_first : (xs : List ℕ) (key : ℕ) → slice_get xs 0 ≡ Some key → Contains xs key
+held_first xs key e = (0, slice_get_within xs 0 key e, get_or_from_slice_get xs 0 key key e)
+
 module _ {M : Type 0} where
-  pub ready_none : (ms : List M) (set : Option ℕ) → length ms ≡ 0 → ready_if ms set ≡ None
-  ready_none [] set e = refl
-  ready_none (m ∷ ms) set e = absurd (omega arith)
-
-  ready_is : (ms : List M) (set : Option ℕ) (s : ℕ) → ready_if ms set ≡ Some s → (set ≡ Some s) × (0 < length ms)
-  ready_is [] set s e = absurd (no_some s e)
-  ready_is (m ∷ ms) set s e = (e, omega arith)
-
   module _ (home : Record M → Option ℕ) (at new : ℕ → Option (Record M)) (lists : ListsView) (so : IsListed home at lists) (key : ℕ) where
     pub listed-changed : (r a : Record M) (then : ListsView) → at key ≡ Some r → Turns at new key (Some a) → IsMoved lists then key (home a) → IsListed home new then
     listed-changed r a then here turns moved = record {
@@ -135,94 +136,88 @@ module _ {M : Type 0} where
 
   -- ---- the first one
 
-  module _ (s : Slab (Record M)) (keys : Keyed) (next : Option ℕ) (spare destroyed : List M) (slots : ℕ) (so : IsSound s keys next spare destroyed slots)
-      {turns : ReadyLists} {lost doomed noted : List ℕ} (v : PortsView M) (view_is : record { ports = ports_of (get s) keys; ready = turns; made = made_of next; spare = length spare; destroyed = destroyed; lost = lost; doomed = doomed; noted = noted } ≡ v)
-      (ready : ListsView) (readied : IsReadied (get s) ready) (set : ℕ) where
-    pub first_held : (key : ℕ) → slice_get (list_of ready set) 0 ≡ Some key → Contains (list_of ready set) key
-    first_held key e = (0, slice_get_within (list_of ready set) 0 key e, get_or_from_slice_get (list_of ready set) 0 key key e)
+  some_if : (sets : SharedView) (key set : ℕ) (ms : List M) → IsReady sets key (has_some ms) → Contains (list_of sets.ready set) key → 0 < length ms
+  some_if sets key set [] apart c = absurd (apart set c)
+  some_if sets key set (m ∷ ms) all c = omega arith
 
-    pub ready_first : (key : ℕ) (r : Record M) → slice_get (list_of ready set) 0 ≡ Some key → get s key ≡ Some r → IsReadyIn v set r.id
+  quiet_if : (sets : SharedView) (key set : ℕ) (ms : List M) → IsReady sets key (has_some ms) → Contains (list_of sets.all set) key → slice_get (list_of sets.ready set) 0 ≡ None → length ms ≡ 0
+  quiet_if sets key set [] apart c e = refl
+  quiet_if sets key set (m ∷ ms) all c e = absurd (nothing_held key (list_of sets.ready set) e (all set c))
+
+  module _ {s : Slab (Record M)} {keys : Keyed} {next : Option ℕ} {spare destroyed : List M} {slots : ℕ} {sets : SharedView} {waiting noting : ListsView} {v : PortsView M} (o : IsOpen s keys next spare destroyed slots sets waiting noting v) (set : ℕ) where
+    pub ready_first : (key : ℕ) (r : Record M) → slice_get (list_of sets.ready set) 0 ≡ Some key → get s key ≡ Some r → IsReadyIn v set r.id
     ready_first key r e here =
-        let is = ready_is r.queue r.kept.attributes.set set ((readied.stands key r here).only set (first_held key e)) in
+        let c : Contains (list_of sets.ready set) key = held_first (list_of sets.ready set) key e in
         record {
-          view = port_of r;
-          there = live_port s keys next spare destroyed slots so v view_is r.id key r (so.indexed.held key r here) here;
-          member = is.0;
-          some = is.1;
+          view = port_of r (more_of sets key);
+          there = live_port o r.id key r (o.kept.sound.indexed.held key r here) here;
+          member = (o.kept.membered.stands key set r here).0 (o.kept.membered.readied key set c);
+          some = some_if sets key set r.queue (o.kept.membered.ready key r here) c;
         }
 
-    nothing_held : (key : ℕ) (l : List ℕ) → slice_get l 0 ≡ None → Contains l key → ⊥
-    nothing_held key [] e c = let less : c.0 < 0 = c.1 in omega arith
-    nothing_held key (x ∷ l) e c = cc
+    -- a member, by its key
+    pub member_in : (key : ℕ) (r : Record M) → Contains (list_of sets.all set) key → get s key ≡ Some r → IsIn v set r.id
+    member_in key r inside here =
+        let found : map.get keys r.id ≡ Some key = o.kept.sound.indexed.held key r here in
+        record {
+          given = subst (λ n. r.id < n) (ap (λ (b : PortsView M). b.made) o.view_is) (o.kept.sound.indexed.given r.id key found);
+          view = port_of r (more_of sets key);
+          there = live_port o r.id key r found here;
+          member = (o.kept.membered.stands key set r here).0 inside;
+        }
 
-    pub none_ready : slice_get (list_of ready set) 0 ≡ None → NoneReadyIn v set
-    none_ready e = record { empty = λ id p h member. empty_at id p h member (p.queue) refl }
-      where
-        empty_at : (id : ℕ) (p : PortView M) → map.get v.ports id ≡ Some p → p.attributes.set ≡ Some set → (ms : List M) → p.queue ≡ ms → length p.queue ≡ 0
-        empty_at id p h member [] is = ap length is
-        empty_at id p h member (m ∷ ms) is =
-            let key = live_at s keys next spare destroyed slots so v view_is id (ap is_some h) in
-            let r = record_at s keys next spare destroyed slots so v view_is id key.0 key.1 in
-            let same : p ≡ port_of r.0 = same_some p (port_of r.0) (sym h ∙ live_port s keys next spare destroyed slots so v view_is id key.0 r.0 key.1 r.1) in
-            let queue : r.0.queue ≡ m ∷ ms = sym (ap (λ (q : PortView M). q.queue) same) ∙ is in
-            let in_set : r.0.kept.attributes.set ≡ Some set = sym (ap (λ (q : PortView M). q.attributes.set) same) ∙ member in
-            let ready_in : ready_set r.0 ≡ Some set = ap (λ l. ready_if l r.0.kept.attributes.set) queue ∙ in_set in
-            absurd (nothing_held key.0 (list_of ready set) e ((readied.stands key.0 r.0 r.1).there set ready_in))
+    pub member_first : (key : ℕ) (r : Record M) → slice_get (list_of sets.all set) 0 ≡ Some key → get s key ≡ Some r → IsIn v set r.id
+    member_first key r e here = member_in key r (held_first (list_of sets.all set) key e) here
 
-    -- ---- the first member
+    pub first_member : (key : ℕ) → slice_get (list_of sets.all set) 0 ≡ Some key → (r : Record M) × (get s key ≡ Some r)
+    first_member key e = o.kept.membered.held key set (held_first (list_of sets.all set) key e)
 
-    module _ (members : ListsView) (membered : IsMembered (get s) members) where
-      pub member_held : (key : ℕ) → slice_get (list_of members set) 0 ≡ Some key → Contains (list_of members set) key
-      member_held key e = (0, slice_get_within (list_of members set) 0 key e, get_or_from_slice_get (list_of members set) 0 key key e)
+    pub first_ready : (key : ℕ) → slice_get (list_of sets.ready set) 0 ≡ Some key → (r : Record M) × (get s key ≡ Some r)
+    first_ready key e = o.kept.membered.held key set (o.kept.membered.readied key set (held_first (list_of sets.ready set) key e))
 
-      pub member_in : (key : ℕ) (r : Record M) → Contains (list_of members set) key → get s key ≡ Some r → IsIn v set r.id
-      member_in key r inside here =
-          let found : map.get keys r.id ≡ Some key = so.indexed.held key r here in
-          record {
-            given = subst (λ n. r.id < n) (ap (λ (b : PortsView M). b.made) view_is) (so.indexed.given r.id key found);
-            view = port_of r;
-            there = live_port s keys next spare destroyed slots so v view_is r.id key r found here;
-            member = (membered.stands key r here).only set inside;
-          }
+    -- the key of a member
+    member_key : (id : ℕ) (p : PortView M) → map.get v.ports id ≡ Some p → Contains (sets_in p) set → (key : ℕ) × (r : Record M) × (get s key ≡ Some r) × Contains (list_of sets.all set) key × (id_in (get s key) ≡ id) × (p ≡ port_of r (more_of sets key))
+    member_key id p h member =
+        let at = port_there o id p h in
+        (at.0, at.2, at.3, (o.kept.membered.stands at.0 set at.2 at.3).1 (subst (λ q. Contains (sets_in q) set) at.4 member), (let there = o.kept.sound.indexed.found id at.0 at.1 in ap id_in there.1 ∙ there.2), at.4)
 
-      pub member_first : (key : ℕ) (r : Record M) → slice_get (list_of members set) 0 ≡ Some key → get s key ≡ Some r → IsIn v set r.id
-      member_first key r e here = member_in key r (member_held key e) here
+    pub none_ready : slice_get (list_of sets.ready set) 0 ≡ None → NoneReadyIn v set
+    none_ready e = record {
+      empty = λ id p h member. (let at = member_key id p h member in ap (λ (q : PortView M). length q.queue) at.5 ∙ quiet_if sets at.0 set at.1.queue (o.kept.membered.ready at.0 at.1 at.2) at.3 e);
+    }
 
-      member_key : (id : ℕ) (p : PortView M) → map.get v.ports id ≡ Some p → p.attributes.set ≡ Some set → (key : ℕ) × Contains (list_of members set) key × (id_in (get s key) ≡ id)
-      member_key id p h member =
-          let key = live_at s keys next spare destroyed slots so v view_is id (ap is_some h) in
-          let r = record_at s keys next spare destroyed slots so v view_is id key.0 key.1 in
-          let same : p ≡ port_of r.0 = same_some p (port_of r.0) (sym h ∙ live_port s keys next spare destroyed slots so v view_is id key.0 r.0 key.1 r.1) in
-          let in_set : r.0.kept.attributes.set ≡ Some set = sym (ap (λ (q : PortView M). q.attributes.set) same) ∙ member in
-          (key.0, (membered.stands key.0 r.0 r.1).there set in_set, ap id_in r.1 ∙ r.2)
+    none_apart : slice_get (list_of sets.all set) 0 ≡ None → (id : ℕ) (p : PortView M) → map.get v.ports id ≡ Some p → Contains (sets_in p) set → ⊥
+    none_apart e id p h member = let at = member_key id p h member in nothing_held at.0 (list_of sets.all set) e at.3
 
-      none_apart : slice_get (list_of members set) 0 ≡ None → (id : ℕ) (p : PortView M) → map.get v.ports id ≡ Some p → p.attributes.set ≢ Some set
-      none_apart e id p h member = let key = member_key id p h member in nothing_held key.0 (list_of members set) e key.1
+    -- ---- all members
 
-      -- ---- all members
+    pub members_only : (port : ℕ) → Contains (ids_at (get s) (list_of sets.all set)) port → IsIn v set port
+    members_only port inside =
+        let key = ids_held (get s) (list_of sets.all set) port inside in
+        let r = o.kept.membered.held key.0 set key.1 in
+        subst (IsIn v set) (sym (ap id_in r.1) ∙ key.2) (member_in key.0 r.0 key.1 r.1)
 
-      pub members_only : (port : ℕ) → Contains (ids_at (get s) (list_of members set)) port → IsIn v set port
-      members_only port inside =
-          let key = ids_held (get s) (list_of members set) port inside in
-          let r = membered.held key.0 set key.1 in
-          subst (IsIn v set) (sym (ap id_in r.1) ∙ key.2) (member_in key.0 r.0 key.1 r.1)
+    pub members_all : (id : ℕ) (p : PortView M) → map.get v.ports id ≡ Some p → Contains (sets_in p) set → Contains (ids_at (get s) (list_of sets.all set)) id
+    members_all id p h member =
+        let at = member_key id p h member in
+        subst (λ n. Contains (ids_at (get s) (list_of sets.all set)) n) at.4 (ids_hold (get s) (list_of sets.all set) at.0 at.3)
 
-      pub members_all : (id : ℕ) (p : PortView M) → map.get v.ports id ≡ Some p → p.attributes.set ≡ Some set → Contains (ids_at (get s) (list_of members set)) id
-      members_all id p h member =
-          let key = member_key id p h member in
-          subst (λ n. Contains (ids_at (get s) (list_of members set)) n) key.2 (ids_hold (get s) (list_of members set) key.0 key.1)
+    -- what is ready in a set is in it
+    none_turns : slice_get (list_of sets.all set) 0 ≡ None → (l : List ℕ) → list_of sets.ready set ≡ l → l ≡ []
+    none_turns e [] is = refl
+    none_turns e (x ∷ l) is =
+        let inside : Contains (list_of sets.ready set) x = subst (λ m. Contains m x) (sym is) (0, omega arith, refl) in
+        absurd (nothing_held x (list_of sets.all set) e (o.kept.membered.readied x set inside))
 
-      -- what is ready in a set is in it
-      none_turns : slice_get (list_of members set) 0 ≡ None → (l : List ℕ) → list_of ready set ≡ l → l ≡ []
-      none_turns e [] is = refl
-      none_turns e (x ∷ l) is =
-          let inside : Contains (list_of ready set) x = subst (λ m. Contains m x) (sym is) (0, omega arith, refl) in
-          let was = readied.held x set inside in
-          let in_set : was.0.kept.attributes.set ≡ Some set = (ready_is was.0.queue was.0.kept.attributes.set set ((readied.stands x was.0 was.1).only set inside)).0 in
-          absurd (nothing_held x (list_of members set) e ((membered.stands x was.0 was.1).there set in_set))
+    pub none_in : slice_get (list_of sets.all set) 0 ≡ None → turns_of v.ready set ≡ ids_at (get s) (list_of sets.ready set) → NoneIn v set
+    none_in e turns = record { apart = none_apart e; turns = turns ∙ ap (ids_at (get s)) (none_turns e (list_of sets.ready set) refl) }
 
-      pub none_in : slice_get (list_of members set) 0 ≡ None → turns_of v.ready set ≡ ids_at (get s) (list_of ready set) → NoneIn v set
-      none_in e turns = record { apart = none_apart e; turns = turns ∙ ap (ids_at (get s)) (none_turns e (list_of ready set) refl) }
+  -- a port without a first set is in none
+  pub none_further : {s : Slab (Record M)} {keys : Keyed} {next : Option ℕ} {spare destroyed : List M} {slots : ℕ} {sets : SharedView} {waiting noting : ListsView} {v : PortsView M} → IsOpen s keys next spare destroyed slots sets waiting noting v →
+      (id : ℕ) (p : PortView M) → map.get v.ports id ≡ Some p → p.attributes.set ≡ None → p.more ≡ []
+  none_further {sets = sets} o id p h e =
+      let at = port_there o id p h in
+      ap (λ (q : PortView M). q.more) at.4 ∙ none_more sets at.0 at.2.kept.membership (o.kept.membered.home at.0 at.2 at.3) (sym (o.kept.membered.first at.0 at.2 at.3) ∙ sym (ap (λ (q : PortView M). q.attributes.set) at.4) ∙ e)
 
   -- ---- the same ports, with more places
 
@@ -232,16 +227,14 @@ module _ {M : Type 0} where
   pub sound-capacity : (s t : Slab (Record M)) (keys : Keyed) (next : Option ℕ) (spare destroyed : List M) (slots : ℕ) → t ≡ record s { capacity = t.capacity } → IsSound s keys next spare destroyed slots → IsSound t keys next spare destroyed slots
   sound-capacity s t keys next spare destroyed slots e so = grind arith
 
-  -- the same ports, with room for more in their lists
-  pub kept-wider : (s t : Slab (Record M)) (keys : Keyed) (next : Option ℕ) (spare destroyed : List M) (slots : ℕ) (ready members waiting noted : ListsView) (a b c d : ℕ) → t ≡ record s { capacity = t.capacity } →
-      ready.items ≤ a → members.items ≤ b → waiting.items ≤ c → noted.items ≤ d → IsKept s keys next spare destroyed slots ready members waiting noted →
-      IsKept t keys next spare destroyed slots (record ready { items = a }) (record members { items = b }) (record waiting { items = c }) (record noted { items = d })
-  kept-wider s t keys next spare destroyed slots ready members waiting noted a b c d e ma mb mc md k = grind (arith, sound-capacity, listed-capacity)
-
-  -- and where some of it was refused, which left all as it was
-  pub kept-then : (s t : Slab (Record M)) (keys keys2 : Keyed) (next : Option ℕ) (spare destroyed : List M) (slots : ℕ) (ready ready2 members members2 waiting waiting2 noted noted2 : ListsView) (a b c d : ℕ) → t ≡ record s { capacity = t.capacity } → keys2 ≡ keys →
-      ready2 ≡ record ready { items = a } → members2 ≡ record members { items = b } → waiting2 ≡ record waiting { items = c } → noted2 ≡ record noted { items = d } →
-      ready.items ≤ a → members.items ≤ b → waiting.items ≤ c → noted.items ≤ d → IsKept s keys next spare destroyed slots ready members waiting noted →
-      IsKept t keys2 next spare destroyed slots ready2 members2 waiting2 noted2
-  kept-then s t keys keys2 next spare destroyed slots ready ready2 members members2 waiting waiting2 noted noted2 a b c d e ek ea eb ec ed ma mb mc md k =
-      rw (ek, ea, eb, ec, ed) (kept-wider s t keys next spare destroyed slots ready members waiting noted a b c d e ma mb mc md k)
+  -- only room was made, or some of it was refused, which left all as it was
+  pub kept-then : (s t : Slab (Record M)) (keys keys2 : Keyed) (next : Option ℕ) (spare destroyed : List M) (slots : ℕ) (sets sets2 : SharedView) (waiting waiting2 noted noted2 : ListsView) (a b room c d : ℕ) → t ≡ record s { capacity = t.capacity } → keys2 ≡ keys →
+      sets2 ≡ wider sets a b room → waiting2 ≡ record waiting { items = c } → noted2 ≡ record noted { items = d } →
+      sets.all.items ≤ a → waiting.items ≤ c → noted.items ≤ d → IsKept s keys next spare destroyed slots sets waiting noted → IsKept t keys2 next spare destroyed slots sets2 waiting2 noted2
+  kept-then s t keys keys2 next spare destroyed slots sets sets2 waiting waiting2 noted noted2 a b room c d e ek ea ec ed ma mc md k =
+      rw (ek, ea, ec, ed) (record {
+        sound = sound-capacity s t keys next spare destroyed slots e k.sound;
+        membered = membered-wider (get s) (get t) sets a b room (λ x. ap (λ (u : Slab (Record M)). get u x) e) ma k.membered;
+        awaited = listed-capacity waiting_list s t waiting c e mc k.awaited;
+        are_noted = listed-capacity noting_list s t noted d e md k.are_noted;
+      })

@@ -1,29 +1,24 @@
 -- The turns of the ready ports, from the lists of their keys.
-use Rattle.std.proofs.Common.{◌≡◌, ◌≢◌, inl, inr, ℕ, ◌<◌, ◌≤◌, Bool, true, false, cond, not, eqb, Option, Some, None, List, [], ◌∷◌, ◌++◌, length, slice_get, refl, ap, sym, subst, ◌∙◌, arith, Contains}
-use Rattle.std.specs.Prelude.{unwrap_or, leb}
+use Rattle.std.proofs.Common.{◌≡◌, ◌≢◌, inl, inr, ℕ, ◌<◌, Bool, true, false, cond, not, eqb, Option, Some, None, List, [], ◌∷◌, ◌++◌, slice_get, refl, ap, sym, subst, ◌∙◌, arith, Contains}
+use Rattle.std.specs.Prelude.{unwrap_or}
 use Rattle.std.specs.Option.{option_map}
 use Rattle.std.specs.FinMap as map
 use Rattle.std.specs.Ordering.{nat_cmp}
-use Rattle.std.proofs.lemmas.Bool.Decides.{leb_tells}
 use Rattle.member_lists.specs.Lists.{ListsView, list_of, with_list, without}
 use Rattle.member_lists.specs.Chains.{times}
-use Rattle.member_lists.proofs.Times.{times_here, times_more, Contains_from_times, eqb_same}
+use Rattle.member_lists.proofs.Times.{times_here, times_more, Contains_from_times}
 use Rattle.slab.specs.Slab.{Slab, get, with_value}
 use Rattle.port_base.specs.declared.Record.{Record}
-use Rattle.port_base.specs.Turns.{ReadyLists, turns_of, with_turns, left, joined, same_set}
-use Rattle.port_base.specs.Ready.{out_of, at_end}
-use Rattle.port.specs.Ports.{PortsView, turned}
-use Rattle.port_base.specs.Records.{id_in, ids_at, ready_set}
-use Rattle.port.specs.Records.{ports_of, turns_at, made_of, IsIndexed, IsListed, IsReadied, IsSound}
+use Rattle.shared_lists.specs.Shared.{SharedView, more_of, joined as joined_in, parted as parted_in, joined_each, parted_each}
+use Rattle.shared_lists.proofs.Standing.{parted_from}
+use Rattle.port_base.specs.Turns.{ReadyLists, turns_of, with_turns, left, joined, sets_without}
+use Rattle.port.specs.Ports.{PortView, PortsView, ready_in, turned}
+use Rattle.port_base.specs.Records.{id_in, ids_at}
+use Rattle.port.specs.Records.{turns_at, made_of, IsIndexed, IsListed}
 use Rattle.port.proofs.Keys.{some_or_none, equal_or_not, put_here, put_other, out_here, out_other, same_gets}
 use Rattle.member_lists.proofs.Values.{get-with_values, len-with_values}
 use Rattle.port.proofs.Records.{Keyed, port_of}
-use Rattle.port.proofs.Readied.{ready_none}
-use Rattle.port.proofs.Sound.{turns-set, live_port}
-
-pub same_set-same : (o : Option ℕ) → same_set o o ≡ true
-same_set-same None = refl
-same_set-same (Some a) = eqb_same a a refl
+use Rattle.port.proofs.Sound.{IsOpen, turns-set, live_port}
 
 module _ {M : Type 0} (at : ℕ → Option (Record M)) where
   -- ---- a list of keys
@@ -79,15 +74,27 @@ module _ {M : Type 0} (at : ℕ → Option (Record M)) where
       same_at q None h = refl
       same_at q (Some xs) h = ap (λ l. Some l) (ids-same new xs (λ k more. same k q (subst (λ l. Contains l k) (sym (ap (λ o. unwrap_or o []) h)) (Contains_from_times k xs more))))
 
-  turns-out : (v : ListsView) (key id : ℕ) (o : Option ℕ) → ((k l : ℕ) → Contains (list_of v l) k → eqb (id_in (at k)) id ≡ eqb k key) → turns_at at (out_of v key o).lists ≡ left (turns_at at v.lists) id o
-  turns-out v key id None own = refl
-  turns-out v key id (Some l) own =
-      turns-with_list v l (without key (list_of v l))
-      ∙ ap (with_turns (turns_at at v.lists) l) (ids-without key id (list_of v l) (λ k more. own k l (Contains_from_times k (list_of v l) more)) ∙ ap (without id) (sym (turns-list v l)))
+  -- ---- an item leaves lists, and joins lists
 
-  turns-in : (v : ListsView) (key id : ℕ) (o : Option ℕ) → id_in (at key) ≡ id → turns_at at (at_end v key o).lists ≡ joined (turns_at at v.lists) id o
-  turns-in v key id None is = refl
-  turns-in v key id (Some l) is = grind (arith, turns-with_list, ids-pushed, turns-list)
+  turns-parted : (v : ListsView) (key id l : ℕ) → ((k : ℕ) → Contains (list_of v l) k → eqb (id_in (at k)) id ≡ eqb k key) → turns_at at (parted_in v l key).lists ≡ with_turns (turns_at at v.lists) l (without id (turns_of (turns_at at v.lists) l))
+  turns-parted v key id l own =
+      turns-with_list v l (without key (list_of v l))
+      ∙ ap (with_turns (turns_at at v.lists) l) (ids-without key id (list_of v l) (λ k more. own k (Contains_from_times k (list_of v l) more)) ∙ ap (without id) (sym (turns-list v l)))
+
+  turns-joined : (v : ListsView) (key id l : ℕ) → id_in (at key) ≡ id → turns_at at (joined_in v l key).lists ≡ with_turns (turns_at at v.lists) l (turns_of (turns_at at v.lists) l ++ id ∷ [])
+  turns-joined v key id l is =
+      turns-with_list v l (list_of v l ++ key ∷ [])
+      ∙ ap (with_turns (turns_at at v.lists) l) (ids-pushed (list_of v l) key ∙ ap (λ n. ids_at at (list_of v l) ++ n ∷ []) is ∙ ap (λ ys. ys ++ id ∷ []) (sym (turns-list v l)))
+
+  pub turns-parted_each : (v : ListsView) (key id : ℕ) (ls : List ℕ) → ((k l : ℕ) → Contains (list_of v l) k → eqb (id_in (at k)) id ≡ eqb k key) → turns_at at (parted_each v ls key).lists ≡ left (turns_at at v.lists) id ls
+  turns-parted_each v key id [] own = refl
+  turns-parted_each v key id (l ∷ ls) own =
+      turns-parted_each (parted_in v l key) key id ls (λ k m c. own k m (parted_from v l key m k c).0)
+      ∙ ap (λ t. left t id ls) (turns-parted v key id l (λ k c. own k l c))
+
+  pub turns-joined_each : (v : ListsView) (key id : ℕ) (ls : List ℕ) → id_in (at key) ≡ id → turns_at at (joined_each v ls key).lists ≡ joined (turns_at at v.lists) id ls
+  turns-joined_each v key id [] is = refl
+  turns-joined_each v key id (l ∷ ls) is = turns-joined_each (joined_in v l key) key id ls is ∙ ap (λ t. joined t id ls) (turns-joined v key id l is)
 
   pub turns-none : (lists : ReadyLists) → lists ≡ map.empty → turns_at at lists ≡ map.empty
   turns-none lists e = map.empty_of_len _ (len-with_values (ids_at at) lists ∙ ap (λ (m : ReadyLists). map.len m) e ∙ map.len-empty nat_cmp (List ℕ))
@@ -102,71 +109,47 @@ module _ {M : Type 0} (at : ℕ → Option (Record M)) where
   pub apart-vacant : (home : Record M → Option ℕ) (v : ListsView) → IsListed home at v → (key : ℕ) → at key ≡ None → (l : ℕ) → Contains (list_of v l) key → ⊥
   apart-vacant home v readied key vacant l c = let was = readied.held key l c in some_or_none was.0 _ was.1 vacant
 
-  pub apart-quiet : (v : ListsView) → IsReadied at v → (key : ℕ) (r : Record M) → at key ≡ Some r → length r.queue ≡ 0 → (l : ℕ) → Contains (list_of v l) key → ⊥
-  apart-quiet v readied key r here quiet l c = none_is l (sym (ready_none r.queue r.kept.attributes.set quiet) ∙ (readied.stands key r here).only l c)
-    where
-      none_is : (l : ℕ) → None ≡ Some l → ⊥
-      none_is l e = cc
-
   -- no other port under a key has this identity
+  pub own-record : (keys : Keyed) (made : ℕ) → IsIndexed at keys made → (id key : ℕ) → map.get keys id ≡ Some key → (k : ℕ) → (r : Record M) × (at k ≡ Some r) → eqb (id_in (at k)) id ≡ eqb k key
+  own-record keys made x id key found k was = grind (arith, was, x.found id key found)
+
   pub own : (home : Record M → Option ℕ) (keys : Keyed) (made : ℕ) → IsIndexed at keys made → (v : ListsView) → IsListed home at v → (id key : ℕ) → map.get keys id ≡ Some key → (k l : ℕ) → Contains (list_of v l) k → eqb (id_in (at k)) id ≡ eqb k key
-  own home keys made x v readied id key found k l c = grind (arith, readied.held k l c, x.found id key found)
+  own home keys made x v readied id key found k l c = own-record keys made x id key found k (readied.held k l c)
 
-module _ {M : Type 0} (s : Slab (Record M)) (keys : Keyed) (next : Option ℕ) (spare destroyed : List M) (slots : ℕ) (so : IsSound s keys next spare destroyed slots) (ready : ListsView)
-    {lost doomed noted : List ℕ} (v : PortsView M) (view_is : record { ports = ports_of (get s) keys; ready = turns_at (get s) ready.lists; made = made_of next; spare = length spare; destroyed = destroyed; lost = lost; doomed = doomed; noted = noted } ≡ v) (readied : IsReadied (get s) ready) where
-  ready_is : turns_at (get s) ready.lists ≡ v.ready
-  ready_is = ap (λ (b : PortsView M). b.ready) view_is
+pub ids-set : {M : Type 0} (s : Slab (Record M)) (key : ℕ) (r a : Record M) → get s key ≡ Some r → a.id ≡ r.id → (k : ℕ) → id_in (get (with_value s key a) k) ≡ id_in (get s k)
+ids-set s key r a here same k = elim (equal_or_not k key) [
+  | inl e ↦ ap (λ n. id_in (get (with_value s key a) n)) e ∙ ap id_in (turns-set s key r a here).changed ∙ same ∙ sym (ap (λ n. id_in (get s n)) e ∙ ap id_in here)
+  | inr d ↦ ap id_in ((turns-set s key r a here).others k d)
+]
 
-  pub turns_are : (set : ℕ) → turns_of v.ready set ≡ ids_at (get s) (list_of ready set)
-  turns_are set = ap (λ t. turns_of t set) (sym ready_is) ∙ turns-list (get s) ready set
+module _ {M : Type 0} {s : Slab (Record M)} {keys : Keyed} {next : Option ℕ} {spare destroyed : List M} {slots : ℕ} {sets : SharedView} {waiting noting : ListsView} {v : PortsView M} (o : IsOpen s keys next spare destroyed slots sets waiting noting v) where
+  pub ready_is : turns_at (get s) sets.ready.lists ≡ v.ready
+  ready_is = ap (λ (b : PortsView M). b.ready) o.view_is
 
-  pub first_turn : (set : ℕ) → slice_get (turns_of v.ready set) 0 ≡ option_map (λ k. id_in (get s k)) (slice_get (list_of ready set) 0)
-  first_turn set = ap (λ t. slice_get (turns_of t set) 0) (sym ready_is) ∙ ap (λ l. slice_get l 0) (turns-list (get s) ready set) ∙ ids-first (get s) (list_of ready set)
+  pub turns_are : (set : ℕ) → turns_of v.ready set ≡ ids_at (get s) (list_of sets.ready set)
+  turns_are set = ap (λ t. turns_of t set) (sym ready_is) ∙ turns-list (get s) sets.ready set
 
-  -- ---- a port that changes
+  pub first_turn : (set : ℕ) → slice_get (turns_of v.ready set) 0 ≡ option_map (λ k. id_in (get s k)) (slice_get (list_of sets.ready set) 0)
+  first_turn set = ap (λ t. slice_get (turns_of t set) 0) (sym ready_is) ∙ ap (λ l. slice_get l 0) (turns-list (get s) sets.ready set) ∙ ids-first (get s) (list_of sets.ready set)
 
-  module _ (id key : ℕ) (r a : Record M) (found : map.get keys id ≡ Some key) (here : get s key ≡ Some r) (same : a.id ≡ r.id) where
-    new_ids : (k : ℕ) → id_in (get (with_value s key a) k) ≡ id_in (get s k)
-    new_ids k = elim (equal_or_not k key) [
-      | inl e ↦ ap (λ n. id_in (get (with_value s key a) n)) e ∙ ap id_in (turns-set s key r a here).changed ∙ same ∙ sym (ap (λ n. id_in (get s n)) e ∙ ap id_in here)
-      | inr d ↦ ap id_in ((turns-set s key r a here).others k d)
-    ]
+  -- ---- a port leaves the ready ones of some sets, and joins those of others
 
-    its_id : id_in (get s key) ≡ id
-    its_id = let there = so.indexed.found id key found in ap id_in there.1 ∙ there.2
+  module _ (id key : ℕ) (found : map.get keys id ≡ Some key) where
+    pub its_id : id_in (get s key) ≡ id
+    its_id = let there = o.kept.sound.indexed.found id key found in ap id_in there.1 ∙ there.2
 
-    moved : (was now : Option ℕ) → turns_at (get (with_value s key a)) (at_end (out_of ready key was) key now).lists ≡ joined (left v.ready id was) id now
-    moved was now =
-        turns-same (get s) (get (with_value s key a)) (at_end (out_of ready key was) key now) (λ k l c. new_ids k)
-        ∙ turns-in (get s) (out_of ready key was) key id now its_id
-        ∙ ap (λ t. joined t id now) (turns-out (get s) ready key id was (own (get s) ready_set keys (made_of next) so.indexed ready readied id key found))
-        ∙ ap (λ t. joined (left t id was) id now) ready_is
+    pub turns-moved : (out in_ : List ℕ) → turns_at (get s) (joined_each (parted_each sets.ready out key) in_ key).lists ≡ joined (left v.ready id out) id in_
+    turns-moved out in_ =
+        turns-joined_each (get s) (parted_each sets.ready out key) key id in_ its_id
+        ∙ ap (λ t. joined t id in_) (turns-parted_each (get s) sets.ready key id out (λ k l c. own-record (get s) keys (made_of next) o.kept.sound.indexed id key found k (o.kept.membered.held k l (o.kept.membered.readied k l c))))
+        ∙ ap (λ t. joined (left t id out) id in_) ready_is
 
-    kept : turns_at (get (with_value s key a)) ready.lists ≡ v.ready
-    kept = turns-same (get s) (get (with_value s key a)) ready (λ k l c. new_ids k) ∙ ready_is
-
-    either : (b : Bool) (was now : Option ℕ) → turns_at (get (with_value s key a)) (cond b ready (at_end (out_of ready key was) key now)).lists ≡ cond b v.ready (joined (left v.ready id was) id now)
-    either true was now = kept
-    either false was now = moved was now
-
-    live : map.get v.ports id ≡ Some (port_of r)
-    live = live_port s keys next spare destroyed slots so v view_is id key r found here
-
-    leb_is : (n m : ℕ) → n ≤ m → leb n m ≡ true
-    leb_is n m h = elim (leb_tells n m) [ inl t ↦ t.0 | inr f ↦ absurd (let less : m < n = f.1 in omega arith) ]
-
-    leb_not : (n m : ℕ) → m < n → leb n m ≡ false
-    leb_not n m h = elim (leb_tells n m) [ inl t ↦ absurd (let less : n ≤ m = t.1 in omega arith) | inr f ↦ f.0 ]
-
-    -- it keeps its turn where it is ready in the same set
-    pub turned-renewed : (then : ListsView) → length r.queue ≤ length a.queue → then ≡ cond (same_set (ready_set r) (ready_set a)) ready (at_end (out_of ready key (ready_set r)) key (ready_set a)) →
-        turns_at (get (with_value s key a)) then.lists ≡ turned v.ready id (map.get v.ports id) (port_of a)
-    turned-renewed then longer is = grind (arith, either, leb_is, port_of, live)
-
-    -- it goes to the end where a message was taken
-    pub turned-taken : (then : ListsView) → length a.queue < length r.queue → then ≡ at_end (out_of ready key (ready_set r)) key (ready_set a) →
-        turns_at (get (with_value s key a)) then.lists ≡ turned v.ready id (map.get v.ports id) (port_of a)
-    turned-taken then shorter is = grind (arith, moved, leb_not, port_of, live)
-
-    pub turned-same : ready_set a ≡ ready_set r → length r.queue ≤ length a.queue → turns_at (get (with_value s key a)) ready.lists ≡ turned v.ready id (map.get v.ports id) (port_of a)
-    turned-same e longer = grind (arith, turned-renewed, same_set-same)
+    pub turned-moved : (r a : Record M) → get s key ≡ Some r → a.id ≡ r.id → (then : SharedView) (now : PortView M) →
+        then.ready.lists ≡ (joined_each (parted_each sets.ready (sets_without (ready_in (port_of r (more_of sets key))) (ready_in now)) key) (sets_without (ready_in now) (ready_in (port_of r (more_of sets key)))) key).lists →
+        turns_at (get (with_value s key a)) then.ready.lists ≡ turned v.ready id (map.get v.ports id) now
+    turned-moved r a here same then now is =
+        let was : PortView M = port_of r (more_of sets key) in
+        turns-same (get s) (get (with_value s key a)) then.ready (λ k l c. ids-set s key r a here same k)
+        ∙ ap (turns_at (get s)) is
+        ∙ turns-moved (sets_without (ready_in was) (ready_in now)) (sets_without (ready_in now) (ready_in was))
+        ∙ ap (λ p. turned v.ready id p now) (sym (live_port o id key r found here))

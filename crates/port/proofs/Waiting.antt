@@ -6,24 +6,25 @@ use Rattle.std.specs.FinMap as map
 use Rattle.std.specs.Ordering.{nat_cmp}
 use Rattle.std.specs.Option.{option_map}
 use Rattle.member_lists.specs.Lists.{ListsView, list_of, with_list, without}
-use Rattle.member_lists.specs.Chains.{times}
-use Rattle.member_lists.proofs.Times.{times_here, times_more, Contains_from_times, eqb_other}
+use Rattle.member_lists.proofs.Times.{Contains_from_times}
 use Rattle.member_lists.proofs.Listed.{list_same, list_other}
+use Rattle.shared_lists.specs.Shared.{SharedView, more_of}
 use Rattle.slab.specs.Slab.{Slab, get, with_value}
 use Rattle.port_base.specs.declared.Holder.{Holder}
 use Rattle.port_base.specs.declared.Holder.TheVariants.{Task, QueueOf, Nobody, Doomed}
 use Rattle.port_base.specs.declared.Record.{Record}
-use Rattle.port_base.specs.Turns.{ReadyLists}
 use Rattle.port_base.specs.Ready.{StandsIn, IsMoved, out_of, at_end}
 use Rattle.port.specs.Ports.{PortView, PortsView}
 use Rattle.port.specs.Holding.{CanHold, IsHeldBy, NoneHeldBy}
 use Rattle.port_base.specs.Records.{id_in, ids_at, lost_list, doomed_list, noted_list, waits_in, waiting_list, noting_list}
-use Rattle.port.specs.Records.{ports_of, turns_at, ids_in, made_of, lost_with, doomed_with, IsIndexed, IsListed, IsAwaited, IsNoted, IsSound}
+use Rattle.port.specs.Records.{ids_in, made_of, lost_with, doomed_with, IsIndexed, IsListed}
 use Rattle.port.proofs.Keys.{same_some, some_or_none, equal_or_not, put_here, put_other, same_gets}
-use Rattle.port.proofs.Records.{Keyed, port_of, port_at, ports-changed}
-use Rattle.port.proofs.Sound.{no_true, AreSame, relisted, turns-set, live_port, live_at, record_at}
+use Rattle.port.proofs.Records.{Keyed, port_of}
+use Rattle.port.proofs.Sound.{no_true, AreSame, IsOpen, view_of, live_port, live_at, record_at}
+use Rattle.port.proofs.Each.{without-none}
+use Rattle.port.proofs.Membered.{wider}
 use Rattle.port.proofs.Readied.{ids_hold, ids_held}
-use Rattle.port.proofs.Turned.{ids-without, ids-pushed, ids-first, ids-same, own, apart-vacant, turns-same}
+use Rattle.port.proofs.Turned.{ids-without, ids-pushed, ids-first, ids-same, ids-set, own, apart-vacant, its_id}
 
 no_some : (l : ℕ) → None ≡ Some l → ⊥
 no_some l e = cc
@@ -36,13 +37,6 @@ not_one : lost_list ≡ doomed_list → ⊥
 not_one e = omega arith
 
 -- ---- lists of keys
-
-pub without-none : (x : ℕ) (xs : List ℕ) → ((y : ℕ) → 0 < times y xs → y ≢ x) → without x xs ≡ xs
-without-none x [] apart = refl
-without-none x (y ∷ ys) apart =
-    let d : y ≢ x = apart y (let e = times_here y y ys refl in omega arith) in
-    ap (λ b. cond (not b) (y ∷ without x ys) (without x ys)) (eqb_other y x d)
-    ∙ ap (λ l. y ∷ l) (without-none x ys (λ z more. apart z (let e = times_more z y ys in omega arith)))
 
 -- each list without an item that left the one where it stood
 list_out : (w : ListsView) (key : ℕ) (o : Option ℕ) (l : ℕ) → StandsIn w key o → list_of (out_of w key o) l ≡ without key (list_of w l)
@@ -123,25 +117,17 @@ module _ {M : Type 0} (at : ℕ → Option (Record M)) where
 pub insert-same : {X : Type 0} (m : map.FinMap nat_cmp X) (k : ℕ) (x : X) → map.get m k ≡ Some x → map.insert m k x ≡ m
 insert-same m k x is = grind (arith, same_gets, equal_or_not, put_here, put_other)
 
-pub ids-set : {M : Type 0} (s : Slab (Record M)) (key : ℕ) (r a : Record M) → get s key ≡ Some r → a.id ≡ r.id → (k : ℕ) → id_in (get (with_value s key a) k) ≡ id_in (get s k)
-ids-set s key r a here same k = elim (equal_or_not k key) [
-  | inl e ↦ ap (λ n. id_in (get (with_value s key a) n)) e ∙ ap id_in (turns-set s key r a here).changed ∙ same ∙ sym (ap (λ n. id_in (get s n)) e ∙ ap id_in here)
-  | inr d ↦ ap id_in ((turns-set s key r a here).others k d)
-]
-
 -- ---- all three lists
 
-module _ {M : Type 0} (s : Slab (Record M)) (keys : Keyed) (next : Option ℕ) (spare destroyed : List M) (slots : ℕ) (so : IsSound s keys next spare destroyed slots) (waiting noting : ListsView)
-    {turns : ReadyLists} (v : PortsView M)
-    (view_is : record { ports = ports_of (get s) keys; ready = turns; made = made_of next; spare = length spare; destroyed = destroyed; lost = ids_in (get s) waiting lost_list; doomed = ids_in (get s) waiting doomed_list; noted = ids_in (get s) noting noted_list } ≡ v) where
+module _ {M : Type 0} {s : Slab (Record M)} {keys : Keyed} {next : Option ℕ} {spare destroyed : List M} {slots : ℕ} {sets : SharedView} {waiting noting : ListsView} {v : PortsView M} (o : IsOpen s keys next spare destroyed slots sets waiting noting v) where
   pub lost_now : ids_in (get s) waiting lost_list ≡ v.lost
-  lost_now = ap (λ (b : PortsView M). b.lost) view_is
+  lost_now = ap (λ (b : PortsView M). b.lost) o.view_is
 
   pub doomed_now : ids_in (get s) waiting doomed_list ≡ v.doomed
-  doomed_now = ap (λ (b : PortsView M). b.doomed) view_is
+  doomed_now = ap (λ (b : PortsView M). b.doomed) o.view_is
 
   pub noted_now : ids_in (get s) noting noted_list ≡ v.noted
-  noted_now = ap (λ (b : PortsView M). b.noted) view_is
+  noted_now = ap (λ (b : PortsView M). b.noted) o.view_is
 
   module _ (key : ℕ) (r a : Record M) (here : get s key ≡ Some r) (same : a.id ≡ r.id) where
     pub ids-stay : (w : ListsView) (l : ℕ) → ids_in (get (with_value s key a)) w l ≡ ids_in (get s) w l
@@ -151,47 +137,44 @@ module _ {M : Type 0} (s : Slab (Record M)) (keys : Keyed) (next : Option ℕ) (
     pub stay-same : AreSame (ids_in (get (with_value s key a)) waiting lost_list) (ids_in (get (with_value s key a)) waiting doomed_list) (ids_in (get (with_value s key a)) noting noted_list) v.lost v.doomed v.noted
     stay-same = grind (arith, ids-stay, lost_now, doomed_now, noted_now)
 
-    module _ (awaited : IsAwaited (get s) waiting) (id : ℕ) (found : map.get keys id ≡ Some key) where
-      its_id : id_in (get s key) ≡ id
-      its_id = let there = so.indexed.found id key found in ap id_in there.1 ∙ there.2
-
+    module _ (id : ℕ) (found : map.get keys id ≡ Some key) where
       -- a port with another holder
       pub held-same : (h : Holder) (then : ListsView) → then ≡ at_end (out_of waiting key (waiting_list r)) key (waits_in h) →
           AreSame (ids_in (get (with_value s key a)) then lost_list) (ids_in (get (with_value s key a)) then doomed_list) (ids_in (get (with_value s key a)) noting noted_list)
           (lost_with h id (without id v.lost)) (doomed_with h id (without id v.doomed)) v.noted
       held-same h then is = record {
-        lost_is = ids-stay then lost_list ∙ ap (λ w. ids_in (get s) w lost_list) is ∙ lost-joined (get s) (out_of waiting key (waiting_list r)) key id its_id h
-            ∙ ap (lost_with h id) (ids-out (get s) waiting_list waiting awaited keys (made_of next) so.indexed id key r found here lost_list ∙ ap (without id) lost_now);
-        doomed_is = ids-stay then doomed_list ∙ ap (λ w. ids_in (get s) w doomed_list) is ∙ doomed-joined (get s) (out_of waiting key (waiting_list r)) key id its_id h
-            ∙ ap (doomed_with h id) (ids-out (get s) waiting_list waiting awaited keys (made_of next) so.indexed id key r found here doomed_list ∙ ap (without id) doomed_now);
+        lost_is = ids-stay then lost_list ∙ ap (λ w. ids_in (get s) w lost_list) is ∙ lost-joined (get s) (out_of waiting key (waiting_list r)) key id (its_id o id key found) h
+            ∙ ap (lost_with h id) (ids-out (get s) waiting_list waiting o.kept.awaited keys (made_of next) o.kept.sound.indexed id key r found here lost_list ∙ ap (without id) lost_now);
+        doomed_is = ids-stay then doomed_list ∙ ap (λ w. ids_in (get s) w doomed_list) is ∙ doomed-joined (get s) (out_of waiting key (waiting_list r)) key id (its_id o id key found) h
+            ∙ ap (doomed_with h id) (ids-out (get s) waiting_list waiting o.kept.awaited keys (made_of next) o.kept.sound.indexed id key r found here doomed_list ∙ ap (without id) doomed_now);
         noted_is = ids-stay noting noted_list ∙ noted_now;
       }
 
   -- ---- a port that comes, is not there, or goes
 
-  pub came-same : IsAwaited (get s) waiting → IsNoted (get s) noting → (t : Slab (Record M)) (key : ℕ) → get s key ≡ None → ((other : ℕ) → other ≢ key → get t other ≡ get s other) →
+  pub came-same : (t : Slab (Record M)) (key : ℕ) → get s key ≡ None → ((other : ℕ) → other ≢ key → get t other ≡ get s other) →
       (then later : ListsView) (n m : ℕ) → then ≡ record waiting { items = n } → later ≡ record noting { items = m } →
       AreSame (ids_in (get t) then lost_list) (ids_in (get t) then doomed_list) (ids_in (get t) later noted_list) (ids_in (get s) waiting lost_list) (ids_in (get s) waiting doomed_list) (ids_in (get s) noting noted_list)
-  came-same awaited are_noted t key vacant others then later n m is also = record {
-    lost_is = ap (λ w. ids_in (get t) w lost_list) is ∙ ids-came (get s) waiting_list waiting awaited (get t) key vacant others lost_list;
-    doomed_is = ap (λ w. ids_in (get t) w doomed_list) is ∙ ids-came (get s) waiting_list waiting awaited (get t) key vacant others doomed_list;
-    noted_is = ap (λ w. ids_in (get t) w noted_list) also ∙ ids-came (get s) noting_list noting are_noted (get t) key vacant others noted_list;
+  came-same t key vacant others then later n m is also = record {
+    lost_is = ap (λ w. ids_in (get t) w lost_list) is ∙ ids-came (get s) waiting_list waiting o.kept.awaited (get t) key vacant others lost_list;
+    doomed_is = ap (λ w. ids_in (get t) w doomed_list) is ∙ ids-came (get s) waiting_list waiting o.kept.awaited (get t) key vacant others doomed_list;
+    noted_is = ap (λ w. ids_in (get t) w noted_list) also ∙ ids-came (get s) noting_list noting o.kept.are_noted (get t) key vacant others noted_list;
   }
 
-  pub gone-same : IsAwaited (get s) waiting → IsNoted (get s) noting → (id : ℕ) → map.get keys id ≡ None → AreSame v.lost v.doomed v.noted (without id v.lost) (without id v.doomed) (without id v.noted)
-  gone-same awaited are_noted id none = record {
-    lost_is = sym lost_now ∙ sym (ids-gone (get s) waiting_list waiting awaited keys (made_of next) so.indexed id none lost_list) ∙ ap (without id) lost_now;
-    doomed_is = sym doomed_now ∙ sym (ids-gone (get s) waiting_list waiting awaited keys (made_of next) so.indexed id none doomed_list) ∙ ap (without id) doomed_now;
-    noted_is = sym noted_now ∙ sym (ids-gone (get s) noting_list noting are_noted keys (made_of next) so.indexed id none noted_list) ∙ ap (without id) noted_now;
+  pub gone-same : (id : ℕ) → map.get keys id ≡ None → AreSame v.lost v.doomed v.noted (without id v.lost) (without id v.doomed) (without id v.noted)
+  gone-same id none = record {
+    lost_is = sym lost_now ∙ sym (ids-gone (get s) waiting_list waiting o.kept.awaited keys (made_of next) o.kept.sound.indexed id none lost_list) ∙ ap (without id) lost_now;
+    doomed_is = sym doomed_now ∙ sym (ids-gone (get s) waiting_list waiting o.kept.awaited keys (made_of next) o.kept.sound.indexed id none doomed_list) ∙ ap (without id) doomed_now;
+    noted_is = sym noted_now ∙ sym (ids-gone (get s) noting_list noting o.kept.are_noted keys (made_of next) o.kept.sound.indexed id none noted_list) ∙ ap (without id) noted_now;
   }
 
-  pub went-same : IsAwaited (get s) waiting → IsNoted (get s) noting → (id key : ℕ) (r : Record M) → map.get keys id ≡ Some key → get s key ≡ Some r → (t : Slab (Record M)) → ((other : ℕ) → other ≢ key → get t other ≡ get s other) →
+  pub went-same : (id key : ℕ) (r : Record M) → map.get keys id ≡ Some key → get s key ≡ Some r → (t : Slab (Record M)) → ((other : ℕ) → other ≢ key → get t other ≡ get s other) →
       (then later : ListsView) → IsMoved waiting then key None → then ≡ out_of waiting key (waiting_list r) → IsMoved noting later key None → later ≡ out_of noting key (noting_list r) →
       AreSame (ids_in (get t) then lost_list) (ids_in (get t) then doomed_list) (ids_in (get t) later noted_list) (without id v.lost) (without id v.doomed) (without id v.noted)
-  went-same awaited are_noted id key r found here t others then later moved is moved2 is2 = record {
-    lost_is = ids-went (get s) waiting_list waiting awaited keys (made_of next) so.indexed id key r found here (get t) others then moved is lost_list ∙ ap (without id) lost_now;
-    doomed_is = ids-went (get s) waiting_list waiting awaited keys (made_of next) so.indexed id key r found here (get t) others then moved is doomed_list ∙ ap (without id) doomed_now;
-    noted_is = ids-went (get s) noting_list noting are_noted keys (made_of next) so.indexed id key r found here (get t) others later moved2 is2 noted_list ∙ ap (without id) noted_now;
+  went-same id key r found here t others then later moved is moved2 is2 = record {
+    lost_is = ids-went (get s) waiting_list waiting o.kept.awaited keys (made_of next) o.kept.sound.indexed id key r found here (get t) others then moved is lost_list ∙ ap (without id) lost_now;
+    doomed_is = ids-went (get s) waiting_list waiting o.kept.awaited keys (made_of next) o.kept.sound.indexed id key r found here (get t) others then moved is doomed_list ∙ ap (without id) doomed_now;
+    noted_is = ids-went (get s) noting_list noting o.kept.are_noted keys (made_of next) o.kept.sound.indexed id key r found here (get t) others later moved2 is2 noted_list ∙ ap (without id) noted_now;
   }
 
   -- ---- the noted ports
@@ -199,35 +182,35 @@ module _ {M : Type 0} (s : Slab (Record M)) (keys : Keyed) (next : Option ℕ) (
   pub noted_first : slice_get v.noted 0 ≡ option_map (λ k. id_in (get s k)) (slice_get (list_of noting noted_list) 0)
   noted_first = ap (λ l. slice_get l 0) (sym noted_now) ∙ ids-first (get s) (list_of noting noted_list)
 
-  pub noted_live : IsNoted (get s) noting → (port : ℕ) → Contains v.noted port → map.contains_key v.ports port ≡ true
-  noted_live are_noted port c =
+  pub noted_live : (port : ℕ) → Contains v.noted port → map.contains_key v.ports port ≡ true
+  noted_live port c =
       let k = ids_held (get s) (list_of noting noted_list) port (subst (λ l. Contains l port) (sym noted_now) c) in
-      let was = are_noted.held k.0 noted_list k.1 in
-      let found : map.get keys port ≡ Some k.0 = subst (λ n. map.get keys n ≡ Some k.0) (sym (ap id_in was.1) ∙ k.2) (so.indexed.held k.0 was.0 was.1) in
-      ap is_some (live_port s keys next spare destroyed slots so v view_is port k.0 was.0 found was.1)
+      let was = o.kept.are_noted.held k.0 noted_list k.1 in
+      let found : map.get keys port ≡ Some k.0 = subst (λ n. map.get keys n ≡ Some k.0) (sym (ap id_in was.1) ∙ k.2) (o.kept.sound.indexed.held k.0 was.0 was.1) in
+      ap is_some (live_port o port k.0 was.0 found was.1)
 
   -- ---- which ports nobody holds
 
-  module _ (awaited : IsAwaited (get s) waiting) (holder : Holder) (list : ℕ) (back : waits_in holder ≡ Some list) (tells : (h : Holder) → waits_in h ≡ Some list → h ≡ holder) where
+  module _ (holder : Holder) (list : ℕ) (back : waits_in holder ≡ Some list) (tells : (h : Holder) → waits_in h ≡ Some list → h ≡ holder) where
     listed-held : (port : ℕ) → Contains (ids_in (get s) waiting list) port → IsHeldBy v port holder
     listed-held port c =
         let k = ids_held (get s) (list_of waiting list) port c in
-        let was = awaited.held k.0 list k.1 in
+        let was = o.kept.awaited.held k.0 list k.1 in
         let id : was.0.id ≡ port = sym (ap id_in was.1) ∙ k.2 in
-        let found : map.get keys port ≡ Some k.0 = subst (λ n. map.get keys n ≡ Some k.0) id (so.indexed.held k.0 was.0 was.1) in
+        let found : map.get keys port ≡ Some k.0 = subst (λ n. map.get keys n ≡ Some k.0) id (o.kept.sound.indexed.held k.0 was.0 was.1) in
         record {
-          view = port_of was.0;
-          there = live_port s keys next spare destroyed slots so v view_is port k.0 was.0 found was.1;
-          holder_is = tells was.0.kept.attributes.holder ((awaited.stands k.0 was.0 was.1).only list k.1);
+          view = port_of was.0 (more_of sets k.0);
+          there = live_port o port k.0 was.0 found was.1;
+          holder_is = tells was.0.kept.attributes.holder ((o.kept.awaited.stands k.0 was.0 was.1).only list k.1);
         }
 
     held-listed : (port : ℕ) → IsHeldBy v port holder → Contains (ids_in (get s) waiting list) port
     held-listed port h =
-        let key = live_at s keys next spare destroyed slots so v view_is port (ap is_some h.there) in
-        let r = record_at s keys next spare destroyed slots so v view_is port key.0 key.1 in
-        let same : h.view ≡ port_of r.0 = same_some h.view (port_of r.0) (sym h.there ∙ live_port s keys next spare destroyed slots so v view_is port key.0 r.0 key.1 r.1) in
+        let key = live_at o port (ap is_some h.there) in
+        let r = record_at o port key.0 key.1 in
+        let same : h.view ≡ port_of r.0 (more_of sets key.0) = same_some h.view (port_of r.0 (more_of sets key.0)) (sym h.there ∙ live_port o port key.0 r.0 key.1 r.1) in
         let is : r.0.kept.attributes.holder ≡ holder = sym (ap (λ (q : PortView M). q.attributes.holder) same) ∙ h.holder_is in
-        listed-in (get s) waiting_list waiting awaited keys (made_of next) so.indexed port key.0 r.0 key.1 r.1 list (ap waits_in is ∙ back)
+        listed-in (get s) waiting_list waiting o.kept.awaited keys (made_of next) o.kept.sound.indexed port key.0 r.0 key.1 r.1 list (ap waits_in is ∙ back)
 
     module _ (told : List ℕ) (told_is : ids_in (get s) waiting list ≡ told) where
       pub held_told : (port : ℕ) → (Contains told port → IsHeldBy v port holder) × (IsHeldBy v port holder → Contains told port)
@@ -254,48 +237,11 @@ module _ {M : Type 0} (s : Slab (Record M)) (keys : Keyed) (next : Option ℕ) (
 
 -- ---- only room was made
 
-pub view-then : {M : Type 0} (s t : Slab (Record M)) (keys keys2 : Keyed) (next : Option ℕ) (spare destroyed : List M) (ready ready2 : ListsView) (a : ℕ) → ready2 ≡ record ready { items = a } → (waiting waiting2 : ListsView) (b : ℕ) → waiting2 ≡ record waiting { items = b } → (noting noting2 : ListsView) (c : ℕ) → noting2 ≡ record noting { items = c } →
-    t ≡ record s { capacity = t.capacity } → keys2 ≡ keys →
-    ◌≡◌ {A = PortsView M} record { ports = ports_of (get t) keys2; ready = turns_at (get t) ready2.lists; made = made_of next; spare = length spare; destroyed = destroyed; lost = ids_in (get t) waiting2 lost_list; doomed = ids_in (get t) waiting2 doomed_list; noted = ids_in (get t) noting2 noted_list }
-    record { ports = ports_of (get s) keys; ready = turns_at (get s) ready.lists; made = made_of next; spare = length spare; destroyed = destroyed; lost = ids_in (get s) waiting lost_list; doomed = ids_in (get s) waiting doomed_list; noted = ids_in (get s) noting noted_list }
-view-then {M} s t keys keys2 next spare destroyed ready ready2 a ea waiting waiting2 b eb noting noting2 c ec e ek = grind arith
-
--- ---- a port that is noted, or no longer: nothing else of it changes
-
-module _ {M : Type 0} (s : Slab (Record M)) (keys : Keyed) (next : Option ℕ) (spare destroyed : List M) (slots : ℕ) (so : IsSound s keys next spare destroyed slots) (waiting noting ready : ListsView) (v : PortsView M)
-    (view_is : record { ports = ports_of (get s) keys; ready = turns_at (get s) ready.lists; made = made_of next; spare = length spare; destroyed = destroyed; lost = ids_in (get s) waiting lost_list; doomed = ids_in (get s) waiting doomed_list; noted = ids_in (get s) noting noted_list } ≡ v) where
-  pub view-noted : (id key : ℕ) (r a : Record M) → map.get keys id ≡ Some key → get s key ≡ Some r → a.id ≡ r.id → port_of a ≡ port_of r → (later : ListsView) (noted : List ℕ) → ids_in (get s) later noted_list ≡ noted →
-      ◌≡◌ {A = PortsView M} record {
-        ports = ports_of (get (with_value s key a)) keys;
-        ready = turns_at (get (with_value s key a)) ready.lists;
-        made = made_of next;
-        spare = length spare;
-        destroyed = destroyed;
-        lost = ids_in (get (with_value s key a)) waiting lost_list;
-        doomed = ids_in (get (with_value s key a)) waiting doomed_list;
-        noted = ids_in (get (with_value s key a)) later noted_list;
-      }
-      (record v { noted = noted })
-  view-noted id key r a found here same alike later noted is =
-      let P : map.FinMap nat_cmp (PortView M) = ports_of (get s) keys in
-      let ports : ports_of (get (with_value s key a)) keys ≡ P = ports-changed (get s) (get (with_value s key a)) keys (made_of next) so.indexed id key r a found here (turns-set s key r a here) same
-      ∙ ap (map.insert P id) alike ∙ insert-same P id (port_of r) (port_at (get s) keys id key r found here) in
-      let turns : turns_at (get (with_value s key a)) ready.lists ≡ turns_at (get s) ready.lists = turns-same (get s) (get (with_value s key a)) ready (λ k l c. ids-set s key r a here same k) in
-      let stay : (w : ListsView) (l : ℕ) → ids_in (get (with_value s key a)) w l ≡ ids_in (get s) w l = ids-stay s keys next spare destroyed slots so waiting noting v view_is key r a here same in
-      let mk : map.FinMap nat_cmp (PortView M) → ReadyLists → PortsView M = λ x t. record {
-        ports = x;
-        ready = t;
-        made = made_of next;
-        spare = length spare;
-        destroyed = destroyed;
-        lost = ids_in (get (with_value s key a)) waiting lost_list;
-        doomed = ids_in (get (with_value s key a)) waiting doomed_list;
-        noted = ids_in (get (with_value s key a)) later noted_list;
-      } in
-      ap (λ x. mk x (turns_at (get (with_value s key a)) ready.lists)) ports ∙ ap (mk P) turns
-      ∙ relisted (mk P (turns_at (get s) ready.lists)) (ids_in (get (with_value s key a)) waiting lost_list) (ids_in (get (with_value s key a)) waiting doomed_list) (ids_in (get (with_value s key a)) later noted_list)
-      (ids_in (get s) waiting lost_list) (ids_in (get s) waiting doomed_list) noted (record { lost_is = stay waiting lost_list; doomed_is = stay waiting doomed_list; noted_is = stay later noted_list ∙ is })
-      ∙ ap (λ (b : PortsView M). record b { noted = noted }) view_is
+pub view-then : {M : Type 0} (s t : Slab (Record M)) (keys keys2 : Keyed) (next : Option ℕ) (spare destroyed : List M) (sets sets2 : SharedView) (a b room : ℕ) → sets2 ≡ wider sets a b room → (waiting waiting2 : ListsView) (c : ℕ) → waiting2 ≡ record waiting { items = c } → (noting noting2 : ListsView) (d : ℕ) → noting2 ≡ record noting { items = d } →
+    t ≡ record s { capacity = t.capacity } → keys2 ≡ keys → view_of t keys2 next spare destroyed sets2 waiting2 noting2 ≡ view_of s keys next spare destroyed sets waiting noting
+view-then {M} s t keys keys2 next spare destroyed sets sets2 a b room ea waiting waiting2 c ec noting noting2 d ed e ek =
+    ap (λ (u : Slab (Record M)). view_of u keys2 next spare destroyed sets2 waiting2 noting2) e ∙ ap (λ n. view_of s n next spare destroyed sets2 waiting2 noting2) ek
+    ∙ ap (λ u. view_of s keys next spare destroyed u waiting2 noting2) ea ∙ ap (λ w. view_of s keys next spare destroyed sets w noting2) ec ∙ ap (view_of s keys next spare destroyed sets waiting) ed
 
 some_told : (n : ℕ) → IsTrue (not (eqb n 0)) ↔ (0 < n)
 some_told n = grind (arith, no_true, not)

@@ -23,6 +23,10 @@ module _ {M : Type 0} where
   abbrev pub KeepsHolder : PortsView M → (port : ℕ) → Attributes → Type 0
   KeepsHolder v port a = (p : PortView M) → map.get v.ports port ≡ Some p → a.holder ≡ p.attributes.holder
 
+  -- the first of the port's sets is the one of these attributes, if the port is there
+  abbrev pub KeepsSet : PortsView M → (port : ℕ) → Attributes → Type 0
+  KeepsSet v port a = (p : PortView M) → map.get v.ports port ≡ Some p → a.set ≡ p.attributes.set
+
   -- the port is there, and this is its holder
   pub record IsHeldBy (v : PortsView M) (port : ℕ) (holder : Holder) : Type 0 where
     pub view : PortView M

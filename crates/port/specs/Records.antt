@@ -1,5 +1,5 @@
 -- How ports are kept. No public clause cites this module.
-use Rattle.std.specs.Prelude.{◌≡◌, ℕ, ◌+◌, ◌<◌, ◌≤◌, ◌^◌, ◌++◌, List, [], ◌∷◌, Option, Some, None, length}
+use Rattle.std.specs.Prelude.{◌≡◌, ◌↔◌, ℕ, ◌+◌, ◌<◌, ◌^◌, ◌++◌, List, [], ◌∷◌, Option, Some, None, length}
 use Rattle.std.specs.List.{sum_by, Contains}
 use Rattle.std.specs.FinMap as map
 use Rattle.std.specs.Ordering.{nat_cmp}
@@ -11,10 +11,12 @@ use Rattle.port_base.specs.declared.Holder.TheVariants.{Task, QueueOf, Nobody, D
 use Rattle.port_base.specs.declared.Record.{Record}
 use Rattle.port.specs.Holding.{held}
 use Rattle.port_base.specs.Ready.{StandsIn}
-use Rattle.port_base.specs.Turns.{ReadyLists}
+use Rattle.port_base.specs.Turns.{ReadyLists, has_some}
+use Rattle.port_base.specs.Memberships.{IsHome, first_of}
+use Rattle.shared_lists.specs.Shared.{SharedView, more_of, IsReady}
 use Rattle.port_base.specs.Attributes.{first_attributes}
-use Rattle.port_base.specs.Records.{ids_at, ready_set, member_set, waiting_list, noting_list}
-use Rattle.port.specs.Ports.{PortView, PortsView, with_port}
+use Rattle.port_base.specs.Records.{ids_at, waiting_list, noting_list}
+use Rattle.port.specs.Ports.{PortView, PortsView, sets_in, with_port}
 
 -- how many numbers were given out, where the next is this, or none is left
 abbrev pub made_of : Option ℕ → ℕ
@@ -36,12 +38,12 @@ doomed_with Nobody port doomed = doomed
 doomed_with Doomed port doomed = doomed ++ port ∷ []
 
 module _ {M : Type 0} where
-  abbrev pub port_in : Option (Record M) → PortView M
-  port_in None = record { queue = []; attributes = first_attributes 0 }
-  port_in (Some r) = record { queue = r.queue; attributes = r.kept.attributes }
+  abbrev pub port_in : Option (Record M) → (more : List ℕ) → PortView M
+  port_in None more = record { queue = []; attributes = first_attributes 0; more = more }
+  port_in (Some r) more = record { queue = r.queue; attributes = r.kept.attributes; more = more }
 
-  abbrev pub ports_of : (ℕ → Option (Record M)) → map.FinMap nat_cmp ℕ → map.FinMap nat_cmp (PortView M)
-  ports_of at keys = with_values (λ key. port_in (at key)) keys
+  abbrev pub ports_of : (ℕ → Option (Record M)) → SharedView → map.FinMap nat_cmp ℕ → map.FinMap nat_cmp (PortView M)
+  ports_of at sets keys = with_values (λ key. port_in (at key) (more_of sets key)) keys
 
   -- the identities of the ports in a list
   abbrev pub ids_in : (ℕ → Option (Record M)) → ListsView → (list : ℕ) → List ℕ
@@ -73,13 +75,20 @@ module _ {M : Type 0} where
     pub held : (key l : ℕ) → Contains (list_of lists l) key → (r : Record M) × (at key ≡ Some r)
     pub room : (key : ℕ) (r : Record M) → at key ≡ Some r → key < lists.items
 
-  -- the ready ports stand in the lists of their sets
-  abbrev pub IsReadied : (ℕ → Option (Record M)) → ListsView → Type 0
-  IsReadied at ready = IsListed ready_set at ready
+  -- the sets that the port under the key is in
+  abbrev pub sets_at : SharedView → (key : ℕ) → Record M → List ℕ
+  sets_at sets key r = sets_in (port_in (Some r) (more_of sets key))
 
-  -- all members stand in the lists of their sets
-  abbrev pub IsMembered : (ℕ → Option (Record M)) → ListsView → Type 0
-  IsMembered at members = IsListed member_set at members
+  -- each port stands in the lists of its sets, and among the ready ones of each where it has a message; nothing else does
+  pub record IsMembered (at : ℕ → Option (Record M)) (sets : SharedView) : Type 0 where
+    pub first : (key : ℕ) (r : Record M) → at key ≡ Some r → r.kept.attributes.set ≡ first_of r.kept.membership
+    pub stands : (key l : ℕ) (r : Record M) → at key ≡ Some r → Contains (list_of sets.all l) key ↔ Contains (sets_at sets key r) l
+    pub home : (key : ℕ) (r : Record M) → at key ≡ Some r → IsHome sets key r.kept.membership
+    pub ready : (key : ℕ) (r : Record M) → at key ≡ Some r → IsReady sets key (has_some r.queue)
+    pub held : (key l : ℕ) → Contains (list_of sets.all l) key → (r : Record M) × (at key ≡ Some r)
+    pub readied : (key l : ℕ) → Contains (list_of sets.ready l) key → Contains (list_of sets.all l) key
+    pub more : (key : ℕ) → at key ≡ None → more_of sets key ≡ []
+    pub room : (key : ℕ) (r : Record M) → at key ≡ Some r → key < sets.all.items
 
   -- the ports that nobody holds stand in the lists of the lost and of the doomed
   abbrev pub IsAwaited : (ℕ → Option (Record M)) → ListsView → Type 0
@@ -89,10 +98,9 @@ module _ {M : Type 0} where
   abbrev pub IsNoted : (ℕ → Option (Record M)) → ListsView → Type 0
   IsNoted at noted = IsListed noting_list at noted
 
-  pub record IsKept (s : Slab (Record M)) (keys : map.FinMap nat_cmp ℕ) (next : Option ℕ) (spare destroyed : List M) (slots : ℕ) (ready members waiting noted : ListsView) : Type 0 where
+  pub record IsKept (s : Slab (Record M)) (keys : map.FinMap nat_cmp ℕ) (next : Option ℕ) (spare destroyed : List M) (slots : ℕ) (sets : SharedView) (waiting noted : ListsView) : Type 0 where
     pub sound : IsSound s keys next spare destroyed slots
-    pub readied : IsReadied (get s) ready
-    pub membered : IsMembered (get s) members
+    pub membered : IsMembered (get s) sets
     pub awaited : IsAwaited (get s) waiting
     pub are_noted : IsNoted (get s) noted
 

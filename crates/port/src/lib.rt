@@ -14,26 +14,28 @@ ghost use Rattle.number_map.specs.Maps.{MapView};
 ghost use Rattle.slab.specs.Slab.{get, with_value, HasRoomFor};
 ghost use Rattle.port_base.specs.declared.Record.{Record as AnyRecord};
 ghost use Rattle.port_base.specs.Ready.{StandsIn, IsMoved, out_of, at_end};
-ghost use Rattle.port_base.specs.Turns.{turns_of, same_set};
 ghost use Rattle.port_base.specs.Attributes.{held_by, one_made, one_received};
 ghost use Rattle.port.specs.Idle.{IsIdle};
-ghost use Rattle.port_base.specs.Records.{ready_set, member_set, ids_at};
+ghost use Rattle.port_base.specs.Records.{ids_at};
 
 mod dying;
 mod looks;
+mod sets;
 
 pub use looks::Standing;
-use mach_types::{PortId, SetId, TaskId};
-use member_lists::{MarkedLists, TwoLists};
+use mach_types::{PortId, TaskId};
+use member_lists::TwoLists;
 use number_map::NumberMap;
 use port_base::by_key::{
-    DOOMED, LOST, NOTED, count_at, destroy_at, has_messages, hold_at, ids_of, member_at, narrow,
-    note_at, noted_at, pop_at, push_at, ready_at, reserve_record, set_at, take_at,
+    DOOMED, LOST, NOTED, count_at, destroy_at, hold_at, left_at, narrow, note_at, noted_at, pop_at,
+    push_at, reserve_record, set_at, take_at,
 };
-use port_base::moves::{join_two, leave, leave_two, ready, rejoin_two, renew, reready};
+use port_base::moves::{join_two, leave, leave_two, ready, rejoin_two, unready};
 use port_base::slots::{blank_slots, pop};
-pub use port_base::{Attributes, Holder, Message};
+pub use port_base::{Attributes, Holder, Membership, Message};
 use port_base::{Kept, Record};
+pub use sets::PortSets;
+use shared_lists::SharedLists;
 use slab::Slab;
 use std::alloc::{AllocError, Global};
 use std::collections::LinkedList;
@@ -48,8 +50,8 @@ const MOST_SLOTS: usize = 1 << 63;
 pub struct Ports<M: Message> {
     records: Slab<Record<M>>,
     by_id: NumberMap<u32>,
-    // The members of each set, of which those that have messages are marked.
-    sets: MarkedLists,
+    // The members of each set, of which those that have messages are ready.
+    sets: SharedLists,
     // Those without a holder, in the list LOST or DOOMED.
     waiting: TwoLists,
     // Those noted, in the list NOTED.
@@ -74,17 +76,18 @@ impl<M: Message> Model for Ports<M> {
     ghost use Rattle.port.specs.Records.{ports_of, turns_at, ids_in, made_of, IsKept};
 
     ghost view = { λ a. record {
-      ports = ports_of (get a.records) a.by_id.map;
-      ready = turns_at (get a.records) a.sets.marked.lists;
+      ports = ports_of (get a.records) a.sets a.by_id.map;
+      ready = turns_at (get a.records) a.sets.ready.lists;
       made = made_of a.next;
       spare = length a.spare;
       destroyed = a.destroyed;
       lost = ids_in (get a.records) a.waiting lost_list;
       doomed = ids_in (get a.records) a.waiting doomed_list;
       noted = ids_in (get a.records) a.noted noted_list;
+      several = a.sets.several;
     } };
 
-    ghost invariant = { λ a. IsKept a.records a.by_id.map a.next a.spare a.destroyed a.slots a.sets.marked a.sets.all a.waiting a.noted };
+    ghost invariant = { λ a. IsKept a.records a.by_id.map a.next a.spare a.destroyed a.slots a.sets a.waiting a.noted };
 }
 
 // The key of a port's record, if the port is there.
@@ -100,20 +103,21 @@ fn key_of(by_id: &NumberMap<u32>, port: PortId) -> Option<usize>
 impl<M: Message> Ports<M> {
     ghost use Rattle.mach_types.specs.Numbers.{most_identities};
     ghost use Rattle.member_lists.specs.Lists.{without};
-    ghost use Rattle.port.specs.Holding.{CanHold, held, KeepsHolder, IsHeldBy, NoneHeldBy};
+    ghost use Rattle.port.specs.Holding.{CanHold, held, KeepsHolder, KeepsSet, IsHeldBy, NoneHeldBy};
     ghost use Rattle.port_base.specs.Attributes.{first_attributes};
-    ghost use Rattle.port.specs.Ports.{PortView, IsLive, with_port, IsReadyIn, NoneReadyIn, IsIn, NoneIn, DestroysFirst, NoneQueued};
+    ghost use Rattle.port.specs.Ports.{PortView, IsLive, with_port, DestroysFirst, NoneQueued};
     ghost use Rattle.port.specs.Records.{with_holder};
     ghost use Rattle.port_base.specs.declared.Holder.TheVariants as Holder;
 
-    /// No ports, and no slots. Allocates nothing; constant time.
-    pub fn new(alloc: Global) -> Ports<M>
-        ensures { result ≡ record { ports = map.empty; ready = map.empty; made = 0; spare = 0; destroyed = []; lost = []; doomed = []; noted = [] } }
+    /// No ports, and no slots. `several` says whether a port may be in several sets. Allocates nothing;
+    /// constant time.
+    pub fn new(alloc: Global, several: bool) -> Ports<M>
+        ensures { result ≡ record { ports = map.empty; ready = map.empty; made = 0; spare = 0; destroyed = []; lost = []; doomed = []; noted = []; several = several } }
     {
         Ports {
             records: Slab::new(alloc),
             by_id: NumberMap::new(alloc),
-            sets: MarkedLists::new(alloc),
+            sets: SharedLists::new(alloc, several),
             waiting: TwoLists::new(alloc),
             noted: TwoLists::new(alloc),
             next: Some(0),
@@ -178,7 +182,7 @@ impl<M: Message> Ports<M> {
     pub fn allocate(&mut self, task: TaskId) -> Result<PortId, AllocError>
         requires { self.old.made < most_identities }
         ensures identity { IfOk result (λ id. id ≡ self.old.made) }
-        ensures ok { OnOk result (self.new ≡ record self.old { ports = map.insert self.old.ports self.old.made (record { queue = []; attributes = first_attributes task }); made = self.old.made + 1 }) }
+        ensures ok { OnOk result (self.new ≡ record self.old { ports = map.insert self.old.ports self.old.made (record { queue = []; attributes = first_attributes task; more = [] }); made = self.old.made + 1 }) }
         ensures err { OnErr result (self.new ≡ self.old) }
     {
         let number = self.next.unwrap();
@@ -200,7 +204,8 @@ impl<M: Message> Ports<M> {
     }
 
     /// Removes a port that has no messages: it is in no set, neither lost nor doomed, and not noted.
-    /// What was allocated for it is freed or kept for others. Takes no memory. Constant time.
+    /// What was allocated for it is freed or kept for others. Takes no memory. Constant time, and linear in
+    /// the sets that it was in.
     #[inline(always)]
     pub fn remove(&mut self, port: PortId)
         requires { (p : PortView M) → map.get self.old.ports port ≡ Some p → length p.queue ≡ 0 }
@@ -211,8 +216,7 @@ impl<M: Message> Ports<M> {
                 let key = key as usize;
                 let Record { queue, kept, .. } = self.records.remove(key);
                 queue.destroy_empty();
-                let set = kept.member_list();
-                leave(&mut self.sets, key, set);
+                leave(&mut self.sets, key, kept.membership(), false);
                 let list = kept.waiting_list();
                 leave_two(&mut self.waiting, key, list);
                 let list = kept.noting_list();
@@ -224,7 +228,8 @@ impl<M: Message> Ports<M> {
 
     /// A port's attributes, if the port is there. Constant time.
     pub fn attributes(&self, port: PortId) -> Option<Attributes>
-        ensures { result ≡ option_map (λ p. p.attributes) (map.get self.now.ports port) }
+        ensures is { result ≡ option_map (λ p. p.attributes) (map.get self.now.ports port) }
+        ensures none { (p : PortView M) → map.get self.now.ports port ≡ Some p → p.attributes.set ≡ None → p.more ≡ [] }
     {
         let key = key_of(&self.by_id, port)?;
         Some(self.records[key].kept.attributes())
@@ -237,50 +242,15 @@ impl<M: Message> Ports<M> {
         key_of(&self.by_id, port).is_some()
     }
 
-    /// The port of the set that has a message and whose turn it is, if there is one. A port gets its
-    /// turn at the end: when it becomes ready in the set, and again when a message is taken from it
-    /// and it has more. Constant time.
-    pub fn first_ready(&self, set: SetId) -> Option<PortId>
-        ensures first { result ≡ slice_get (turns_of self.now.ready set) 0 }
-        ensures some { IfSome result (λ port. IsReadyIn self.now set port) }
-        ensures none { IfNone result (NoneReadyIn self.now set) }
-    {
-        let key = self.sets.first_marked(set.number())?;
-        Some(self.records[key].id)
-    }
-
-    /// A port of the set, if there is one. Constant time.
-    pub fn first_member(&self, set: SetId) -> Option<PortId>
-        ensures some { IfSome result (λ port. IsIn self.now set port) }
-        ensures none { IfNone result (NoneIn self.now set) }
-    {
-        let key = self.sets.first(set.number())?;
-        Some(self.records[key].id)
-    }
-
-    /// The ports of the set, in no order that is promised. Linear in their number.
-    ///
-    /// An error means that memory was refused.
-    pub fn members(&self, set: SetId, alloc: Global) -> Result<Vec<PortId>, AllocError>
-        ensures only { IfOk result (λ ports. (port : ℕ) → Contains ports.items port → IsIn self.now set port) }
-        ensures all { IfOk result (λ ports. (port : ℕ) (p : PortView M) → map.get self.now.ports port ≡ Some p → p.attributes.set ≡ Some set → Contains ports.items port) }
-    {
-        let keys = self.sets.items(set.number(), alloc)?;
-        ids_of(&self.records, &keys, alloc)
-    }
-
-    /// Sets a port's attributes; its holder stays. Takes no memory. Constant time.
+    /// Sets the limit and the counts of a port; its sets and its holder stay. Takes no memory. Constant time.
     pub fn set_attributes(&mut self, port: PortId, attributes: Attributes)
         requires live { IsLive self.old port }
         requires holder { KeepsHolder self.old port attributes }
+        requires set { KeepsSet self.old port attributes }
         ensures { (p : PortView M) → map.get self.old.ports port ≡ Some p → self.new ≡ with_port self.old port (record p { attributes = attributes }) }
     {
         let key = key_of(&self.by_id, port).unwrap();
-        let was = member_at(&self.records, key);
-        let is_ready = has_messages(&self.records, key);
-        set_at(&mut self.records, key, attributes);
-        let now = member_at(&self.records, key);
-        renew(&mut self.sets, key, was, now, is_ready);
+        set_at(&mut self.records, key, &attributes);
     }
 
     // Says who holds a port's receive right now; the port leaves the lost and the doomed ones, and
@@ -422,7 +392,9 @@ impl<M: Message> Ports<M> {
         }
     }
 
-    /// Puts a message at the end of a port's queue, in a spare slot. Takes no memory. Constant time.
+    /// Puts a message at the end of a port's queue, in a spare slot. The port's first message gives it its turn
+    /// in each of its sets, after the ports that are ready there. Takes no memory. Constant time, and for a port's
+    /// first message linear in its sets.
     #[inline(always)]
     pub fn enqueue(&mut self, port: PortId, message: M)
         requires live { IsLive self.old port }
@@ -431,13 +403,13 @@ impl<M: Message> Ports<M> {
             self.new ≡ record (with_port self.old port (record p { queue = p.queue ++ message ∷ [] })) { spare = self.old.spare - 1 } }
     {
         let key = key_of(&self.by_id, port).unwrap();
-        let set = push_at(&mut self.records, key, &mut self.spare, message);
-        ready(&mut self.sets, key, set);
+        let sets = push_at(&mut self.records, key, &mut self.spare, message);
+        ready(&mut self.sets, key, sets);
     }
 
-    /// Takes the message at the front of a port's queue; its slot is spare again. A port that has more
-    /// goes to the end of its set's ready ones. `None` where the port is gone or has none, and all is
-    /// then as before. Takes no memory. Constant time.
+    /// Takes the message at the front of a port's queue; its slot is spare again. A port that has more keeps
+    /// its turn in each of its sets. `None` where the port is gone or has none, and all is then as before.
+    /// Takes no memory. Constant time, and for a port's last message linear in its sets.
     pub fn dequeue(&mut self, port: PortId) -> Option<M>
         ensures front { result ≡ option_and_then (λ p. slice_get p.queue 0) (map.get self.old.ports port) }
         ensures taken { (p : PortView M) → map.get self.old.ports port ≡ Some p → IfSome result (λ m. self.new ≡ record (with_port self.old port (record p { queue = drop 1 p.queue })) { spare = self.old.spare + 1 }) }
@@ -448,17 +420,14 @@ impl<M: Message> Ports<M> {
             return None;
         }
         let blank = M::blank(*self.spare.allocator());
-        let was = ready_at(&self.records, key);
-        let message = pop_at(&mut self.records, key, &mut self.spare, blank);
-        let now = ready_at(&self.records, key);
-        reready(&mut self.sets, key, was, now);
-        Some(message)
+        unready(&mut self.sets, key, left_at(&self.records, key));
+        Some(pop_at(&mut self.records, key, &mut self.spare, blank))
     }
 
     /// Takes the message at the front of a port's queue, and raises the port's sequence number by one
-    /// modulo 2^32; the message's slot is spare again. A port that has more goes to the end of its
-    /// set's ready ones. `None` where the port is gone or has none, and all is then as before. Takes
-    /// no memory. Constant time.
+    /// modulo 2^32; the message's slot is spare again. A port that has more keeps its turn in each of its
+    /// sets. `None` where the port is gone or has none, and all is then as before. Takes no memory.
+    /// Constant time, and for a port's last message linear in its sets.
     pub fn take(&mut self, port: PortId) -> Option<M>
         ensures front { result ≡ option_and_then (λ p. slice_get p.queue 0) (map.get self.old.ports port) }
         ensures taken { (p : PortView M) → map.get self.old.ports port ≡ Some p → IfSome result (λ m. self.new ≡ record (with_port self.old port (record p { queue = drop 1 p.queue; attributes = one_received p.attributes })) { spare = self.old.spare + 1 }) }
@@ -472,8 +441,9 @@ impl<M: Message> Ports<M> {
     }
 
     /// Moves the message at the front of a port's queue, in its slot, behind the destroyed ones, and returns
-    /// whether there was one. A port that has more goes to the end of its set's ready ones. Where the port is
-    /// gone or has none, all is as before. Takes no memory. Constant time.
+    /// whether there was one. A port that has more keeps its turn in each of its sets. Where the port is gone
+    /// or has none, all is as before. Takes no memory. Constant time, and for a port's last message linear in
+    /// its sets.
     pub fn destroy_first(&mut self, port: PortId) -> bool
         ensures { MatchBool result (DestroysFirst self.old port self.new) (NoneQueued self.old port × (self.new ≡ self.old)) }
     {
@@ -483,10 +453,8 @@ impl<M: Message> Ports<M> {
         if self.records[key].queue.is_empty() {
             return false;
         }
-        let was = ready_at(&self.records, key);
+        unready(&mut self.sets, key, left_at(&self.records, key));
         destroy_at(&mut self.records, key, &mut self.destroyed);
-        let now = ready_at(&self.records, key);
-        reready(&mut self.sets, key, was, now);
         true
     }
 

@@ -1,5 +1,5 @@
 //! What one look-up of a port tells in one.
-ghost use Rattle.std.specs.Prelude.{◌≡◌, true, Some, None, is_some, length, option_copied, slice_get, IfSome, IfNone};
+ghost use Rattle.std.specs.Prelude.{◌≡◌, [], true, Some, None, is_some, length, option_copied, slice_get, IfSome, IfNone};
 ghost use Rattle.std.specs.Option.{option_and_then};
 ghost use Rattle.std.specs.FinMap as map;
 
@@ -54,6 +54,7 @@ impl<M: Message> Ports<M> {
         ensures some { IfSome result (λ s. (p : PortView M) → map.get self.now.ports port ≡ Some p → (s.is_member ≡ is_some p.attributes.set) × (s.queued ≡ length p.queue)) }
         ensures none { IfNone result (map.get self.now.ports port ≡ None) }
         ensures there { IfSome result (λ _. is_some (map.get self.now.ports port) ≡ true) }
+        ensures alone { (p : PortView M) → map.get self.now.ports port ≡ Some p → p.attributes.set ≡ None → p.more ≡ [] }
     {
         let key = key_of(&self.by_id, port)?;
         let record = &self.records[key];

@@ -17,6 +17,14 @@ one_made a = record a { make_send = (a.make_send + 1) % 2 ^ 32 }
 abbrev pub one_received : Attributes → Attributes
 one_received a = record a { sequence = (a.sequence + 1) % 2 ^ 32 }
 
+-- the limit and the counts of the first, and the set and the holder of the other
+abbrev pub counted_as : Attributes → Attributes → Attributes
+counted_as a b = record b { limit = a.limit; make_send = a.make_send; sequence = a.sequence }
+
+-- the counts begin again
+abbrev pub restarted : Attributes → Attributes
+restarted a = record a { make_send = 0; sequence = 0 }
+
 -- the same attributes with another holder
 abbrev pub held_by : Attributes → Holder → Attributes
 held_by a holder = record a { holder = holder }

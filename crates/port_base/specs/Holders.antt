@@ -2,6 +2,7 @@
 use Rattle.std.specs.Prelude.{ℕ, ◌%◌, ◌^◌, Bool, refl}
 use Rattle.std.specs.Coded.{Coded, code_by, coded×, coded_bool}
 use Rattle.port_base.specs.declared.Attributes.{Attributes}
+use Rattle.port_base.specs.declared.Membership.{Membership}
 use Rattle.port_base.specs.declared.Holder.{Holder}
 use Rattle.port_base.specs.declared.Holder.TheVariants.{Task, QueueOf, Nobody, Doomed}
 use Rattle.port_base.specs.declared.HolderKind.{HolderKind}
@@ -15,7 +16,9 @@ holder_of kind.Doomed number = Doomed
 
 pub record KeptView : Type 0 where
   pub attributes : Attributes
+  -- the set of the attributes is the first of these
+  pub membership : Membership
   pub is_noted : Bool
 
-abbrev pub kept_code : Coded Attributes → Coded KeptView
-kept_code a = code_by (Attributes × Bool) (coded× a coded_bool) (λ k. (k.attributes, k.is_noted)) (λ p. record { attributes = p.0; is_noted = p.1 }) (λ _. refl)
+abbrev pub kept_code : Coded Attributes → Coded Membership → Coded KeptView
+kept_code a m = code_by (Attributes × (Membership × Bool)) (coded× a (coded× m coded_bool)) (λ k. (k.attributes, (k.membership, k.is_noted))) (λ p. record { attributes = p.0; membership = p.1.0; is_noted = p.1.1 }) (λ _. refl)

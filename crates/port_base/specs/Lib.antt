@@ -3,3 +3,4 @@ pub mod Holders
 pub mod Turns
 pub mod Ready
 pub mod Records
+pub mod Memberships

@@ -3,8 +3,9 @@ use Rattle.std.specs.Prelude.{ℕ, cond, List, [], ◌∷◌, Option, Some, None
 use Rattle.std.specs.Prelude as std
 use Rattle.port_base.specs.declared.Holder.{Holder}
 use Rattle.port_base.specs.declared.Holder.TheVariants.{Task, QueueOf, Nobody, Doomed}
+use Rattle.port_base.specs.declared.Membership.{Membership}
+use Rattle.port_base.specs.declared.Membership.TheVariants.{Nowhere}
 use Rattle.port_base.specs.declared.Record.{Record}
-use Rattle.port_base.specs.Turns.{ready_if}
 
 -- the numbers of the lists that ports without a holder, and those noted, stand in
 abbrev pub lost_list : ℕ
@@ -23,10 +24,16 @@ waits_in (QueueOf port) = None
 waits_in Nobody = Some lost_list
 waits_in Doomed = Some doomed_list
 
--- the set that a port gets ready in by a message: the one that it is in, if it has none
-abbrev pub readied_if : {M : Type 0} → List M → Option ℕ → Option ℕ
-readied_if [] set = set
-readied_if (m ∷ ms) set = None
+-- the sets that a port gets ready in by a message: all those that it is in, if it has none
+abbrev pub readied_if : {M : Type 0} → List M → Membership → Membership
+readied_if [] sets = sets
+readied_if (m ∷ ms) sets = Nowhere
+
+-- the sets that a port is no more ready in without its first message: all those that it is in, if it has no more
+abbrev pub left_if : {M : Type 0} → List M → Membership → Membership
+left_if [] sets = sets
+left_if (m ∷ []) sets = sets
+left_if (m ∷ n ∷ ms) sets = Nowhere
 
 module _ {M : Type 0} where
   abbrev pub id_in : Option (Record M) → ℕ
@@ -37,16 +44,13 @@ module _ {M : Type 0} where
   abbrev pub ids_at : (ℕ → Option (Record M)) → List ℕ → List ℕ
   ids_at at keys = std.map (λ key. id_in (at key)) keys
 
-  abbrev pub ready_set : Record M → Option ℕ
-  ready_set r = ready_if r.queue r.kept.attributes.set
+  -- the sets that a port gets ready in by a message
+  abbrev pub readied_sets : Record M → Membership
+  readied_sets r = readied_if r.queue r.kept.membership
 
-  -- the set that a port gets ready in by a message
-  abbrev pub readied_set : Record M → Option ℕ
-  readied_set r = readied_if r.queue r.kept.attributes.set
-
-  -- the set that a port is in
-  abbrev pub member_set : Record M → Option ℕ
-  member_set r = r.kept.attributes.set
+  -- the sets that a port is no more ready in without its first message
+  abbrev pub left_sets : Record M → Membership
+  left_sets r = left_if r.queue r.kept.membership
 
   -- the list that a port waits in, if nobody holds it
   abbrev pub waiting_list : Record M → Option ℕ

@@ -1,19 +1,20 @@
 //! Records of ports under their keys: what is read of one, and what changes in one.
-ghost use Rattle.std.specs.Prelude.{◌≡◌, ℕ, ◌+◌, ◌<◌, ◌≤◌, ◌^◌, ◌++◌, ◌∷◌, [], List, length, cond, Option, Some, None, IsSome, IfOk, OnOk};
+ghost use Rattle.std.specs.Prelude.{◌≡◌, ℕ, ◌+◌, ◌<◌, ◌≤◌, ◌^◌, ◌++◌, ◌∷◌, [], List, length, cond, Option, Some, None, IsSome, IfOk, OnOk, true};
 ghost use Rattle.std.specs.List.{Contains};
-ghost use Rattle.member_lists.specs.Lists.{list_of};
 ghost use Rattle.slab.specs.Slab.{get, with_value, HasRoomFor};
 ghost use Rattle.port_base.specs.declared.Record.{Record as AnyRecord};
-ghost use Rattle.port_base.specs.Attributes.{held_by, one_made, one_received};
-ghost use Rattle.port_base.specs.Ready.{StandsIn, IsMoved, out_of, at_end};
-ghost use Rattle.port_base.specs.Turns.{ready_if};
-ghost use Rattle.port_base.specs.Records.{ready_set, readied_set, member_set, waiting_list, waits_in, noting_list, ids_at};
+ghost use Rattle.port_base.specs.Attributes.{counted_as, held_by, one_made, one_received, restarted};
+ghost use Rattle.port_base.specs.Memberships.{IsHome, emptied, first_of};
+ghost use Rattle.port_base.specs.declared.Membership.TheVariants.{Nowhere};
+ghost use Rattle.shared_lists.specs.Shared.{IsReady};
+ghost use Rattle.port_base.specs.Turns.{has_some};
+ghost use Rattle.port_base.specs.Records.{readied_sets, left_sets, waiting_list, waits_in, noting_list, ids_at};
 
-use crate::moves::reready;
+use crate::moves::unready;
 use crate::slots::{move_first, pop, push};
-use crate::{Attributes, Holder, Message, Record};
+use crate::{Attributes, Holder, Membership, Message, Record};
 use mach_types::PortId;
-use member_lists::MarkedLists;
+use shared_lists::SharedLists;
 use slab::Slab;
 use std::alloc::{AllocError, Global};
 use std::collections::LinkedList;
@@ -31,60 +32,48 @@ pub const DOOMED: u64 = 1;
 pub const NOTED: u64 = 0;
 
 impl<M: Message> Record<M> {
-    // The number of the set that the port is ready in: its set, where it has a message.
-    fn ready_set(&self) -> Option<u64>
-        ensures { result ≡ ready_set self.now }
-    {
-        if self.queue.is_empty() {
-            return None;
-        }
-        self.kept.member_list()
-    }
-
-    // The number of the set that the port gets ready in by a message: its set, where it has none.
-    fn readied_set(&self) -> Option<u64>
-        ensures value { result ≡ readied_set self.now }
-        ensures member { (set : ℕ) → result ≡ Some set → self.now.kept.attributes.set ≡ Some set }
+    // The sets that the port gets ready in by a message: all its sets, where it has none.
+    fn readied_sets(&self) -> Membership
+        ensures { result ≡ readied_sets self.now }
     {
         if !self.queue.is_empty() {
-            return None;
+            return Membership::Nowhere;
         }
-        self.kept.member_list()
+        self.kept.membership()
     }
 
-    // The number of the set that the port is ready in once its first message is taken.
-    fn ready_behind(&self) -> Option<u64>
-        ensures value { (m : M) (rest : List M) → self.now.queue ≡ m ∷ rest → result ≡ ready_set (record self.now { queue = rest }) }
-        ensures member { (set : ℕ) → result ≡ Some set → self.now.kept.attributes.set ≡ Some set }
+    // The sets that the port is no more ready in once its first message is taken: all its sets, where that is its
+    // only one.
+    fn left_sets(&self) -> Membership
+        ensures { result ≡ left_sets self.now }
     {
-        if self.queue.len() < 2 {
-            return None;
+        if self.queue.len() > 1 {
+            return Membership::Nowhere;
         }
-        self.kept.member_list()
+        self.kept.membership()
     }
 }
 
-/// Queues the message at the port under the key. Answers the number of the set that the port gets ready in
-/// by it, if it does; else the port keeps its place.
+/// Queues the message at the port under the key. Returns the sets that the port gets ready in by it; else the
+/// port keeps its turns.
 #[inline(always)]
 pub fn push_at<M: Message>(
     records: &mut Slab<Record<M>>,
     key: usize,
     spare: &mut LinkedList<M>,
     message: M,
-) -> Option<u64>
+) -> Membership
     requires there { IsSome (get records.old key) }
     requires some { 0 < length spare.old }
     requires fit { (r : AnyRecord M) → get records.old key ≡ Some r → length r.queue + length spare.old < 2 ^ 63 }
     ensures after { (r : AnyRecord M) → get records.old key ≡ Some r → records.new ≡ with_value records.old key (record r { queue = r.queue ++ message ∷ [] }) }
     ensures spare { length spare.new + 1 ≡ length spare.old }
-    ensures readied { (r : AnyRecord M) → get records.old key ≡ Some r → result ≡ readied_set r }
-    ensures member { (r : AnyRecord M) (set : ℕ) → get records.old key ≡ Some r → result ≡ Some set → r.kept.attributes.set ≡ Some set }
+    ensures readied { (r : AnyRecord M) → get records.old key ≡ Some r → result ≡ readied_sets r }
 {
     let record = &mut records[key];
-    let set = record.readied_set();
+    let sets = record.readied_sets();
     push(&mut record.queue, spare, message);
-    set
+    sets
 }
 
 /// Takes the message at the front of the queue of the port under the key.
@@ -104,29 +93,25 @@ pub fn pop_at<M: Message>(
 }
 
 /// Takes the message at the front of the queue of the port under the key, and raises the sequence number.
-/// The port leaves the ready ones of its set, and joins them at the end where it has more.
+/// Where it has no more, the port leaves the ready ones of each of its sets; else it keeps its turns.
 #[inline(always)]
 pub fn take_at<M: Message>(
     records: &mut Slab<Record<M>>,
     key: usize,
-    sets: &mut MarkedLists,
+    sets: &mut SharedLists,
     spare: &mut LinkedList<M>,
 ) -> M
     requires there { IsSome (get records.old key) }
     requires some { (r : AnyRecord M) → get records.old key ≡ Some r → 0 < length r.queue }
     requires fit { (r : AnyRecord M) → get records.old key ≡ Some r → length r.queue + length spare.old < 2 ^ 63 }
-    requires member { (r : AnyRecord M) (set : ℕ) → get records.old key ≡ Some r → r.kept.attributes.set ≡ Some set → Contains (list_of sets.old.all set) key }
-    requires was { (r : AnyRecord M) → get records.old key ≡ Some r → StandsIn sets.old.marked key (ready_set r) }
+    requires home { (r : AnyRecord M) → get records.old key ≡ Some r → IsHome sets.old key r.kept.membership }
+    requires ready { IsReady sets.old key true }
     ensures after { (r : AnyRecord M) → get records.old key ≡ Some r → (rest : List M) × (r.queue ≡ result ∷ rest) × (records.new ≡ with_value records.old key (record r { queue = rest; kept = record r.kept { attributes = one_received r.kept.attributes } })) }
     ensures spare { length spare.new ≡ length spare.old + 1 }
-    ensures moved { (r : AnyRecord M) (rest : List M) → get records.old key ≡ Some r → r.queue ≡ result ∷ rest → IsMoved sets.old.marked sets.new.marked key (ready_set (record r { queue = rest })) }
-    ensures turned { (r : AnyRecord M) (rest : List M) → get records.old key ≡ Some r → r.queue ≡ result ∷ rest → sets.new.marked ≡ at_end (out_of sets.old.marked key (ready_set r)) key (ready_set (record r { queue = rest })) }
-    ensures members { sets.new.all ≡ sets.old.all }
+    ensures emptied { (r : AnyRecord M) (rest : List M) → get records.old key ≡ Some r → r.queue ≡ result ∷ rest → sets.new ≡ emptied sets.old key r.kept.membership rest }
 {
     let record = &mut records[key];
-    let was = record.ready_set();
-    let now = record.ready_behind();
-    reready(sets, key, was, now);
+    unready(sets, key, record.left_sets());
     record.kept.count_received();
     let blank = M::blank(*spare.allocator());
     // Last, so that the message is moved once less.
@@ -156,12 +141,31 @@ pub fn count_at<M: Message>(records: &mut Slab<Record<M>>, key: usize)
     records[key].kept.count_made();
 }
 
-/// Sets the attributes of the port under the key.
-pub fn set_at<M: Message>(records: &mut Slab<Record<M>>, key: usize, attributes: Attributes)
+/// Sets the limit and the counts of the port under the key; its sets and its holder stay.
+pub fn set_at<M: Message>(records: &mut Slab<Record<M>>, key: usize, attributes: &Attributes)
     requires { IsSome (get records.old key) }
-    ensures { (r : AnyRecord M) → get records.old key ≡ Some r → records.new ≡ with_value records.old key (record r { kept = record r.kept { attributes = attributes } }) }
+    ensures { (r : AnyRecord M) → get records.old key ≡ Some r → records.new ≡ with_value records.old key (record r { kept = record r.kept { attributes = counted_as attributes.now r.kept.attributes } }) }
 {
-    records[key].kept.set_attributes(attributes);
+    records[key].kept.set_counts(attributes);
+}
+
+/// Says that the port under the key is in no set now, and its counts begin again.
+pub fn restart_at<M: Message>(records: &mut Slab<Record<M>>, key: usize)
+    requires { IsSome (get records.old key) }
+    ensures { (r : AnyRecord M) → get records.old key ≡ Some r → records.new ≡ with_value records.old key (record r { kept = record r.kept { attributes = record (restarted r.kept.attributes) { set = None }; membership = Nowhere } }) }
+{
+    let kept = &mut records[key].kept;
+    kept.set_membership(Membership::Nowhere);
+    kept.restart_counts();
+}
+
+/// Says which sets the port under the key is in now.
+#[inline(always)]
+pub fn place_at<M: Message>(records: &mut Slab<Record<M>>, key: usize, membership: Membership)
+    requires { IsSome (get records.old key) }
+    ensures { (r : AnyRecord M) → get records.old key ≡ Some r → records.new ≡ with_value records.old key (record r { kept = record r.kept { attributes = record r.kept.attributes { set = first_of membership }; membership = membership } }) }
+{
+    records[key].kept.set_membership(membership);
 }
 
 /// Says who holds the receive right of the port under the key now. Answers the list that the port waited in
@@ -190,28 +194,30 @@ pub fn note_at<M: Message>(records: &mut Slab<Record<M>>, key: usize, is_noted: 
     records[key].kept.set_noted(is_noted);
 }
 
-/// The number of the set that the port under the key is ready in.
-pub fn ready_at<M: Message>(records: &Slab<Record<M>>, key: usize) -> Option<u64>
+/// The sets that the port under the key is no more ready in once its first message is taken.
+#[inline(always)]
+pub fn left_at<M: Message>(records: &Slab<Record<M>>, key: usize) -> Membership
     requires { IsSome (get records.now key) }
-    ensures { (r : AnyRecord M) → get records.now key ≡ Some r → result ≡ ready_set r }
+    ensures { (r : AnyRecord M) → get records.now key ≡ Some r → result ≡ left_sets r }
 {
-    records[key].ready_set()
+    records[key].left_sets()
 }
 
-/// Whether the port under the key has messages, so that it is ready in the set that it is in.
+/// Whether the port under the key has messages, so that it is ready in each of its sets.
 pub fn has_messages<M: Message>(records: &Slab<Record<M>>, key: usize) -> bool
     requires { IsSome (get records.now key) }
-    ensures { (r : AnyRecord M) → get records.now key ≡ Some r → (set : Option ℕ) → cond result set None ≡ ready_if r.queue set }
+    ensures { (r : AnyRecord M) → get records.now key ≡ Some r → result ≡ has_some r.queue }
 {
     !records[key].queue.is_empty()
 }
 
-/// The number of the set that the port under the key is in.
-pub fn member_at<M: Message>(records: &Slab<Record<M>>, key: usize) -> Option<u64>
+/// The sets that the port under the key is in.
+#[inline(always)]
+pub fn member_at<M: Message>(records: &Slab<Record<M>>, key: usize) -> Membership
     requires { IsSome (get records.now key) }
-    ensures { (r : AnyRecord M) → get records.now key ≡ Some r → result ≡ member_set r }
+    ensures { (r : AnyRecord M) → get records.now key ≡ Some r → result ≡ r.kept.membership }
 {
-    records[key].kept.member_list()
+    records[key].kept.membership()
 }
 
 /// The list of the noted ports, if the port under the key is noted.

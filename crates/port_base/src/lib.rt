@@ -7,7 +7,8 @@
 #![tactic(auto)]
 
 ghost use Rattle.std.specs.Prelude.{◌≡◌, false, Some, None, is_some, cond};
-ghost use Rattle.port_base.specs.Attributes.{held_by, one_made, one_received};
+ghost use Rattle.port_base.specs.Attributes.{counted_as, held_by, one_made, one_received, restarted};
+ghost use Rattle.port_base.specs.Memberships.{alone_in, first_of};
 
 pub mod by_key;
 pub mod moves;
@@ -68,6 +69,39 @@ impl Holder {
     }
 }
 
+/// In how many port sets a port is, by their numbers: in none, in this one alone, or in several, of which this
+/// is the first.
+#[derive(Clone, Copy, Debug, PartialEq, Eq)]
+pub enum Membership {
+    /// In no set.
+    Nowhere,
+    /// In this set, and in no other.
+    Alone(u64),
+    /// In this set first, and in others.
+    Several(u64),
+}
+
+impl Membership {
+    /// The first of the sets, if there is one.
+    #[inline(always)]
+    pub fn first(self) -> Option<u64>
+        ensures { result ≡ first_of self }
+    {
+        match self {
+            Membership::Nowhere => None,
+            Membership::Alone(set) | Membership::Several(set) => Some(set),
+        }
+    }
+}
+
+// In how many sets a port is, as it is kept.
+#[derive(Clone, Copy, PartialEq, Eq)]
+enum SetCount {
+    Nothing,
+    One,
+    Several,
+}
+
 /// What a port has beside its queue. Setting it changes nothing else.
 #[derive(Clone, Copy, Debug, PartialEq, Eq)]
 pub struct Attributes {
@@ -77,7 +111,7 @@ pub struct Attributes {
     pub make_send: u32,
     /// The sequence number of the next message received, modulo 2^32.
     pub sequence: u32,
-    /// The port set that the port is in.
+    /// The port set that the port is in; the first of them, where it is in several.
     pub set: Option<SetId>,
     /// Who holds the port's receive right.
     pub holder: Holder,
@@ -108,28 +142,30 @@ pub struct Kept {
     limit: u32,
     make_send: u32,
     sequence: u32,
-    is_member: bool,
+    sets: SetCount,
     is_noted: bool,
     holder_kind: HolderKind,
 }
 
 impl Model for Kept {
-    ghost use Rattle.std.specs.Prelude.{cond, Some, None};
     ghost use Rattle.port_base.specs.contracts.Attributes as attributes;
+    ghost use Rattle.port_base.specs.contracts.Membership as membership;
+    ghost use Rattle.port_base.specs.Memberships.{first_of, membership_of};
     ghost use Rattle.port_base.specs.Holders.{KeptView, kept_code, holder_of};
 
     ghost Value = { KeptView };
 
-    ghost coded = { kept_code attributes.the_row.coded };
+    ghost coded = { kept_code attributes.the_row.coded membership.the_row.coded };
 
     ghost view = { λ a. record {
       attributes = record {
         limit = a.limit;
         make_send = a.make_send;
         sequence = a.sequence;
-        set = cond a.is_member (Some a.set) None;
+        set = first_of (membership_of a.sets a.set);
         holder = holder_of a.holder_kind a.holder;
       };
+      membership = membership_of a.sets a.set;
       is_noted = a.is_noted;
     } };
 }
@@ -137,13 +173,13 @@ impl Model for Kept {
 impl Kept {
     ghost use Rattle.port_base.specs.Records.{waits_in, noted_list};
 
-    /// Of a port that isn't noted.
+    /// Of a port that isn't noted, in the set of these attributes alone, if they have one.
     pub fn new(attributes: Attributes) -> Kept
-        ensures { result ≡ record { attributes = attributes; is_noted = false } }
+        ensures { result ≡ record { attributes = attributes; membership = alone_in attributes.set; is_noted = false } }
     {
-        let (set, is_member) = match attributes.set {
-            Some(set) => (set.number(), true),
-            None => (0, false),
+        let (set, sets) = match attributes.set {
+            Some(set) => (set.number(), SetCount::One),
+            None => (0, SetCount::Nothing),
         };
         let (holder_kind, holder) = attributes.holder.parts();
         Kept {
@@ -152,7 +188,7 @@ impl Kept {
             limit: attributes.limit,
             make_send: attributes.make_send,
             sequence: attributes.sequence,
-            is_member,
+            sets,
             is_noted: false,
             holder_kind,
         }
@@ -174,10 +210,9 @@ impl Kept {
     fn set(&self) -> Option<SetId>
         ensures { result ≡ self.now.attributes.set }
     {
-        if self.is_member {
-            Some(SetId::new(self.set))
-        } else {
-            None
+        match self.sets {
+            SetCount::Nothing => None,
+            SetCount::One | SetCount::Several => Some(SetId::new(self.set)),
         }
     }
 
@@ -192,12 +227,16 @@ impl Kept {
         }
     }
 
-    /// The number of the port's set.
-    pub fn member_list(&self) -> Option<u64>
-        ensures { result ≡ self.now.attributes.set }
+    /// The sets that the port is in, by their numbers.
+    #[inline(always)]
+    pub fn membership(&self) -> Membership
+        ensures { result ≡ self.now.membership }
     {
-        let set = self.set()?;
-        Some(set.number())
+        match self.sets {
+            SetCount::Nothing => Membership::Nowhere,
+            SetCount::One => Membership::Alone(self.set),
+            SetCount::Several => Membership::Several(self.set),
+        }
     }
 
     /// The list that the port waits in, if nobody holds it.
@@ -223,7 +262,7 @@ impl Kept {
     pub fn is_member(&self) -> bool
         ensures { result ≡ is_some self.now.attributes.set }
     {
-        self.is_member
+        self.sets != SetCount::Nothing
     }
 
     /// The sequence number of the next message received.
@@ -252,13 +291,40 @@ impl Kept {
         self.sequence = self.sequence.wrapping_add(1);
     }
 
-    // Sets the attributes; whether the port is noted stays.
-    fn set_attributes(&mut self, attributes: Attributes)
-        ensures { self.new ≡ record self.old { attributes = attributes } }
+    // Sets the limit and the counts of these attributes; the sets and the holder stay, and whether the port is
+    // noted.
+    fn set_counts(&mut self, attributes: &Attributes)
+        ensures { self.new ≡ record self.old { attributes = counted_as attributes.now self.old.attributes } }
     {
-        let is_noted = self.is_noted;
-        *self = Kept::new(attributes);
-        self.is_noted = is_noted;
+        self.limit = attributes.limit;
+        self.make_send = attributes.make_send;
+        self.sequence = attributes.sequence;
+    }
+
+    // The counts begin again.
+    fn restart_counts(&mut self)
+        ensures { self.new ≡ record self.old { attributes = restarted self.old.attributes } }
+    {
+        self.make_send = 0;
+        self.sequence = 0;
+    }
+
+    // Says which sets the port is in now.
+    #[inline(always)]
+    fn set_membership(&mut self, membership: Membership)
+        ensures { self.new ≡ record self.old { attributes = record self.old.attributes { set = first_of membership }; membership = membership } }
+    {
+        match membership {
+            Membership::Nowhere => self.sets = SetCount::Nothing,
+            Membership::Alone(set) => {
+                self.sets = SetCount::One;
+                self.set = set;
+            }
+            Membership::Several(set) => {
+                self.sets = SetCount::Several;
+                self.set = set;
+            }
+        }
     }
 
     // Says who holds the receive right now.

@@ -1,9 +1,11 @@
 -- What contracts see of port sets: each set's record, how many were made, and what the ports' attributes say of members.
-use Rattle.std.specs.Prelude.{◌≡◌, ◌≢◌, ℕ, ◌+◌, Option, Some, None, [], refl, true}
+use Rattle.std.specs.Prelude.{◌≡◌, ◌≢◌, ℕ, ◌+◌, Some, None, [], refl, true}
 use Rattle.std.specs.Coded.{Coded, code_by, coded×, coded_ℕ}
 use Rattle.std.specs.FinMap as map
 use Rattle.std.specs.Ordering.{nat_cmp}
-use Rattle.port.specs.Ports.{PortView, PortsView}
+use Rattle.port.specs.Ports.{PortView, PortsView, sets_in, with_sets, without}
+pub use Rattle.port.specs.Ports.{in_set}
+use Rattle.std.specs.List.{Contains}
 use Rattle.port.specs.Turns.{turns_of}
 pub use Rattle.port.specs.Ports.{IsReadyIn as IsReady, NoneReadyIn as NoneReady}
 use Rattle.port_set.specs.declared.SetRecord.{SetRecord}
@@ -37,15 +39,11 @@ abbrev pub removed : SetsView → (set : ℕ) → SetsView
 removed v set = record v { sets = map.remove v.sets set }
 
 module _ {M : Type 0} where
-  -- the port in this set, or in none; its queue and all else of it stay
-  abbrev pub in_set : PortView M → Option ℕ → PortView M
-  in_set p set = record p { attributes = record p.attributes { set = set } }
-
-  -- Each member of the set is in no set now, and none has a turn in it; each other port, the turns in each other set, the counts, the destroyed messages, and the ports lost, doomed and noted, are as they were.
+  -- Each member of the set is in its other sets alone, and none has a turn in it; each other port, the turns in each other set, the counts, the destroyed messages, and the ports lost, doomed and noted, are as they were.
   pub record IsDisbanded (old new : PortsView M) (set : ℕ) : Type 0 where
     pub gone : (port : ℕ) → map.get old.ports port ≡ None → map.get new.ports port ≡ None
-    pub members : (port : ℕ) (p : PortView M) → map.get old.ports port ≡ Some p → p.attributes.set ≡ Some set → map.get new.ports port ≡ Some (in_set p None)
-    pub others : (port : ℕ) (p : PortView M) → map.get old.ports port ≡ Some p → p.attributes.set ≢ Some set → map.get new.ports port ≡ Some p
+    pub members : (port : ℕ) (p : PortView M) → map.get old.ports port ≡ Some p → Contains (sets_in p) set → map.get new.ports port ≡ Some (with_sets p (without set (sets_in p)))
+    pub others : (port : ℕ) (p : PortView M) → map.get old.ports port ≡ Some p → ¬ (Contains (sets_in p) set) → map.get new.ports port ≡ Some p
     pub no_turns : turns_of new.ready set ≡ []
     pub turns : (other : ℕ) → other ≢ set → turns_of new.ready other ≡ turns_of old.ready other
     pub made : new.made ≡ old.made
@@ -54,3 +52,4 @@ module _ {M : Type 0} where
     pub lost : new.lost ≡ old.lost
     pub doomed : new.doomed ≡ old.doomed
     pub noted : new.noted ≡ old.noted
+    pub several : new.several ≡ old.several

@@ -1,7 +1,7 @@
 //! Port sets: whose they are, under which name, and which of their members has a message.
 //!
-//! Which ports are in a set is kept with the ports, each of which is in at most one: a port that
-//! comes, goes or moves takes no memory here. Identities are given from 0 and never again: one whose
+//! Which ports are in a set is kept with the ports: a port that comes, goes or moves takes no memory here.
+//! Membership is a set of pairs of a port and a set. Identities are given from 0 and never again: one whose
 //! set is gone finds nothing.
 #![tactic(auto)]
 
@@ -125,15 +125,14 @@ impl Sets {
     }
 }
 
-/// Puts a port into a set, out of the one that it was in, or into none (Port Manipulation Interface,
-/// `mach_port_move_member`). Takes no memory. Constant time.
+/// Puts a port into a set, out of all that it was in, or into none (Port Manipulation Interface,
+/// `mach_port_move_member`). In a set that it is in it keeps its turn. Takes no memory. Constant time, and
+/// linear in the sets that it leaves.
 pub fn move_member<M: Message>(ports: &mut Ports<M>, member: PortId, set: Option<SetId>)
     requires { IsLive ports.old member }
     ensures { (p : PortView M) → map.get ports.old.ports member ≡ Some p → ports.new ≡ with_port ports.old member (in_set p set) }
 {
-    let mut attributes = ports.attributes(member).unwrap();
-    attributes.set = set;
-    ports.set_attributes(member, attributes);
+    ports.move_to(member, set);
 }
 
 /// The member of the set that has a message and whose turn it is, if there is one (IPC Interface,
@@ -146,12 +145,10 @@ pub fn ready_member<M: Message>(ports: &Ports<M>, set: SetId) -> Option<PortId>
     ports.first_ready(set)
 }
 
-/// Takes all members out of a set, so that they are in none (Port Manipulation Interface,
-/// `mach_port_destroy`). Takes no memory. Linear in the set's members.
+/// Takes all members out of a set; each stays in its other sets, in its turns there (Port Manipulation
+/// Interface, `mach_port_destroy`). Takes no memory. Linear in the set's members.
 pub fn disband<M: Message>(ports: &mut Ports<M>, set: SetId)
     ensures { IsDisbanded ports.old ports.new set }
 {
-    while let Some(port) = ports.first_member(set) {
-        move_member(ports, port, None);
-    }
+    while ports.leave_front(set).is_some() {}
 }

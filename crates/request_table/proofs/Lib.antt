@@ -4,3 +4,4 @@ pub mod Names
 pub mod Came
 pub mod Went
 pub mod Found
+pub mod Emptied

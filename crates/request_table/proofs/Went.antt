@@ -1,5 +1,5 @@
 -- Requests once one went.
-use Rattle.std.proofs.Common.{◌≡◌, ◌≢◌, inl, inr, ℕ, zero, suc, ◌+◌, ◌-◌, ◌*◌, ◌^◌, ◌<◌, ◌≤◌, eqb, Some, None, List, [], ◌∷◌, ◌++◌, length, slice_get, refl, ap, sym, subst, ◌∙◌, arith, Contains}
+use Rattle.std.proofs.Common.{◌≡◌, ◌≢◌, inl, inr, ℕ, zero, suc, ◌+◌, ◌-◌, ◌<◌, ◌≤◌, eqb, Some, None, List, [], ◌∷◌, ◌++◌, length, slice_get, refl, ap, sym, subst, ◌∙◌, arith, Contains}
 use Rattle.std.specs.Prelude.{unwrap_or}
 use Rattle.std.specs.FinMap as map
 use Rattle.std.specs.Ordering.{nat_cmp}
@@ -8,15 +8,15 @@ use Rattle.number_map.specs.Maps.{MapView}
 use Rattle.member_lists.specs.Lists.{ListsView, list_of, with_list, without}
 use Rattle.member_lists.specs.Chains.{times}
 use Rattle.member_lists.proofs.Times.{same_some, equal_or_not, Contains_from_times, eqb_same, eqb_other}
-use Rattle.member_lists.proofs.Sound.{put_here, put_other, out_here, out_other}
+use Rattle.member_lists.proofs.Sound.{out_here, out_other}
 use Rattle.member_lists.proofs.Listed.{list_same, list_other, items_same}
 use Rattle.request_table.specs.declared.Request.{Request}
 use Rattle.request_table.specs.declared.Entry.{Entry}
 use Rattle.request_table.specs.Requests.{RequestsView, with_names, without_request}
 use Rattle.request_table.specs.Kept.{requests_of, key_at, names_at, IsPlaced, IsHeld, IsKept}
-use Rattle.request_table.proofs.Moved.{len_set, len_out, left_in, left_other, left_none, times_pushed_here, times_pushed_other}
+use Rattle.request_table.proofs.Moved.{len_out, left_in, left_other, left_none, times_pushed_here, times_pushed_other}
 use Rattle.request_table.proofs.Names.{keys_at, keys-without, names-list, names-with_list}
-use Rattle.request_table.proofs.Came.{Entries, shown, requests-put, requests-out}
+use Rattle.request_table.proofs.Came.{Entries, shown, requests-out}
 
 not_none : {A : Type 0} (x : A) → None ≡ Some x → ⊥
 not_none x e = cc

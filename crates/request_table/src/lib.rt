@@ -8,6 +8,8 @@
 //! another yet.
 #![tactic(auto)]
 
+mod tables;
+
 ghost use Rattle.std.specs.Prelude.{◌≡◌, ℕ, ◌+◌, ◌<◌, ◌≤◌, ◌^◌, ◌↔◌, ◌∷◌, [], max, length, Some, None, IsOk, IfSome, IfNone, IsTrue, OnOk, OnErr, slice_get};
 ghost use Rattle.std.specs.Option.{option_and_then};
 ghost use Rattle.std.specs.FinMap as map;
@@ -22,6 +24,7 @@ use number_map::NumberMap;
 use std::alloc::{AllocError, Global};
 use std::collections::VecDeque;
 use std::marker::Model;
+pub use tables::RequestTables;
 
 /// A request: once the port that a name stands for is dead, its task is told.
 #[derive(Clone, Copy, Debug, PartialEq, Eq)]

@@ -10,3 +10,5 @@ pub mod Walk
 pub mod Promoted
 pub mod Marking
 pub mod Leaving
+pub mod Alone
+pub mod Telling

@@ -28,11 +28,11 @@ from_here (x ∷ front) k back once =
       | inr d ↦ ap (λ b. cond b (suc (length (front ++ k ∷ back))) (from (front ++ k ∷ back) k)) (eqb_other x k d) ∙ from_here front k back (omega arith)
     ]
 
-got_at : (front : List ℕ) (k : ℕ) (back : List ℕ) → slice_get (front ++ k ∷ back) (length front) ≡ Some k
+pub got_at : (front : List ℕ) (k : ℕ) (back : List ℕ) → slice_get (front ++ k ∷ back) (length front) ≡ Some k
 got_at [] k back = refl
 got_at (x ∷ front) k back = got_at front k back
 
-got_next : (front : List ℕ) (k : ℕ) (back : List ℕ) → slice_get (front ++ k ∷ back) (length front + 1) ≡ slice_get back 0
+pub got_next : (front : List ℕ) (k : ℕ) (back : List ℕ) → slice_get (front ++ k ∷ back) (length front + 1) ≡ slice_get back 0
 got_next front k back = ap (slice_get (front ++ k ∷ back)) (let e : length front + 1 ≡ suc (length front) = omega arith in e) ∙ by front
   where
     by : (front : List ℕ) → slice_get (front ++ k ∷ back) (suc (length front)) ≡ slice_get back 0

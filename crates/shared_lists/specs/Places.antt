@@ -1,5 +1,5 @@
 -- How lists with shared items are kept: by places, which are the items of other lists. No public clause cites this module.
-use Rattle.std.specs.Prelude.{◌≡◌, ℕ, max, ◌-◌, ◌*◌, ◌/◌, ◌%◌, ◌^◌, ◌<◌, ◌≤◌, Bool, true, false, cond, eqb, leb, List, Option, Some, None, map as map_list}
+use Rattle.std.specs.Prelude.{◌≡◌, ℕ, max, ◌-◌, ◌*◌, ◌/◌, ◌%◌, ◌^◌, ◌<◌, ◌≤◌, Bool, true, false, cond, eqb, leb, List, [], ◌∷◌, Option, Some, None, IsSome, map as map_list}
 use Rattle.std.specs.Option.{option_map_or}
 use Rattle.std.specs.List.{Contains}
 use Rattle.std.specs.FinMap as finite
@@ -24,6 +24,11 @@ list_in o = option_map_or (λ (f : Further). f.list) o 0
 abbrev pub item_at : Bool → Slab Further → ℕ → ℕ
 item_at false s place = place
 item_at true s place = cond (eqb (place % 2) 0) (place / 2) (item_in (get s (place / 2)))
+
+-- these numbers from this one on
+abbrev pub from_key : ℕ → List ℕ → List ℕ
+from_key key [] = []
+from_key key (k ∷ keys) = cond (eqb key k) (k ∷ keys) (from_key key keys)
 
 -- the list of a further place
 abbrev pub list_at : Slab Further → ℕ → ℕ
@@ -82,6 +87,19 @@ seen several p s keys fits = record {
   room = room_in s fits;
   several = several;
 }
+
+-- ---- a walk over the further lists of an item
+
+-- the lists of the places with these numbers, from this one on
+abbrev pub lists_from : Slab Further → (keys : List ℕ) → (next : Option ℕ) → List ℕ
+lists_from s keys None = []
+lists_from s keys (Some key) = map_list (list_at s) (from_key key keys)
+
+-- it stands at one of the item's further places, or at none
+pub record IsWalk (s : Slab Further) (keys : ListsView) (item : ℕ) (next : Option ℕ) : Type 0 where
+  pub there : (k : ℕ) → Contains (list_of keys item) k → IsSome (get s k)
+  pub single : (k : ℕ) → times k (list_of keys item) ≤ 1
+  pub at : (k : ℕ) → next ≡ Some k → Contains (list_of keys item) k
 
 -- there is room for so many places, and for so many keys; if not, all lists are as before
 pub record AreLonger (p q : MarkedView) (keys keys' : ListsView) (most : ℕ) : Type 0 where

@@ -105,20 +105,9 @@ fn find(keys: &Lists, further: &Slab<Further>, item: usize, list: u64) -> Option
         if further[key].list == list {
             return Some(key);
         }
-        next = keys.after(item as u64, key);
+        next = keys.behind(item as u64, key);
     }
     None
-}
-
-// The further place of an item with this index, from 0 on, by its number.
-fn nth(keys: &Lists, item: usize, index: usize) -> Option<usize>
-    ensures { result ≡ slice_get (list_of keys.now item) index }
-{
-    let mut key = keys.first(item as u64)?;
-    for _step in 0..index {
-        key = keys.after(item as u64, key)?;
-    }
-    Some(key)
 }
 
 // Puts the further places of an item at the end of the marked ones of their lists.
@@ -134,7 +123,7 @@ fn mark_each(places: &mut MarkedLists, keys: &Lists, further: &Slab<Further>, it
     while let Some(key) = next {
         let list = further[key].list;
         places.mark(list, further_place(key));
-        next = keys.after(item as u64, key);
+        next = keys.behind(item as u64, key);
     }
 }
 
@@ -150,7 +139,7 @@ fn unmark_each(places: &mut MarkedLists, keys: &Lists, further: &Slab<Further>, 
     while let Some(key) = next {
         let list = further[key].list;
         places.unmark(list, further_place(key));
-        next = keys.after(item as u64, key);
+        next = keys.behind(item as u64, key);
     }
 }
 
@@ -262,14 +251,19 @@ impl SharedLists {
     /// Makes room for one further list of an item, and perhaps for more items. No other call takes memory
     /// for a list. Constant time, but where what is kept moves to a larger place.
     ///
-    /// An error means that memory was refused, or that the further lists are 2^31 or more; there may be room
-    /// for more items then, and all else is as before. It never comes where there is room already.
+    /// An error means that memory was refused, that the further lists are 2^31 or more, or that no item may be in
+    /// several lists; there may be room for more items then, and all else is as before. It never comes where an item
+    /// may be in several lists and there is room already.
     pub fn reserve_further(&mut self) -> Result<(), AllocError>
         ensures room { OnOk result (0 < self.new.room) }
-        ensures had_room { 0 < self.old.room → IsOk result }
+        ensures several { OnOk result (self.old.several ≡ true) }
+        ensures had_room { self.old.several ≡ true → 0 < self.old.room → IsOk result }
         ensures items { self.old.all.items ≤ self.new.all.items }
         ensures rest_kept { self.new ≡ roomier self.old self.new.all.items self.new.room }
     {
+        if !self.several {
+            return Err(AllocError);
+        }
         self.further.reserve(1)?;
         let most = self.further.capacity();
         if most > self.fits {
@@ -363,6 +357,42 @@ impl SharedLists {
         Some(own)
     }
 
+    // Takes an item that is the first of one of its further lists out of that list. Constant time.
+    fn leave_front_of(&mut self, list: u64, item: usize, is_ready: bool)
+        requires further { (own : ℕ) × IsFirst self.old own item × (list ≢ own) }
+        requires front { slice_get (list_of self.old.all list) 0 ≡ Some item }
+        requires ready { IsReady self.old item is_ready }
+        ensures after { self.new ≡ without_further (left self.old list item is_ready) list item self.new.room }
+        ensures room { self.old.room ≤ self.new.room }
+    {
+        if let Some(place) = self.places.first(list) {
+            part(&mut self.places, list, place, is_ready);
+            let key = place / 2;
+            self.keys.remove(item as u64, key);
+            self.further.remove(key);
+        }
+    }
+
+    /// Takes an item that is the first of a list out of that list, and returns the first of its lists then, as
+    /// [`SharedLists::leave`] does. `own` is the first of its lists before. Takes no memory; constant time.
+    pub fn leave_front(&mut self, own: u64, list: u64, item: usize, is_ready: bool) -> Option<u64>
+        requires first { IsFirst self.old own item }
+        requires front { slice_get (list_of self.old.all list) 0 ≡ Some item }
+        requires ready { IsReady self.old item is_ready }
+        ensures lists { with_first result (more_of self.new item) ≡ without list (own ∷ more_of self.old item) }
+        ensures after { self.new ≡ record (left self.old list item is_ready) { more = self.new.more; room = self.new.room } }
+        ensures others { OthersKeep self.old self.new item }
+        ensures room { self.old.room ≤ self.new.room }
+        ensures first { IfSome result (λ first. IsFirst self.new first item) }
+        ensures apart { IfNone result (IsApart self.new.all item) }
+    {
+        if list == own {
+            return self.leave_first(own, item, is_ready);
+        }
+        self.leave_front_of(list, item, is_ready);
+        Some(own)
+    }
+
     /// Takes an item out of all its lists, of which `own` is the first. Takes no memory; linear in their
     /// number.
     pub fn leave_all(&mut self, own: u64, item: usize, is_ready: bool)
@@ -404,6 +434,45 @@ impl SharedLists {
         unmark_each(&mut self.places, &self.keys, &self.further, item);
     }
 
+    /// Makes an item ready that isn't, and that is in this list alone: it joins the ready ones of the list at
+    /// their end. Takes no memory; constant time.
+    #[inline(always)]
+    pub fn make_ready_alone(&mut self, own: u64, item: usize)
+        requires first { IsFirst self.old own item }
+        requires alone { more_of self.old item ≡ [] }
+        requires unready { IsReady self.old item false }
+        ensures { self.new ≡ record self.old { ready = joined self.old.ready own item } }
+    {
+        let place = own_place(self.several, item);
+        self.places.mark(own, place);
+    }
+
+    /// Makes a ready item unready that is in this list alone: it leaves the ready ones of the list. Takes no
+    /// memory; constant time.
+    #[inline(always)]
+    pub fn make_unready_alone(&mut self, own: u64, item: usize)
+        requires first { IsFirst self.old own item }
+        requires alone { more_of self.old item ≡ [] }
+        requires ready { IsReady self.old item true }
+        ensures { self.new ≡ record self.old { ready = parted self.old.ready own item } }
+    {
+        let place = own_place(self.several, item);
+        self.places.unmark(own, place);
+    }
+
+    /// Takes an item out of this list, where it is in no other. Takes no memory; constant time.
+    #[inline(always)]
+    pub fn leave_alone(&mut self, own: u64, item: usize, is_ready: bool)
+        requires first { IsFirst self.old own item }
+        requires alone { more_of self.old item ≡ [] }
+        requires ready { IsReady self.old item is_ready }
+        ensures after { self.new ≡ left self.old own item is_ready }
+        ensures apart { IsApart self.new.all item }
+    {
+        let place = own_place(self.several, item);
+        part(&mut self.places, own, place, is_ready);
+    }
+
     /// The ready item of a list whose turn it is. Constant time.
     pub fn first_ready(&self, list: u64) -> Option<usize>
         ensures { result ≡ slice_get (list_of self.now.ready list) 0 }
@@ -412,17 +481,15 @@ impl SharedLists {
         Some(item_at(self.several, &self.further, place))
     }
 
-    /// Puts the ready item of a list whose turn it is behind the other ready ones of this list, and returns
-    /// it. Takes no memory; constant time.
-    pub fn pass_turn(&mut self, list: u64) -> Option<usize>
-        ensures result { result ≡ slice_get (list_of self.old.ready list) 0 }
-        ensures none { IfNone result (self.new ≡ self.old) }
-        ensures some { IfSome result (λ item. self.new ≡ record self.old { ready = joined (parted self.old.ready list item) list item }) }
+    /// Puts the ready item of a list whose turn it is, if there is one, behind the other ready ones of this
+    /// list. Takes no memory; constant time.
+    #[inline(always)]
+    pub fn pass_turn(&mut self, list: u64)
+        requires some { list_of self.old.all list ≢ [] }
+        ensures none { slice_get (list_of self.old.ready list) 0 ≡ None → self.new ≡ self.old }
+        ensures some { (item : ℕ) → slice_get (list_of self.old.ready list) 0 ≡ Some item → self.new ≡ record self.old { ready = joined (parted self.old.ready list item) list item } }
     {
-        let place = self.places.first_marked(list)?;
-        self.places.unmark(list, place);
-        self.places.mark(list, place);
-        Some(item_at(self.several, &self.further, place))
+        self.places.pass_mark(list);
     }
 
     /// The first item of a list. Constant time.
@@ -441,12 +508,24 @@ impl SharedLists {
         find(&self.keys, &self.further, item, list).is_some()
     }
 
-    /// One of an item's further lists: the one of this index, from 0 on, in the order in which the item
-    /// entered them. Linear in the index.
-    pub fn further_list(&self, item: usize, index: usize) -> Option<u64>
-        ensures { result ≡ slice_get (more_of self.now item) index }
+    /// An item's further lists, in the order in which it entered them. Constant time.
+    pub fn further_lists(&self, item: usize) -> FurtherLists<'_>
+        ensures { result ≡ more_of self.now item }
     {
-        let key = nth(&self.keys, item, index)?;
+        FurtherLists {
+            keys: &self.keys,
+            further: &self.further,
+            item: item as u64,
+            next: self.keys.first(item as u64),
+        }
+    }
+
+    /// The first of an item's further lists, if it has any. Constant time.
+    pub fn first_further(&self, item: usize) -> Option<u64>
+        ensures is { result ≡ slice_get (more_of self.now item) 0 }
+        ensures once { IfSome result (λ list. list ∷ without list (more_of self.now item) ≡ more_of self.now item) }
+    {
+        let key = self.keys.first(item as u64)?;
         Some(self.further[key].list)
     }
 
@@ -458,5 +537,42 @@ impl SharedLists {
     {
         let places = self.places.items(list, alloc)?;
         items_at(self.several, &self.further, &places, alloc)
+    }
+}
+
+/// Those of an item's further lists that are yet to be told, in the order in which it entered them.
+#[derive(Drop)]
+pub struct FurtherLists<'a> {
+    keys: &'a Lists,
+    further: &'a Slab<Further>,
+    item: u64,
+    // The number of the further place of the next one.
+    next: Option<usize>,
+}
+
+impl<'a> Model for FurtherLists<'a> {
+    ghost use Rattle.std.specs.Prelude.{ℕ, List};
+    ghost use Rattle.std.specs.Coded.{coded_list, coded_ℕ};
+    ghost use Rattle.member_lists.specs.Lists.{list_of};
+    ghost use Rattle.shared_lists.specs.Places.{lists_from, IsWalk};
+
+    ghost Value = { List ℕ };
+
+    ghost coded = { coded_list coded_ℕ };
+
+    ghost view = { λ a. lists_from a.further.now (list_of a.keys.now a.item) a.next };
+
+    ghost invariant = { λ a. IsWalk a.further.now a.keys.now a.item a.next };
+}
+
+impl<'a> FurtherLists<'a> {
+    /// The next of them, if there is one. Constant time.
+    pub fn next_list(&mut self) -> Option<u64>
+        ensures some { IfSome result (λ list. self.old ≡ list ∷ self.new) }
+        ensures none { IfNone result ((self.old ≡ []) × (self.new ≡ [])) }
+    {
+        let key = self.next?;
+        self.next = self.keys.behind(self.item, key);
+        Some(self.further[key].list)
     }
 }

@@ -1,8 +1,7 @@
 -- Entries that are confirmed one after another.
-use Rattle.std.proofs.Common.{◌≡◌, ◌≢◌, ℕ, ◌+◌, ◌<◌, List, [], ◌∷◌, ◌++◌, All, Option, Some, None, flat_map, inl, refl, sym, ap, ◌∙◌, subst, arith, append_assoc, length, take, drop, get_or}
+use Rattle.std.proofs.Common.{◌≡◌, ℕ, ◌+◌, ◌<◌, List, [], ◌∷◌, ◌++◌, All, Option, Some, None, flat_map, inl, refl, sym, ap, ◌∙◌, subst, arith, append_assoc, length, take, drop, get_or}
 use Rattle.std.proofs.lemmas.List.{take_more, take-append-drop, length-take-le}
 use Rattle.mach_types.specs.declared.profiles.Profile.{Profile}
-use Rattle.mach_types.specs.declared.profiles.Profile.TheVariants.{Three}
 use Rattle.mach_types.specs.declared.calls.Event.{Event}
 use Rattle.mach_types.specs.declared.calls.Reply.{Reply}
 use Rattle.mach_model.specs.State.{State, opening_in}
@@ -154,6 +153,6 @@ no-bad-entry : (profile : Profile) (entries : List Entry) (text : List ℕ) (n :
 no-bad-entry profile entries text n fit same bad =
     next_line bad.entries entries bad.rest bad.fit fit (behind bad.profile profile _ _ (sym (append_assoc (heading bad.profile) (flat_map entry_line bad.entries) bad.rest) ∙ bad.parts ∙ sym same)).1 (λ none. some_left bad.rest none bad.some) bad.bad
 
-pub no-bad-line : (profile : Profile) (entries : List Entry) (text : List ℕ) (n : ℕ) → profile ≢ Three → All FitsLine entries → history_text profile entries ≡ text → IsFirstBadLine text n → ⊥
-no-bad-line profile entries text n had fit same (IsFirstBadLine.no_heading first none) = none profile (flat_map entry_line entries) had same
-no-bad-line profile entries text n had fit same (IsFirstBadLine.no_entry bad) = no-bad-entry profile entries text n fit same bad
+pub no-bad-line : (profile : Profile) (entries : List Entry) (text : List ℕ) (n : ℕ) → All FitsLine entries → history_text profile entries ≡ text → IsFirstBadLine text n → ⊥
+no-bad-line profile entries text n fit same (IsFirstBadLine.no_heading first none) = none profile (flat_map entry_line entries) same
+no-bad-line profile entries text n fit same (IsFirstBadLine.no_entry bad) = no-bad-entry profile entries text n fit same bad

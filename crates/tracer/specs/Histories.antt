@@ -44,9 +44,9 @@ pub record FitsLine (e : Entry) : Type 0 where
   pub reply : FitsReply e.reply
   pub recorded : e.reply ≢ Reply.NoRecord
 
--- no history of a profile that a kernel can have stands at its beginning, not even one without entries
+-- no history of any profile stands at its beginning, not even one without entries
 abbrev pub HasNoHeading : List ℕ → Type 0
-HasNoHeading text = (profile : Profile) (rest : List ℕ) → profile ≢ Three → heading profile ++ rest ≢ text
+HasNoHeading text = (profile : Profile) (rest : List ℕ) → heading profile ++ rest ≢ text
 
 -- no entry's line stands at its beginning
 abbrev pub StartsNoEntry : List ℕ → Type 0
@@ -55,7 +55,6 @@ StartsNoEntry text = (e : Entry) (rest : List ℕ) → FitsLine e → entry_line
 -- a history stands before line n, from 1, and there is more behind it, but no entry's line
 pub record HasBadEntry (text : List ℕ) (n : ℕ) : Type 0 where
   pub profile : Profile
-  pub had : profile ≢ Three
   pub entries : List Entry
   pub fit : All FitsLine entries
   pub number : length entries + 2 ≡ n

@@ -1,8 +1,7 @@
 //! Whole histories.
-ghost use Rattle.std.specs.Prelude.{◌≡◌, ◌≢◌, ℕ, List, ◌++◌, ◌↔◌, All, IfOk, IfSome, IfNone, IsOkUnless, IsTrue, OnOk, Err, length, []};
+ghost use Rattle.std.specs.Prelude.{◌≡◌, ℕ, List, ◌++◌, ◌↔◌, All, IfOk, IfSome, IfNone, IsOkUnless, IsTrue, OnOk, Err, length, []};
 ghost use Rattle.std.specs.Io.KnownBytes.{Appends};
 ghost use Rattle.mach_types.specs.declared.profiles.Profile.{Profile as AnyProfile};
-ghost use Rattle.mach_types.specs.declared.profiles.Profile.TheVariants.{Three};
 ghost use Rattle.kernel_lock.specs.declared.entry.Entry.{Entry as AnyEntry};
 ghost use Rattle.tracer.specs.declared.histories.HistoryFault.TheVariants.{Memory};
 ghost use Rattle.tracer.specs.Histories.{heading, entry_line, history_text, FitsLine, HasNoHeading, StartsNoEntry, IsFirstBadLine};
@@ -45,22 +44,17 @@ pub struct History {
 }
 
 impl Model for History {
-    ghost use Rattle.std.specs.Prelude.{◌≢◌};
-    ghost use Rattle.mach_types.specs.declared.profiles.Profile.TheVariants.{Three};
     ghost use Rattle.tracer.specs.Histories.{HistoryView};
 
     ghost Value = { HistoryView };
 
     ghost view = { λ a. record { profile = a.profile; entries = a.entries.items } };
-
-    ghost invariant = { λ a. a.profile ≢ Three };
 }
 
 impl History {
-    /// By which profile it is: never the third, which no kernel has yet.
+    /// By which profile it is.
     pub fn profile(&self) -> Profile
         ensures profile { result ≡ self.now.profile }
-        ensures had { result ≢ Three }
     {
         self.profile
     }
@@ -98,13 +92,12 @@ impl History {
 /// Reads the history that the text is.
 ///
 /// `BadLine` comes at the first line that no history has there, or that ends without its line feed, and only
-/// where there is such a line. For a text without any line, or of a profile that no kernel has, it is
-/// `BadLine(1)`. `Memory` comes where memory is refused. Time and memory grow with the length of the text.
+/// where there is such a line. For a text without any line, or of no profile, it is `BadLine(1)`. `Memory` comes where memory is refused. Time and memory grow with the length of the text.
 pub fn read_history(alloc: Global, text: &[u8]) -> Result<History, HistoryFault>
     ensures fits { IfOk result (λ history. All FitsLine history.entries) }
     ensures ok { IfOk result (λ history. history_text history.profile history.entries ≡ text.now) }
-    ensures each { (profile : AnyProfile) (entries : List AnyEntry) → profile ≢ Three → All FitsLine entries → history_text profile entries ≡ text.now → IsOkUnless result Memory }
-    ensures same { (profile : AnyProfile) (entries : List AnyEntry) → profile ≢ Three → All FitsLine entries → history_text profile entries ≡ text.now
+    ensures each { (profile : AnyProfile) (entries : List AnyEntry) → All FitsLine entries → history_text profile entries ≡ text.now → IsOkUnless result Memory }
+    ensures same { (profile : AnyProfile) (entries : List AnyEntry) → All FitsLine entries → history_text profile entries ≡ text.now
         → IfOk result (λ history. (history.profile ≡ profile) × (history.entries ≡ entries)) }
     ensures bad { (n : ℕ) → result ≡ Err (HistoryFault.BadLine n) → IsFirstBadLine text.now n }
 {
@@ -133,17 +126,19 @@ pub fn heading_line(profile: Profile) -> &'static [u8]
 }
 
 /// Returns the profile that the first line of a history names, and what follows that line. `None` where the
-/// text begins with no such line, or the profile is one that no kernel has.
+/// text begins with no such line.
 pub fn behind_heading(text: &[u8]) -> Option<(Profile, &[u8])>
     ensures some { IfSome result (λ read. heading read.0 ++ read.1.now ≡ text.now) }
-    ensures had { IfSome result (λ read. read.0 ≢ Three) }
     ensures none { IfNone result (HasNoHeading text.now) }
 {
     if let Some(rest) = text.strip_prefix(heading_line(Profile::One)) {
         return Some((Profile::One, rest));
     }
-    let rest = text.strip_prefix(heading_line(Profile::Two))?;
-    Some((Profile::Two, rest))
+    if let Some(rest) = text.strip_prefix(heading_line(Profile::Two)) {
+        return Some((Profile::Two, rest));
+    }
+    let rest = text.strip_prefix(heading_line(Profile::Three))?;
+    Some((Profile::Three, rest))
 }
 
 /// The entry of the first line, which has this number, and what stands behind its line feed.

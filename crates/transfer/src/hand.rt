@@ -2,9 +2,9 @@
 ghost use Rattle.std.specs.Prelude.{◌≡◌, ◌⊎◌, true, IfErr, OnOk, OnErr, MatchBool};
 ghost use Rattle.mach_types.specs.declared.calls.Event.{Event as AnyEvent};
 ghost use Rattle.mach_types.specs.declared.codes.KernReturn.TheVariants as kern;
-ghost use Rattle.mach_types.specs.Codes.{kern_number};
+ghost use Rattle.mach_types.specs.Codes.{kern_number, code_number};
 ghost use Rattle.name_space.specs.Names.{IsUsable};
-ghost use Rattle.copyin_base.specs.Serving.{code_number, Serves};
+ghost use Rattle.copyin_base.specs.Serving.{Serves};
 ghost use Rattle.copyin_base.specs.Stands.{Stands};
 ghost use Rattle.copyin_base.specs.Changes.{KeepsPlace};
 ghost use Rattle.copyin_base.specs.Wanted.{LacksRoomFor, LacksPlace, LacksSlots};
@@ -15,9 +15,9 @@ ghost use Rattle.transfer.specs.Wanted.{WantsToInsert, WantsToExtract};
 
 use crate::judge::{Handed, TaskName, judge_extract, judge_insert};
 use copyin::copy_name;
-use copyin_base::{Carried, Code, Mark, World};
+use copyin_base::{Carried, Mark, World};
 use copyout::{give_right, put_right};
-use mach_types::{KernReturn, Reply, TaskId};
+use mach_types::{Code, KernReturn, Reply, TaskId};
 
 /// Copies a right in from where it is, and puts it under a name of a task (Port Manipulation Interface,
 /// `mach_port_insert_right`). `number` is the disposition's. The tasks live, and may be the same. From

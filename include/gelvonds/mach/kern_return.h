@@ -9,6 +9,7 @@ typedef int kern_return_t;
 #define KERN_INVALID_ARGUMENT 4
 #define KERN_FAILURE 5           /* (servers return it) */
 #define KERN_RESOURCE_SHORTAGE 6 /* out of memory */
+#define KERN_ALREADY_IN_SET 11
 #define KERN_NOT_IN_SET 12
 #define KERN_NAME_EXISTS 13
 #define KERN_INVALID_NAME 15

@@ -26,6 +26,9 @@ kern_return_t mach_port_set_seqno(task_t task, mach_port_name_t name, mach_port_
 kern_return_t mach_port_get_set_status(task_t task, mach_port_name_t name, mach_port_name_array_t *members,
                                        mach_msg_type_number_t *membersCnt);
 kern_return_t mach_port_move_member(task_t task, mach_port_name_t member, mach_port_name_t after);
+/* Of later Machs: a port in several sets. Without GELVONDS_PROFILE=3 they return KERN_INVALID_ARGUMENT. */
+kern_return_t mach_port_insert_member(task_t task, mach_port_name_t name, mach_port_name_t pset);
+kern_return_t mach_port_extract_member(task_t task, mach_port_name_t name, mach_port_name_t pset);
 
 /* notify and *previous are names of the task itself, even where another task asks. */
 kern_return_t mach_port_request_notification(task_t task, mach_port_name_t name, mach_msg_id_t id,

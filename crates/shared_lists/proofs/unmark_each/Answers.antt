@@ -20,15 +20,18 @@ unmark-requires c =
     subst (λ z. Contains (list_of c.loop-next.places.marked c.index.result.now.list) z) (sym c.further_place.ensures)
     (subst (λ l. Contains (list_of c.loop-next.places.marked l) (far c.in-Some.key)) (ap list_in c.index.ensures) (c.loop-next.invariant.left c.in-Some.key (subst (λ ys. Contains ys c.in-Some.key) (sym (rest_of (list_of c.args.keys.now c.args.item) c.in-Some.key c.loop-next.invariant.front c.loop-next.invariant.back (subst (λ n. IsAt (list_of c.args.keys.now c.args.item) n c.loop-next.invariant.front c.loop-next.invariant.back) c.in-Some.is c.loop-next.invariant.at)).back_is) (head_in c.in-Some.key ((rest_of (list_of c.args.keys.now c.args.item) c.in-Some.key c.loop-next.invariant.front c.loop-next.invariant.back (subst (λ n. IsAt (list_of c.args.keys.now c.args.item) n c.loop-next.invariant.front c.loop-next.invariant.back) c.in-Some.is c.loop-next.invariant.at)).rest)))))
 
+pub behind-next-requires : goal.behind-next-requires
+behind-next-requires c = at_inside (list_of c.args.keys.now c.args.item) c.in-Some.key c.loop-next.invariant.front c.loop-next.invariant.back (subst (λ n. IsAt (list_of c.args.keys.now c.args.item) n c.loop-next.invariant.front c.loop-next.invariant.back) c.in-Some.is c.loop-next.invariant.at)
+
 pub loop-next-smaller : goal.loop-next-smaller
-loop-next-smaller c = subst (λ n. left_from (list_of c.args.keys.now c.args.item) c.after-next.result < left_from (list_of c.args.keys.now c.args.item) n) (sym c.in-Some.is) (fewer (list_of c.args.keys.now c.args.item) c.in-Some.key c.loop-next.invariant.front c.loop-next.invariant.back (subst (λ n. IsAt (list_of c.args.keys.now c.args.item) n c.loop-next.invariant.front c.loop-next.invariant.back) c.in-Some.is c.loop-next.invariant.at) c.after-next.result c.after-next.ensures (c.requires.single c.in-Some.key) c.requires.single)
+loop-next-smaller c = subst (λ n. left_from (list_of c.args.keys.now c.args.item) c.behind-next.result < left_from (list_of c.args.keys.now c.args.item) n) (sym c.in-Some.is) (fewer (list_of c.args.keys.now c.args.item) c.in-Some.key c.loop-next.invariant.front c.loop-next.invariant.back (subst (λ n. IsAt (list_of c.args.keys.now c.args.item) n c.loop-next.invariant.front c.loop-next.invariant.back) c.in-Some.is c.loop-next.invariant.at) c.behind-next.result c.behind-next.ensures (c.requires.single c.in-Some.key) c.requires.single)
 
 pub loop-next-preserved : goal.loop-next-preserved
 loop-next-preserved c =
     record {
       front = c.loop-next.invariant.front ++ c.in-Some.key ∷ [];
       back = (rest_of (list_of c.args.keys.now c.args.item) c.in-Some.key c.loop-next.invariant.front c.loop-next.invariant.back (subst (λ n. IsAt (list_of c.args.keys.now c.args.item) n c.loop-next.invariant.front c.loop-next.invariant.back) c.in-Some.is c.loop-next.invariant.at)).rest;
-      at = at_next (list_of c.args.keys.now c.args.item) c.in-Some.key c.loop-next.invariant.front c.loop-next.invariant.back (subst (λ n. IsAt (list_of c.args.keys.now c.args.item) n c.loop-next.invariant.front c.loop-next.invariant.back) c.in-Some.is c.loop-next.invariant.at) c.after-next.result c.after-next.ensures;
+      at = at_next (list_of c.args.keys.now c.args.item) c.in-Some.key c.loop-next.invariant.front c.loop-next.invariant.back (subst (λ n. IsAt (list_of c.args.keys.now c.args.item) n c.loop-next.invariant.front c.loop-next.invariant.back) c.in-Some.is c.loop-next.invariant.at) c.behind-next.result c.behind-next.ensures;
       marked =
           ap (λ (w : MarkedView). parted_far w.marked c.args.further.now ((rest_of (list_of c.args.keys.now c.args.item) c.in-Some.key c.loop-next.invariant.front c.loop-next.invariant.back (subst (λ n. IsAt (list_of c.args.keys.now c.args.item) n c.loop-next.invariant.front c.loop-next.invariant.back) c.in-Some.is c.loop-next.invariant.at)).rest)) c.unmark.ensures
           ∙ ap (λ z. parted_far (parted c.loop-next.places.marked c.index.result.now.list z) c.args.further.now ((rest_of (list_of c.args.keys.now c.args.item) c.in-Some.key c.loop-next.invariant.front c.loop-next.invariant.back (subst (λ n. IsAt (list_of c.args.keys.now c.args.item) n c.loop-next.invariant.front c.loop-next.invariant.back) c.in-Some.is c.loop-next.invariant.at)).rest)) c.further_place.ensures

@@ -8,7 +8,7 @@ use Rattle.destroy.proofs.paying.lives.Goals.{in-Doomed, in_default}
 use Rattle.destroy.proofs.paying.lives.Goals as goal
 
 found : (c : goal.Joined-matches) → option_map (λ (v : PortView Kept). v.attributes) (port_at c.args.world.now c.args.port) ≡ Some c.in-Some.attributes
-found c = sym c.find_attributes.ensures ∙ c.in-Some.is
+found c = sym c.find_attributes.ensures.is ∙ c.in-Some.is
 
 pub returns-after-matches : goal.returns-after-matches
 returns-after-matches c = elim c.match-matches.branch [

@@ -12,7 +12,7 @@ returns-in-Err-NotConfirmed c =
       record {
         profile = history.profile;
         entries = history.entries;
-        history = record { had = search rules; fit = c.in-Ok.ensures.fits; text_is = c.in-Ok.ensures.ok };
+        history = record { fit = c.in-Ok.ensures.fits; text_is = c.in-Ok.ensures.ok };
         unconfirmed = subst (λ (n : ℕ). IsUnconfirmed history.profile history.entries n) (sym told.number) found;
       },
     ))

@@ -2,8 +2,8 @@ use Rattle.std.proofs.Common.{sym, subst, ap, ◌∙◌, Result, Err}
 use Rattle.std.proofs.lemmas.Result.{err_from_is_err_and}
 use Rattle.mach_types.specs.declared.calls.Reply.{Reply}
 use Rattle.mach_types.specs.Codes.{kern_number}
-use Rattle.copyin_base.specs.declared.code.Code.{Code}
-use Rattle.copyin_base.specs.declared.code.Code.TheVariants.{Kern}
+use Rattle.mach_types.specs.declared.codes.Code.{Code}
+use Rattle.mach_types.specs.declared.codes.Code.TheVariants.{Kern}
 use Rattle.copyin_base.specs.Serving.{Declines}
 use Rattle.kernel_core.specs.Wanted.{Performs}
 use Rattle.kernel_core.proofs.Keeping.{no_task}

@@ -53,6 +53,12 @@ returns-in-SetStatus-clause-performs c = rw c.in-SetStatus.is (carried _ _ _ _ c
 pub returns-in-MoveMember-clause-performs : goal.returns-in-MoveMember-clause-performs
 returns-in-MoveMember-clause-performs c = rw c.in-MoveMember.is (carried _ _ _ _ c.put_in_set.ensures.serves (takes_none _ _ _ c.requires.stands tt _ c.put_in_set.ensures.serves) c.put_in_set.ensures.spares tt (λ reply. refl) tt)
 
+pub returns-in-InsertMember-clause-performs : goal.returns-in-InsertMember-clause-performs
+returns-in-InsertMember-clause-performs c = rw c.in-InsertMember.is (carried _ _ _ _ c.enter_set.ensures.serves c.enter_set.ensures.wanted c.enter_set.ensures.spares tt (λ reply. refl) tt)
+
+pub returns-in-ExtractMember-clause-performs : goal.returns-in-ExtractMember-clause-performs
+returns-in-ExtractMember-clause-performs c = rw c.in-ExtractMember.is (carried _ _ _ _ c.leave_set.ensures.serves (takes_none _ _ _ c.requires.stands tt _ c.leave_set.ensures.serves) c.leave_set.ensures.spares tt (λ reply. refl) tt)
+
 pub returns-in-SetQlimit-clause-performs : goal.returns-in-SetQlimit-clause-performs
 returns-in-SetQlimit-clause-performs c = rw c.in-SetQlimit.is (carried _ _ _ _ c.set_qlimit.ensures.serves (takes_none _ _ _ c.requires.stands tt _ c.set_qlimit.ensures.serves) c.set_qlimit.ensures.spares tt (λ reply. refl) tt)
 
@@ -133,6 +139,12 @@ returns-in-SetStatus-clause-tells c = rw c.in-SetStatus.is (on_ok _ (λ reply. c
 
 pub returns-in-MoveMember-clause-tells : goal.returns-in-MoveMember-clause-tells
 returns-in-MoveMember-clause-tells c = rw c.in-MoveMember.is c.put_in_set.ensures.tells
+
+pub returns-in-InsertMember-clause-tells : goal.returns-in-InsertMember-clause-tells
+returns-in-InsertMember-clause-tells c = rw c.in-InsertMember.is c.enter_set.ensures.tells
+
+pub returns-in-ExtractMember-clause-tells : goal.returns-in-ExtractMember-clause-tells
+returns-in-ExtractMember-clause-tells c = rw c.in-ExtractMember.is c.leave_set.ensures.tells
 
 pub returns-in-SetQlimit-clause-tells : goal.returns-in-SetQlimit-clause-tells
 returns-in-SetQlimit-clause-tells c = rw c.in-SetQlimit.is (on_ok _ (λ reply. refl))

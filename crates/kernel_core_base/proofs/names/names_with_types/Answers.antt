@@ -2,7 +2,7 @@ use Rattle.std.proofs.Common.{◌≡◌, List, ℕ, [], ◌∷◌, refl, sym, ap
 use Rattle.std.specs.FinMap as map
 use Rattle.name_space.specs.declared.Entry.{Entry}
 use Rattle.name_space.specs.Names.{Names}
-use Rattle.copyin_base.specs.Requests.{RequestTablesView}
+use Rattle.request_table.specs.Tables.{RequestTablesView}
 use Rattle.kernel_core_base.specs.Names.{type_found, types_of}
 use Rattle.kernel_core_base.proofs.names.names_with_types.Goals as goal
 

@@ -1,8 +1,13 @@
-use Rattle.std.proofs.Common.{◌++◌, ◌∷◌, [], List, ℕ, ap, sym, subst, ◌∙◌, take}
+use Rattle.std.proofs.Common.{Contains, ◌++◌, ◌∷◌, [], List, ℕ, ap, sym, subst, ◌∙◌, take}
 use Rattle.std.proofs.lemmas.List.{take_more}
+use Rattle.std.proofs.lemmas.List.Elements.{Contains-get_or}
 use Rattle.kernel_core_base.specs.Gathered.{AreGathered}
 use Rattle.kernel_core_base.proofs.Gathering.{gathered_more}
 use Rattle.kernel_core_base.proofs.sets.gather.Goals as goal
+
+pub member_name-requires : goal.member_name-requires
+member_name-requires c =
+    c.requires c.port-item.result (subst (λ (p : ℕ). Contains c.args.ports.now p) (sym c.port-item.is) (Contains-get_or c.args.ports.now c.loop-port.port-index c.port-item.result c.loop-port-test.true))
 
 pub loop-port-preserved : goal.loop-port-preserved
 loop-port-preserved c =

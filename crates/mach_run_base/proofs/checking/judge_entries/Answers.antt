@@ -11,14 +11,14 @@ loop-number-init g c = ([], All-nil FitsLine, refl, λ whole profile begins. beg
 
 pub returns-then-branch-eq0 : goal.returns-then-branch-eq0
 returns-then-branch-eq0 g c =
-    λ whole profile had seen begins.
+    λ whole profile seen begins.
     let inv = c.loop-number.invariant in
     let count : length inv.0 ≡ c.loop-number.number - 1 = (let number = inv.2 in omega (arith, number)) in
-    c.verdict.ensures _ profile inv.0 (text-read profile _ _ inv.0 had inv.1 (inv.3 whole profile begins) (c.in_ok-next_line.ensures.end c.if-branch-eq0.true)) count (inv.4 profile seen)
+    c.verdict.ensures _ profile inv.0 (text-read profile _ _ inv.0 inv.1 (inv.3 whole profile begins) (c.in_ok-next_line.ensures.end c.if-branch-eq0.true)) count (inv.4 profile seen)
 
 pub returns-in-Err-Bad : goal.returns-in-Err-Bad
 returns-in-Err-Bad g c =
-    λ whole profile had seen begins.
+    λ whole profile seen begins.
     let inv = c.loop-number.invariant in
     let line = c.next_line.new.line.items in
     let n = c.loop-number.number + 1 in
@@ -26,7 +26,7 @@ returns-in-Err-Bad g c =
     let bad : StartsNoEntry line = subst StartsNoEntry c.as_slice.ensures.value (c.first_line.ensures.bad told) in
     let some : 0 < length line = search rules in
     let number : length inv.0 + 2 ≡ n = (let before = inv.2 in omega (arith, before)) in
-    told-bad c.bad_line.result _ n c.bad_line.ensures (bad-entry profile _ _ inv.0 line n had inv.1 (inv.3 whole profile begins) c.in_ok-next_line.ensures.taken bad some number)
+    told-bad c.bad_line.result _ n c.bad_line.ensures (bad-entry profile _ _ inv.0 line n inv.1 (inv.3 whole profile begins) c.in_ok-next_line.ensures.taken bad some number)
 
 pub loop-number-preserved : goal.loop-number-preserved
 loop-number-preserved g c =

@@ -13,4 +13,4 @@ returns g c =
     let profile = c.in-Some.profile in
     let line = c.next_line.new.line.items in
     let read = c.in_ok-next_line.ensures in
-    c.judge_entries.ensures _ profile c.in-Some.ensures.had c.new-judge.ensures (heading-read profile _ _ line _ read.taken read.left (c.in-Some.ensures.some ∙ c.as_slice.ensures.value))
+    c.judge_entries.ensures _ profile c.new-judge.ensures (heading-read profile _ _ line _ read.taken read.left (c.in-Some.ensures.some ∙ c.as_slice.ensures.value))

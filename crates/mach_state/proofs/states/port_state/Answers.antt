@@ -29,6 +29,7 @@ returns c s shown =
       make_send = refl;
       sequence = refl;
       set = refl;
+      none = c.find_attributes.ensures.none seen.0 seen.1;
       send_rights = search rules;
       once_rights = search rules;
       for_no_senders = search rules;

@@ -1,100 +1,75 @@
-use Rattle.std.proofs.Common.{◌≡◌, ℕ, Option, Some, None, is_some, ap, sym, subst, ◌∙◌, refl, List, ◌∷◌, length, drop, slice_get, arith}
+use Rattle.std.proofs.Common.{◌≡◌, ◌+◌, Option, Some, is_some, ap, sym, ◌∙◌, refl, List, length, drop, slice_get, arith}
 use Rattle.std.proofs.lemmas.Bool.{eqb-true}
-use Rattle.std.specs.FinMap as map
 use Rattle.std.specs.Option.{option_and_then}
-use Rattle.slab.specs.Slab.{Slab, get, with_value}
-use Rattle.port_base.specs.declared.Attributes.{Attributes}
+use Rattle.std.specs.FinMap as map
 use Rattle.port_base.specs.declared.Record.{Record}
+use Rattle.shared_lists.specs.Shared.{more_of}
 use Rattle.port_base.specs.Attributes.{one_received}
-use Rattle.port.specs.Ports.{PortView, PortsView, turned}
-use Rattle.port_base.specs.Records.{ready_set, lost_list, doomed_list, noted_list, member_set, waiting_list, noting_list}
-use Rattle.port.specs.Records.{ports_of, turns_at, made_of, IsReadied, IsMembered, IsSound, ids_in, IsAwaited, IsNoted}
-use Rattle.port_base.specs.Ready.{IsMoved}
-use Rattle.port.proofs.Readied.{listed-set, listed-stays}
-use Rattle.port.proofs.Records.{port_of}
-use Rattle.port.proofs.Sound.{record_at, live_port, gone_port, is_port, sound-set, view-set, no_front}
-use Rattle.port.proofs.Waiting.{stay-same}
-use Rattle.port.proofs.Turned.{turned-taken}
+use Rattle.port.specs.Ports.{PortView, PortsView}
+use Rattle.port.proofs.Keys.{same_some}
+use Rattle.port.proofs.Messages.{kept-taken, view-taken, left_ready, some_length}
+use Rattle.port.proofs.Sound.{opened, record_at, live_port, gone_port, is_port, no_front}
 use Rattle.port.proofs.Ports.take.Goals as goal
 
 pub returns-in_err-key-clause-front : goal.returns-in_err-key-clause-front
 returns-in_err-key-clause-front g c =
-    let none : map.get c.self.inside.by_id.map c.args.port ≡ None = sym (c.in_err-key.ensures) in
+    let o = opened c.self.invariant c.self.view_is in
     let front : PortView g.row.M.Denot → Option g.row.M.Denot = λ p. slice_get p.queue 0 in
-    c.from_residual.ensures ∙ ap (option_and_then front) (sym (gone_port c.self.inside.records c.self.inside.by_id.map c.self.inside.next c.self.inside.spare c.self.inside.destroyed c.self.inside.slots c.self.invariant.sound c.args.self.now c.self.view_is c.args.port none))
+    c.from_residual.ensures ∙ ap (option_and_then front) (sym (gone_port o c.args.port (sym c.in_err-key.ensures)))
 
 pub index-requires : goal.index-requires
 index-requires g c =
-    let found : map.get c.self.inside.by_id.map c.args.port ≡ Some c.in_ok-key.key = sym (c.in_ok-key.ensures) in
-    ap is_some (record_at c.self.inside.records c.self.inside.by_id.map c.self.inside.next c.self.inside.spare c.self.inside.destroyed c.self.inside.slots c.self.invariant.sound c.args.self.now c.self.view_is c.args.port c.in_ok-key.key found).1
+    let o = opened c.self.invariant c.self.view_is in
+    let found : map.get c.self.inside.by_id.map c.args.port ≡ Some c.in_ok-key.key = sym c.in_ok-key.ensures in
+    let there = record_at o c.args.port c.in_ok-key.key found in
+    let r : Record g.row.M.Denot = there.0 in
+    ap is_some there.1
 
 pub returns-then-is_empty-clause-front : goal.returns-then-is_empty-clause-front
 returns-then-is_empty-clause-front g c =
-    let found : map.get c.self.inside.by_id.map c.args.port ≡ Some c.in_ok-key.key = sym (c.in_ok-key.ensures) in
+    let o = opened c.self.invariant c.self.view_is in
+    let found : map.get c.self.inside.by_id.map c.args.port ≡ Some c.in_ok-key.key = sym c.in_ok-key.ensures in
     let front : PortView g.row.M.Denot → Option g.row.M.Denot = λ p. slice_get p.queue 0 in
-    sym (no_front c.index.result.now.queue (eqb-true (length c.index.result.now.queue) 0 (sym c.if-is_empty.ensures))) ∙ ap (option_and_then front) (sym (live_port c.self.inside.records c.self.inside.by_id.map c.self.inside.next c.self.inside.spare c.self.inside.destroyed c.self.inside.slots c.self.invariant.sound c.args.self.now c.self.view_is c.args.port c.in_ok-key.key c.index.result.now found c.index.ensures))
+    sym (no_front c.index.result.now.queue (eqb-true (length c.index.result.now.queue) 0 (sym c.if-is_empty.ensures))) ∙ ap (option_and_then front) (sym (live_port o c.args.port c.in_ok-key.key c.index.result.now found c.index.ensures))
 
 pub invariant_of-self : goal.invariant_of-self
 invariant_of-self g c =
-    let found : map.get c.self.inside.by_id.map c.args.port ≡ Some c.in_ok-key.key = sym (c.in_ok-key.ensures) in
-    let there = record_at c.self.inside.records c.self.inside.by_id.map c.self.inside.next c.self.inside.spare c.self.inside.destroyed c.self.inside.slots c.self.invariant.sound c.args.self.now c.self.view_is c.args.port c.in_ok-key.key found in
+    let o = opened c.self.invariant c.self.view_is in
+    let found : map.get c.self.inside.by_id.map c.args.port ≡ Some c.in_ok-key.key = sym c.in_ok-key.ensures in
+    let there = record_at o c.args.port c.in_ok-key.key found in
     let r : Record g.row.M.Denot = there.0 in
     let popped = c.take_at.ensures.after r there.1 in
-    let a : Record g.row.M.Denot = record { id = r.id; queue = popped.0; kept = record { attributes = one_received r.kept.attributes; is_noted = r.kept.is_noted } } in
-    let longer : length r.queue ≡ length (c.take_at.result ∷ popped.0) = ap length popped.1 in
-    let more = c.take_at.ensures.spare in
-    let moved : IsMoved c.self.inside.sets.marked c.take_at.new.sets.marked c.in_ok-key.key (ready_set a) = c.take_at.ensures.moved r popped.0 there.1 popped.1 in
-    record {
-      sound = subst (λ (t : Slab (Record g.row.M.Denot)). IsSound t c.self.inside.by_id.map c.self.inside.next c.take_at.new.spare c.self.inside.destroyed c.self.inside.slots) (sym popped.2)
-          (sound-set c.self.inside.records c.self.inside.by_id.map c.self.inside.next c.self.inside.spare c.take_at.new.spare c.self.inside.destroyed c.self.inside.slots c.self.invariant.sound c.args.self.now c.self.view_is c.args.port c.in_ok-key.key r a found there.1 refl (omega arith));
-      readied = subst (λ (t : Slab (Record g.row.M.Denot)). IsReadied (get t) c.take_at.new.sets.marked) (sym popped.2) (listed-set ready_set c.self.inside.records c.self.inside.sets.marked c.take_at.new.sets.marked c.in_ok-key.key r a c.self.invariant.readied there.1 moved);
-      membered = subst (λ w. IsMembered (get c.take_at.new.records) w) (sym c.take_at.ensures.members) (subst (λ (t : Slab (Record g.row.M.Denot)). IsMembered (get t) c.self.inside.sets.all) (sym popped.2) (listed-stays member_set c.self.inside.records c.self.inside.sets.all c.in_ok-key.key r a c.self.invariant.membered there.1 refl));
-      awaited = subst (λ (t : Slab (Record g.row.M.Denot)). IsAwaited (get t) c.self.inside.waiting) (sym popped.2) (listed-stays waiting_list c.self.inside.records c.self.inside.waiting c.in_ok-key.key r a c.self.invariant.awaited there.1 refl);
-      are_noted = subst (λ (t : Slab (Record g.row.M.Denot)). IsNoted (get t) c.self.inside.noted) (sym popped.2) (listed-stays noting_list c.self.inside.records c.self.inside.noted c.in_ok-key.key r a c.self.invariant.are_noted there.1 refl);
-    }
+    kept-taken o c.args.port c.in_ok-key.key r found there.1 (one_received r.kept.attributes) refl refl c.take_at.result popped.0 popped.1 c.take_at.new.sets (c.take_at.ensures.emptied r popped.0 there.1 popped.1) c.take_at.new.records popped.2 c.take_at.new.spare c.self.inside.destroyed (let e = c.take_at.ensures.spare in omega arith)
 
 pub returns-clause-front : goal.returns-clause-front
 returns-clause-front g c =
-    let found : map.get c.self.inside.by_id.map c.args.port ≡ Some c.in_ok-key.key = sym (c.in_ok-key.ensures) in
-    let there = record_at c.self.inside.records c.self.inside.by_id.map c.self.inside.next c.self.inside.spare c.self.inside.destroyed c.self.inside.slots c.self.invariant.sound c.args.self.now c.self.view_is c.args.port c.in_ok-key.key found in
+    let o = opened c.self.invariant c.self.view_is in
+    let found : map.get c.self.inside.by_id.map c.args.port ≡ Some c.in_ok-key.key = sym c.in_ok-key.ensures in
+    let there = record_at o c.args.port c.in_ok-key.key found in
     let r : Record g.row.M.Denot = there.0 in
     let popped = c.take_at.ensures.after r there.1 in
-    let a : Record g.row.M.Denot = record { id = r.id; queue = popped.0; kept = record { attributes = one_received r.kept.attributes; is_noted = r.kept.is_noted } } in
-    let longer : length r.queue ≡ length (c.take_at.result ∷ popped.0) = ap length popped.1 in
-    let more = c.take_at.ensures.spare in
     let front : PortView g.row.M.Denot → Option g.row.M.Denot = λ p. slice_get p.queue 0 in
-    sym (ap (λ (l : List g.row.M.Denot). slice_get l 0) popped.1) ∙ ap (option_and_then front) (sym (live_port c.self.inside.records c.self.inside.by_id.map c.self.inside.next c.self.inside.spare c.self.inside.destroyed c.self.inside.slots c.self.invariant.sound c.args.self.now c.self.view_is c.args.port c.in_ok-key.key r found there.1))
+    sym (ap (λ (l : List g.row.M.Denot). slice_get l 0) popped.1) ∙ ap (option_and_then front) (sym (live_port o c.args.port c.in_ok-key.key r found there.1))
 
 pub returns-clause-taken : goal.returns-clause-taken
 returns-clause-taken g c p h =
-    let found : map.get c.self.inside.by_id.map c.args.port ≡ Some c.in_ok-key.key = sym (c.in_ok-key.ensures) in
-    let there = record_at c.self.inside.records c.self.inside.by_id.map c.self.inside.next c.self.inside.spare c.self.inside.destroyed c.self.inside.slots c.self.invariant.sound c.args.self.now c.self.view_is c.args.port c.in_ok-key.key found in
+    let o = opened c.self.invariant c.self.view_is in
+    let found : map.get c.self.inside.by_id.map c.args.port ≡ Some c.in_ok-key.key = sym c.in_ok-key.ensures in
+    let there = record_at o c.args.port c.in_ok-key.key found in
     let r : Record g.row.M.Denot = there.0 in
     let popped = c.take_at.ensures.after r there.1 in
-    let a : Record g.row.M.Denot = record { id = r.id; queue = popped.0; kept = record { attributes = one_received r.kept.attributes; is_noted = r.kept.is_noted } } in
-    let longer : length r.queue ≡ length (c.take_at.result ∷ popped.0) = ap length popped.1 in
-    let more = c.take_at.ensures.spare in
-    let is : p ≡ port_of r = is_port c.self.inside.records c.self.inside.by_id.map c.self.inside.next c.self.inside.spare c.take_at.new.spare c.self.inside.destroyed c.self.inside.slots c.self.invariant.sound c.args.self.now c.self.view_is c.args.port c.in_ok-key.key r a found there.1 refl (omega arith) p h in
-    let view : Slab (Record g.row.M.Denot) → PortsView g.row.M.Denot = λ t. record { ports = ports_of (get t) c.self.inside.by_id.map; ready = turns_at (get t) c.take_at.new.sets.marked.lists; made = made_of c.self.inside.next; spare = length c.take_at.new.spare; destroyed = c.self.inside.destroyed; lost = ids_in (get t) c.self.inside.waiting lost_list; doomed = ids_in (get t) c.self.inside.waiting doomed_list; noted = ids_in (get t) c.self.inside.noted noted_list } in
-    let after : List g.row.M.Denot → Attributes → ℕ → PortsView g.row.M.Denot = λ l b n. record {
-      ports = map.insert c.args.self.now.ports c.args.port (let q : PortView g.row.M.Denot = record { queue = l; attributes = b } in q);
-      ready = turned c.args.self.now.ready c.args.port (map.get c.args.self.now.ports c.args.port) (let q : PortView g.row.M.Denot = record { queue = l; attributes = b } in q);
-      made = c.args.self.now.made;
-      spare = n;
-      destroyed = c.args.self.now.destroyed;
-      lost = c.args.self.now.lost;
-      doomed = c.args.self.now.doomed;
-      noted = c.args.self.now.noted;
-    } in
-    let was : length c.self.inside.spare ≡ c.args.self.now.spare = ap (λ (b : PortsView g.row.M.Denot). b.spare) c.self.view_is in
-    let rest : popped.0 ≡ drop 1 p.queue = ap (λ (l : List g.row.M.Denot). drop 1 l) (sym popped.1 ∙ ap (λ (q : PortView g.row.M.Denot). q.queue) (sym is)) in
-    ap view popped.2
-    ∙ view-set c.self.inside.records c.self.inside.by_id.map c.self.inside.next c.self.inside.spare c.take_at.new.spare c.self.inside.destroyed c.self.inside.slots c.self.invariant.sound c.args.self.now c.self.view_is c.args.port c.in_ok-key.key r a found there.1 refl (omega arith) (turns_at (get (with_value c.self.inside.records c.in_ok-key.key a)) c.take_at.new.sets.marked.lists)
-    (turned-taken c.self.inside.records c.self.inside.by_id.map c.self.inside.next c.self.inside.spare c.self.inside.destroyed c.self.inside.slots c.self.invariant.sound c.self.inside.sets.marked c.args.self.now c.self.view_is c.self.invariant.readied c.args.port c.in_ok-key.key r a found there.1 refl c.take_at.new.sets.marked (omega arith) (c.take_at.ensures.turned r popped.0 there.1 popped.1))
-    (stay-same c.self.inside.records c.self.inside.by_id.map c.self.inside.next c.self.inside.spare c.self.inside.destroyed c.self.inside.slots c.self.invariant.sound c.self.inside.waiting c.self.inside.noted c.args.self.now c.self.view_is c.in_ok-key.key r a there.1 refl)
-    ∙ ap (λ l. after l (one_received r.kept.attributes) (length c.take_at.new.spare)) rest
-    ∙ ap (λ (q : PortView g.row.M.Denot). after (drop 1 p.queue) (one_received q.attributes) (length c.take_at.new.spare)) (sym is)
-    ∙ ap (after (drop 1 p.queue) (one_received p.attributes)) (omega arith)
+    let is = is_port o c.args.port c.in_ok-key.key r found there.1 p h in
+    let after : PortView g.row.M.Denot → PortView g.row.M.Denot = λ q. record q { queue = drop 1 q.queue; attributes = one_received q.attributes } in
+    view-taken o c.args.port c.in_ok-key.key r found there.1 (one_received r.kept.attributes) refl refl c.take_at.result popped.0 popped.1 c.take_at.new.sets (c.take_at.ensures.emptied r popped.0 there.1 popped.1) c.take_at.new.records popped.2 c.take_at.new.spare c.self.inside.destroyed (let e = c.take_at.ensures.spare in omega arith) (after p)
+    (ap (λ (l : List g.row.M.Denot). let q : PortView g.row.M.Denot = record { queue = l; attributes = one_received r.kept.attributes; more = more_of c.self.inside.sets c.in_ok-key.key } in q) (sym (ap (λ (l : List g.row.M.Denot). drop 1 l) popped.1)) ∙ ap after (sym is))
+    (c.args.self.now.spare + 1) (let e = c.take_at.ensures.spare in let f : length c.self.inside.spare ≡ c.args.self.now.spare = ap (λ (b : PortsView g.row.M.Denot). b.spare) c.self.view_is in omega arith)
+    c.args.self.now.destroyed (ap (λ (b : PortsView g.row.M.Denot). b.destroyed) c.self.view_is)
 
-pub take_at-requires-clause-member : goal.take_at-requires-clause-member
-take_at-requires-clause-member g c r set here is = (c.self.invariant.membered.stands c.in_ok-key.key r here).there set is
+pub take_at-requires-clause-ready : goal.take_at-requires-clause-ready
+take_at-requires-clause-ready g c =
+    let o = opened c.self.invariant c.self.view_is in
+    let found : map.get c.self.inside.by_id.map c.args.port ≡ Some c.in_ok-key.key = sym c.in_ok-key.ensures in
+    let there = record_at o c.args.port c.in_ok-key.key found in
+    let r : Record g.row.M.Denot = there.0 in
+    let same : c.index.result.now ≡ r = same_some c.index.result.now r (sym c.index.ensures ∙ there.1) in
+    left_ready c.self.inside.sets c.in_ok-key.key r.kept.membership r.queue (some_length c.index.result.now.queue r.queue (ap (λ (b : Record g.row.M.Denot). b.queue) same) c.if-is_empty.ensures) (c.self.invariant.membered.ready c.in_ok-key.key r there.1)

@@ -6,13 +6,13 @@ use Rattle.tracer.proofs.histories.read_history.Goals as goal
 
 pub returns-in_default-clause-each : goal.returns-in_default-clause-each
 returns-in_default-clause-each c =
-    λ profile entries had fit same.
+    λ profile entries fit same.
     let none : HasNoHeading c.args.text.now = search rules in
-    absurd (none profile (flat_map entry_line entries) had same)
+    absurd (none profile (flat_map entry_line entries) same)
 
 pub returns-in_err-entry-clause-each : goal.returns-in_err-entry-clause-each
 returns-in_err-entry-clause-each c =
-    λ profile all had fit same.
+    λ profile all fit same.
     let inv = c.loop-rest.invariant in
     let some : c.loop-rest.rest.now ≢ [] = search rules in
     let read = c.loop-rest.entries.items in
@@ -33,7 +33,7 @@ loop-rest-preserved c =
 
 pub returns-clause-same : goal.returns-clause-same
 returns-clause-same c =
-    λ profile all had fit same.
+    λ profile all fit same.
     let inv = c.loop-rest.invariant in
     let none : length c.loop-rest.rest.now ≡ 0 = search rules in
     let read = read_all c.in-Some.profile c.loop-rest.entries.items c.loop-rest.rest.now c.args.text.now inv.1 none in

@@ -1,5 +1,4 @@
-use Rattle.std.proofs.Common.{◌≡◌, ◌≢◌, ◌++◌, All, length}
-use Rattle.mach_types.specs.declared.profiles.Profile.TheVariants.{Three}
+use Rattle.std.proofs.Common.{◌≡◌, ◌++◌, All, length}
 use Rattle.tracer.specs.Histories.{history_text, FitsLine}
 use Rattle.tracer.proofs.histories.read_history.Given as goal
 

@@ -5,7 +5,7 @@ use Rattle.name_space.specs.Entry.{port_of}
 use Rattle.name_space.specs.Names.{SpaceView}
 use Rattle.port.specs.Ports.{IsLive}
 use Rattle.copyin_base.specs.Reading.{live_in, read_names}
-use Rattle.copyin_base.specs.Requests.{RequestTablesView, request_left}
+use Rattle.request_table.specs.Tables.{RequestTablesView, request_left}
 use Rattle.copyin_base.specs.Worlds.{WorldView, with_space}
 use Rattle.copyin_base.proofs.Reading.{put_reads}
 use Rattle.copyin_base.proofs.Written.{left_lives, given_written, space_written}

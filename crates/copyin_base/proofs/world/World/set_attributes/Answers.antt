@@ -1,5 +1,5 @@
 use Rattle.std.proofs.Common.{sym, subst}
-use Rattle.port.specs.Holding.{KeepsHolder}
+use Rattle.port.specs.Holding.{KeepsHolder, KeepsSet}
 use Rattle.copyin_base.specs.Worlds.{WorldView, port_at}
 use Rattle.copyin_base.proofs.Told.{port_got}
 use Rattle.copyin_base.proofs.Written.{port_given, port_written}
@@ -7,6 +7,9 @@ use Rattle.copyin_base.proofs.world.World.set_attributes.Goals as goal
 
 pub set_attributes-requires-clause-holder : goal.set_attributes-requires-clause-holder
 set_attributes-requires-clause-holder c = subst (λ (w : WorldView). KeepsHolder w.ports c.args.port c.args.attributes) (sym c.self.view_is) c.requires.holder
+
+pub set_attributes-requires-clause-set : goal.set_attributes-requires-clause-set
+set_attributes-requires-clause-set c = subst (λ (w : WorldView). KeepsSet w.ports c.args.port c.args.attributes) (sym c.self.view_is) c.requires.set
 
 pub invariant_of-self : goal.invariant_of-self
 invariant_of-self c =

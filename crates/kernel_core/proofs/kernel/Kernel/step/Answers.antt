@@ -1,6 +1,6 @@
-use Rattle.std.proofs.Common.{◌≡◌, None, refl, sym, ap, subst, inl, inr}
+use Rattle.std.proofs.Common.{◌≡◌, refl, sym, ap, subst, inl, inr}
 use Rattle.mach_types.specs.declared.calls.Reply.{Reply}
-use Rattle.copyin_base.specs.Serving.{code_number}
+use Rattle.mach_types.specs.Codes.{code_number}
 use Rattle.copyin_base.specs.Worlds.{WorldView}
 use Rattle.copyin_base.specs.Shows.{Shows}
 use Rattle.kernel_change.specs.Changing.{touched_by}

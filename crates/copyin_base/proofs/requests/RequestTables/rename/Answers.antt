@@ -1,8 +1,0 @@
-use Rattle.std.proofs.Common.{ap, sym, ◌∙◌, refl}
-use Rattle.copyin_base.specs.Requests.{RequestTablesView}
-use Rattle.copyin_base.proofs.Requesting.{none_moves}
-use Rattle.copyin_base.proofs.requests.RequestTables.rename.Goals as goal
-
-pub returns-else-not-is_empty : goal.returns-else-not-is_empty
-returns-else-not-is_empty c =
-    none_moves c.args.self.now (ap (λ (v : RequestTablesView). v.names.requests) (sym c.self.view_is) ∙ (c.if-not-is_empty.ensures.0 refl).0) c.args.task c.args.from c.args.to

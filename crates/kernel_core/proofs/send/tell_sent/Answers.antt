@@ -1,5 +1,0 @@
-use Rattle.std.proofs.Common.{refl, inl}
-use Rattle.kernel_core.proofs.send.tell_sent.Goals as goal
-
-pub returns-else-moves : goal.returns-else-moves
-returns-else-moves c = inl (c.requires c.if-moves.false, refl)

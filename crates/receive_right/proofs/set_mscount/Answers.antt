@@ -1,0 +1,8 @@
+use Rattle.std.proofs.Common.{refl, arith}
+use Rattle.receive_right.proofs.Status.{make_send_set}
+use Rattle.receive_right.proofs.set_mscount.Goals as goal
+
+pub returns-clause-serves : goal.returns-clause-serves
+returns-clause-serves c =
+    make_send_set c.args.world.now c.args.task c.args.name c.in_ok-port.port c.requires.there c.in_ok-port.ensures.ok c.attributes-attributes.result c.attributes-attributes.ensures
+    c.set_attributes.new.self c.args.count (omega arith) c.set_attributes.ensures
