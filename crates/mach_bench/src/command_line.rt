@@ -2,7 +2,7 @@
 use crate::perform::{Job, Run};
 use crate::soak::Soak;
 use mach_bench_base::{Naming, World, all_worlds};
-use mach_bench_workloads::{Workload, all_workloads};
+use mach_bench_workloads::{Workload, all_workloads, several_workloads};
 use std::io::Write;
 use std::time::Duration;
 
@@ -18,7 +18,8 @@ Usage: mach_bench list
 list   prints the workloads and the worlds
 check  makes each workload once in each profile, and the first in each world
 run    makes the cycle of one workload N times (1) in one world (small), by the clock,
-       on a kernel of profile P (1), 1 or 2: in 2 fresh names have a generation
+       on a kernel of profile P (1), 1, 2 or 3: in 2 and 3 fresh names have a generation,
+       and in 3 a port may be in several sets
 soak   makes calls drawn by the seed in so many threads (1 to 64) on one kernel, until
        there are so many or it took so long; then replays their history
 ";
@@ -185,6 +186,7 @@ fn naming_of(profile: &str) -> Option<Naming> {
     match profile {
         "1" => Some(Naming::Plain),
         "2" => Some(Naming::Tagged),
+        "3" => Some(Naming::Several),
         _ => None,
     }
 }
@@ -220,6 +222,11 @@ fn read_run<'a>(words: &'a [String]) -> Result<Job, Refusal<'a>> {
 /// The workload of this name.
 fn workload_named(name: &str) -> Option<&'static Workload> {
     for workload in all_workloads() {
+        if workload.name == name {
+            return Some(workload);
+        }
+    }
+    for workload in several_workloads() {
         if workload.name == name {
             return Some(workload);
         }

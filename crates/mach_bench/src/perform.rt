@@ -4,7 +4,7 @@ ghost use Rattle.std.specs.Prelude.{◌≤◌, ◌≡◌};
 use crate::command_line::USAGE;
 use crate::soak::{Soak, Soaked, make_soak};
 use mach_bench_base::{Bench, Naming, OPENING, SMALL, Stop, World, all_worlds};
-use mach_bench_workloads::{SEND_RECEIVE, Workload, all_workloads};
+use mach_bench_workloads::{SEND_RECEIVE, Workload, all_workloads, several_workloads};
 use mach_msg_threads::RunFault;
 use std::alloc::{AllocError, AllocFailed};
 use std::io::Write;
@@ -74,6 +74,7 @@ impl fmt::Display for Run {
         match self.naming {
             Naming::Plain => Ok(()),
             Naming::Tagged => f.write_str(", profile 2"),
+            Naming::Several => f.write_str(", profile 3"),
         }
     }
 }
@@ -201,6 +202,9 @@ fn list_workloads<W: Write>(out: &mut W) -> Result<(), Fault> {
     for workload in all_workloads() {
         tell_name("", workload.name, out)?;
     }
+    for workload in several_workloads() {
+        tell_name("--profile 3 ", workload.name, out)?;
+    }
     Ok(())
 }
 
@@ -215,20 +219,23 @@ fn tell_name<W: Write>(before: &str, name: &str, out: &mut W) -> Result<(), Faul
     written(writeln!(out, "{before}{name}"))
 }
 
-/// Makes each workload once in each profile in the small world, and the first in each other world in profile 1; no
-/// time is told.
+/// Makes each workload once in each profile that has it in the small world, and the first in each other world in
+/// profile 1; no time is told.
 fn check<R: Clock + AllocGlobal, W: Write>(rt: &R, out: &mut W) -> Result<(), Fault> {
-    check_workloads(rt, Naming::Plain, out)?;
+    check_workloads(rt, all_workloads(), Naming::Plain, out)?;
     check_worlds(rt, out)?;
-    check_workloads(rt, Naming::Tagged, out)
+    check_workloads(rt, all_workloads(), Naming::Tagged, out)?;
+    check_workloads(rt, all_workloads(), Naming::Several, out)?;
+    check_workloads(rt, several_workloads(), Naming::Several, out)
 }
 
 fn check_workloads<R: Clock + AllocGlobal, W: Write>(
     rt: &R,
+    workloads: &'static [Workload],
     naming: Naming,
     out: &mut W,
 ) -> Result<(), Fault> {
-    for workload in all_workloads() {
+    for workload in workloads {
         let run = Run {
             workload,
             world: &SMALL,

@@ -211,7 +211,7 @@ impl Bench {
     pub fn rehearse(&mut self, times: u32) -> Result<(), Stop> {
         let cycles = match self.naming {
             Naming::Plain => 1,
-            Naming::Tagged => times,
+            Naming::Tagged | Naming::Several => times,
         };
         // names that were returned after the cycle was added are none of its own
         if let Some(first) = self.plan.first() {
@@ -266,7 +266,7 @@ impl Bench {
     pub fn run(&mut self, times: u32) -> Result<(), Stop> {
         let times = match self.naming {
             // the cycles lie in a row, each with names of its own
-            Naming::Tagged if self.follows => 1,
+            Naming::Tagged | Naming::Several if self.follows => 1,
             _ => times,
         };
         let events = self.cycle.as_slice();

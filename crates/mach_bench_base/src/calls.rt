@@ -194,6 +194,10 @@ pub enum Call {
     Status(u32),
     /// Puts the port into a set, or into none where that is 0.
     Put(Label, Label),
+    /// Puts the port into a set, beside those that it is in.
+    Enter(Label, Label),
+    /// Takes the port out of a set alone.
+    Leave(Label, Label),
     /// The task sends the message.
     Send(u32, Message),
     /// The task receives by the name, with room for every message.
@@ -251,6 +255,12 @@ impl Call {
             Call::Rename(from, to) => Event::Rename(home, round.name(from), round.name(to)),
             Call::Status(name) => Event::ReceiveStatus(home, round.name(name)),
             Call::Put(label, set) => Event::MoveMember(home, label.name(round), set.name(round)),
+            Call::Enter(label, set) => {
+                Event::InsertMember(home, label.name(round), set.name(round))
+            }
+            Call::Leave(label, set) => {
+                Event::ExtractMember(home, label.name(round), set.name(round))
+            }
             // the only one left that comes here is `Call::Task`
             _ => Event::TaskCreate,
         }

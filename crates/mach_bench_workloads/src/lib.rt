@@ -2,6 +2,8 @@
 #![tactic(auto)]
 
 mod messages;
+mod several;
 mod workloads;
 
+pub use several::several_workloads;
 pub use workloads::{SEND_RECEIVE, Workload, all_workloads};
