@@ -165,7 +165,7 @@ fn members_are_told(rt: &impl Abort, kernel: &mut Kernel, member: Name, set: Nam
 }
 
 /// Returns whether the server's set has just these members.
-fn has_members(kernel: &mut Kernel, set: Name, members: &[Name]) -> bool {
+pub(crate) fn has_members(kernel: &mut Kernel, set: Name, members: &[Name]) -> bool {
     match kernel.set_status(server(), set) {
         Ok(names) => names.as_slice() == members,
         Err(_) => false,

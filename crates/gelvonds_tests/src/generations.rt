@@ -12,12 +12,12 @@ use std::test::*;
 const PORT: u32 = 256;
 
 /// A message to the port, by a send right that is made for it, with the id 7.
-const MESSAGE: [u8; 24] = [
+pub(crate) const MESSAGE: [u8; 24] = [
     20, 0, 0, 0, 24, 0, 0, 0, 0, 1, 0, 0, 0, 0, 0, 0, 0, 0, 0, 0, 7, 0, 0, 0,
 ];
 
 /// The same, as its receiver gets it.
-const RECEIVED: [u8; 24] = [
+pub(crate) const RECEIVED: [u8; 24] = [
     0, 17, 0, 0, 24, 0, 0, 0, 0, 0, 0, 0, 0, 1, 0, 0, 0, 0, 0, 0, 7, 0, 0, 0,
 ];
 

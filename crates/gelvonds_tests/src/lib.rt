@@ -1,4 +1,4 @@
-//! Tests of `gelvonds`: its typed calls, a task with no name left, fresh names that have a generation, and the program of
+//! Tests of `gelvonds`: its typed calls, a task with no name left, kernels of other profiles, and the program of
 //! `docs/EMBEDDING.md`. Tests of its `threads`: the history of one kernel, callers in threads of their own, a kernel that
 //! keeps no entries, message calls, blocks that run at once, and blocks that wait by a hall.
 //!
@@ -25,6 +25,8 @@ mod message_calls;
 mod messages;
 #[cfg(test)]
 mod parties;
+#[cfg(test)]
+mod several_sets;
 #[cfg(test)]
 mod unkept;
 #[cfg(test)]
