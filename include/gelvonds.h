@@ -50,7 +50,7 @@ typedef int32_t gelvonds_code;
 
 /* mach_port_status_t. */
 typedef struct gelvonds_status {
-    gelvonds_name mps_pset; /* the task's name of a set that the port is in, or 0 */
+    gelvonds_name mps_pset; /* the least of the task's names of the port's sets, or 0 */
     uint32_t mps_seqno;     /* the sequence number of the next message received */
     uint32_t mps_mscount;   /* how many send rights were made from the receive right */
     uint32_t mps_qlimit;    /* the queue limit, 0 to 16 */

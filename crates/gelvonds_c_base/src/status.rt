@@ -8,7 +8,7 @@ use mach_types::Status;
 #[repr(C)]
 #[derive(Clone, Copy)]
 pub struct PortStatus {
-    /// The task's name of a set that the port is in, or 0.
+    /// The least of the task's names of the sets that the port is in, or 0.
     pub set: u32,
     /// The sequence number of the next message received.
     pub sequence: u32,

@@ -14,7 +14,7 @@ pub enum Waited {
 /// The status of a receive right (Port Manipulation Interface, `mach_port_status_t`).
 #[derive(Clone, Copy, Debug, PartialEq, Eq)]
 pub struct Status {
-    /// The task's name of a set that the port is in, or 0.
+    /// The least of the task's names of the sets that the port is in, or 0.
     pub set: Name,
     /// The sequence number of the next message received, modulo 2^32.
     pub sequence: u32,

@@ -55,7 +55,7 @@ typedef unsigned int mach_port_msgcount_t;
 typedef unsigned int mach_port_rights_t;
 
 typedef struct mach_port_status {
-    mach_port_name_t mps_pset;          /* the task's name of the port's set, or 0 */
+    mach_port_name_t mps_pset;          /* the least name of the port's sets, or 0 */
     mach_port_seqno_t mps_seqno;        /* the sequence number of the next message */
     mach_port_mscount_t mps_mscount;    /* how many send rights were made */
     mach_port_msgcount_t mps_qlimit;    /* the queue limit */
