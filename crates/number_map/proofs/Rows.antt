@@ -167,6 +167,13 @@ module _ {V : Type 0} where
         let z : walk (link_at nodes) (head_at heads key) key l.0 ≡ 0 = ended (link_at nodes) (head_at heads key) key d l.0 (sym on) l.1 in
         let f = l.2 in omega arith
 
+    -- where the key is there, the way to it goes on
+    pub some_on : (d : ℕ) → IsLater d → (x : ℕ) → HasKey nodes key x → 1 ≤ walk (link_at nodes) (head_at heads key) key d
+    some_on d later x has = elim (equal_or_not (walk (link_at nodes) (head_at heads key) key d) 0) [
+      | inl z ↦ absurd (none_later d later (sym z) x has)
+      | inr n ↦ omega arith
+    ]
+
     pub none_kept : IsIndexed nodes heads → length heads ≡ 0 → (x : ℕ) → HasKey nodes key x → ⊥
     none_kept r none x m = let i = slice_get_within nodes x m.0 m.1 in let w = r.wide (omega arith) in omega arith
 

@@ -1,5 +1,5 @@
 -- What a map from numbers is, by its nodes, and once a key joins, has another value, or leaves.
-use Rattle.std.proofs.Common.{◌≡◌, ◌≢◌, ◌⊎◌, inl, inr, ℕ, zero, suc, ◌+◌, ◌-◌, ◌^◌, ◌<◌, ◌≤◌, cond, List, [], ◌∷◌, ◌++◌, length, Option, Some, None, nat_eq, slice_get, slice_set, refl, sym, ◌∙◌, ap, arith}
+use Rattle.std.proofs.Common.{◌≡◌, ◌≢◌, ◌⊎◌, inl, inr, ℕ, zero, suc, ◌+◌, ◌-◌, ◌^◌, ◌<◌, ◌≤◌, cond, List, [], ◌∷◌, ◌++◌, length, Option, Some, None, is_some, true, false, nat_eq, slice_get, slice_set, refl, sym, ◌∙◌, ap, arith}
 use Rattle.std.specs.Option.{option_map}
 use Rattle.std.specs.Map.{lookup}
 use Rattle.std.specs.FinMap as map
@@ -10,7 +10,7 @@ use Rattle.std.proofs.lemmas.Option.{slice_get_within, slice_get-map}
 use Rattle.number_map.specs.declared.Node.{Node}
 use Rattle.number_map.specs.Kept.{entry_of, entries_of, HasKey, IsUnique, IsIndexed, SameEntries, IsTakenOut, IsKept}
 use Rattle.number_map.proofs.Trees.{equal_or_not}
-use Rattle.number_map.proofs.Entries.{lookup_none, lookup_at, looked_put, looked_out, put-table, out-table}
+use Rattle.number_map.proofs.Entries.{place_of, lookup_none, lookup_at, looked_put, looked_out, put-table, out-table}
 use Rattle.number_map.proofs.Rows.{same_some, none_some, got_set, got_other, got_before, got_last, length_pushed, entries_len, entry_here, same_len}
 use Rattle.number_map.proofs.Planted.{indexed_valued}
 
@@ -28,6 +28,12 @@ module _ {V : Type 0} where
 
   pub none_looked : (nodes : List (Node V)) (key : ℕ) → ((x : ℕ) → HasKey nodes key x → ⊥) → lookup (nat_eq key) (entries_of nodes) ≡ None
   none_looked nodes key none = lookup_none (entries_of nodes) key (λ x v at. let n = node_at nodes x (key, v) at in none x (n.0, n.1, ap (λ (e : ℕ × V). e.0) n.2))
+
+  pub key_there : (nodes : List (Node V)) (key : ℕ) → is_some (lookup (nat_eq key) (entries_of nodes)) ≡ true → (x : ℕ) × HasKey nodes key x
+  key_there nodes key some = elim (place_of (entries_of nodes) key) [
+    | inl at ↦ let n = node_at nodes at.0 (key, at.1) at.2 in (at.0, (n.0, n.1, ap (λ (e : ℕ × V). e.0) n.2))
+    | inr none ↦ absurd (let bad : false ≡ true = sym (ap is_some (lookup_none (entries_of nodes) key none)) ∙ some in cc)
+  ]
 
   pub key_looked : (nodes : List (Node V)) → IsUnique (entries_of nodes) → (key x : ℕ) → HasKey nodes key x → (n : Node V) → slice_get nodes x ≡ Some n → lookup (nat_eq key) (entries_of nodes) ≡ Some n.value
   key_looked nodes u key x has n at =

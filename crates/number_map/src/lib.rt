@@ -4,7 +4,9 @@
 //! The keys lie in a row, each in the tree of its hash. Where there are as many trees as keys, most
 //! trees have one node or two. The hash is known, so that many keys may be chosen that lie in one tree.
 //! But below a node all keys whose next bit is 0 hang on one link, and the others on the other, from the
-//! lowest bit on. So no tree is deeper than a key has bits: a look-up reads 65 nodes at most.
+//! lowest bit on. So no tree is deeper than a key has bits: a look-up reads 66 nodes at most. The place of
+//! the key that was last put in, or found below another, is looked at before its tree is walked, so that a
+//! key that is looked up again is found at once.
 //!
 //! Beside a value of four-byte words a key takes 20 to 24 bytes, or 18 to 20 where 1,024 keys or more
 //! fit, and so does room for one.
@@ -17,6 +19,7 @@ ghost use Rattle.std.specs.Vec.{vec_capacity};
 ghost use Rattle.number_map.specs.Kept.{slot as slot_for, walk, key_at, link_at, out_at, head_at, IsWay, IsTurned, IsLed, IsLedBelow, IsHung, IsAboveLeaf, IsPlanted, IsIndexed, HasKey, IsUnique, entries_of, SameEntries, IsRaised, IsMoved, IsTakenOut};
 
 use std::alloc::{AllocError, Global};
+use std::cell::Cell;
 use std::marker::Model;
 use std::mem;
 
@@ -90,6 +93,8 @@ pub struct NumberMap<V: Copy> {
     // The first node of each tree lies at its head less 1, if its head is not 0.
     heads: Vec<u32>,
     room: usize,
+    // Where the key lies that was last put in, or found below the first node of its tree; no more than a guess.
+    last: Cell<u32>,
 }
 
 // The tree of a key. The factor spreads keys that are given one by one, each second of them or each
@@ -104,9 +109,10 @@ fn slot_of(key: u64, slots: usize) -> usize
     key.wrapping_mul(0x7A2A_1191).rotate_right(31) as usize & (slots - 1)
 }
 
-// Where the key lies.
+// Where the key lies. The first node of its tree is looked at, then the node at the place `last`, and then
+// the way down the tree: so a key that is asked for again is found at once, however deep it lies.
 #[inline(always)]
-fn find<V: Copy>(nodes: &[Node<V>], heads: &[u32], key: u64) -> Option<usize>
+fn find<V: Copy>(nodes: &[Node<V>], heads: &[u32], last: &Cell<u32>, key: u64) -> Option<usize>
     requires { IsIndexed nodes.now heads.now }
     ensures found { (x : ℕ) → result ≡ Some x → HasKey nodes.now key x }
     ensures missing { result ≡ None → (x : ℕ) → HasKey nodes.now key x → ⊥ }
@@ -114,17 +120,57 @@ fn find<V: Copy>(nodes: &[Node<V>], heads: &[u32], key: u64) -> Option<usize>
     if heads.is_empty() {
         return None;
     }
-    let mut link = heads[slot_of(key, heads.len())] as usize;
-    let mut bits = key;
+    let first = heads[slot_of(key, heads.len())] as usize;
+    if first == 0 {
+        return None;
+    }
+    let root = &nodes[first - 1];
+    if root.key.number() == key {
+        return Some(first - 1);
+    }
+    let hint = last.get() as usize;
+    if hint < nodes.len() && nodes[hint].key.number() == key {
+        return Some(hint);
+    }
+    let mut link = root.links[(key % 2) as usize];
+    let mut bits = key / 2;
     while link > 0 {
-        let node = &nodes[link - 1];
+        let place = link - 1;
+        let node = &nodes[place as usize];
         if node.key.number() == key {
-            return Some(link - 1);
+            last.set(place);
+            return Some(place as usize);
         }
-        link = node.links[(bits % 2) as usize] as usize;
+        link = node.links[(bits % 2) as usize];
         bits /= 2;
     }
     None
+}
+
+// Where a key lies that is there, looked for as in `find`.
+#[inline(always)]
+fn find_there<V: Copy>(nodes: &[Node<V>], heads: &[u32], last: &Cell<u32>, key: u64) -> usize
+    requires indexed { IsIndexed nodes.now heads.now }
+    requires there { (x : ℕ) × HasKey nodes.now key x }
+    ensures { HasKey nodes.now key result }
+{
+    let first = heads[slot_of(key, heads.len())] as usize - 1;
+    let root = &nodes[first];
+    if root.key.number() == key {
+        return first;
+    }
+    let hint = last.get() as usize;
+    if hint < nodes.len() && nodes[hint].key.number() == key {
+        return hint;
+    }
+    let mut place = root.links[(key % 2) as usize] - 1;
+    let mut bits = key / 2;
+    while nodes[place as usize].key.number() != key {
+        place = nodes[place as usize].links[(bits % 2) as usize] - 1;
+        bits /= 2;
+    }
+    last.set(place);
+    place as usize
 }
 
 // Where a key lies, and which link leads there: one of the node at the place before `above`, or a head
@@ -475,6 +521,7 @@ impl<V: Copy> NumberMap<V> {
             nodes: Vec::new(alloc),
             heads: Vec::new(alloc),
             room: 0,
+            last: Cell::new(0),
         }
     }
 
@@ -492,11 +539,11 @@ impl<V: Copy> NumberMap<V> {
         self.room
     }
 
-    /// The value under the key, if it is there. Constant time: reads 65 nodes at most.
+    /// The value under the key, if it is there. Constant time: reads 66 nodes at most.
     pub fn get(&self, key: u64) -> Option<V>
         ensures { result ≡ map.get self.now.map key }
     {
-        let place = find(&self.nodes, &self.heads, key)?;
+        let place = find(&self.nodes, &self.heads, &self.last, key)?;
         Some(self.nodes[place].value)
     }
 
@@ -538,6 +585,7 @@ impl<V: Copy> NumberMap<V> {
             links: [0, 0],
         });
         let link = self.nodes.len() as u32;
+        self.last.set(link - 1);
         lead(
             self.nodes.as_mut_slice(),
             self.heads.as_mut_slice(),
@@ -548,24 +596,23 @@ impl<V: Copy> NumberMap<V> {
         self.room -= 1;
     }
 
-    /// Puts another value under a key that is there. Constant time: reads 65 nodes at most.
+    /// Puts another value under a key that is there. Constant time: reads 66 nodes at most.
     pub fn set(&mut self, key: u64, value: V)
         requires { map.contains_key self.old.map key ≡ true }
         ensures { self.new ≡ record self.old { map = map.insert self.old.map key value } }
     {
-        if let Some(place) = find(&self.nodes, &self.heads, key) {
-            self.nodes[place].value = value;
-        }
+        let place = find_there(&self.nodes, &self.heads, &self.last, key);
+        self.nodes[place].value = value;
     }
 
     /// The value under a key that is there, for writing. Takes no memory; constant time:
-    /// reads 65 nodes at most.
+    /// reads 66 nodes at most.
     pub fn value_mut(&mut self, key: u64) -> &mut V
         requires { map.contains_key self.old.map key ≡ true }
         ensures* writes_back { sem 𝓛 (lends_value V.row self.entry key result) }
         ensures value { map.get self.old.map key ≡ Some result.now }
     {
-        let place = find(&self.nodes, &self.heads, key).unwrap();
+        let place = find_there(&self.nodes, &self.heads, &self.last, key);
         &mut self.nodes[place].value
     }
 
