@@ -497,6 +497,7 @@ impl Lists {
     }
 
     /// Puts an item that is in no list at the end of this one. Constant time.
+    #[inline(always)]
     pub fn push(&mut self, list: u64, item: usize)
         requires room { item < self.old.items }
         requires apart { IsApart self.old item }
@@ -509,6 +510,7 @@ impl Lists {
     }
 
     /// Takes an item out of its list; the order of the others stays. Constant time.
+    #[inline(always)]
     pub fn remove(&mut self, list: u64, item: usize)
         requires { Contains (list_of self.old list) item }
         ensures { self.new ≡ with_list self.old list (without item (list_of self.old list)) }
