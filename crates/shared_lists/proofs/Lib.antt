@@ -12,3 +12,4 @@ pub mod Marking
 pub mod Leaving
 pub mod Alone
 pub mod Telling
+pub mod Again

@@ -1,5 +1,5 @@
 -- How lists with shared items are kept: by places, which are the items of other lists. No public clause cites this module.
-use Rattle.std.specs.Prelude.{◌≡◌, ℕ, max, ◌-◌, ◌*◌, ◌/◌, ◌%◌, ◌^◌, ◌<◌, ◌≤◌, Bool, true, false, cond, eqb, leb, List, [], ◌∷◌, Option, Some, None, IsSome, map as map_list}
+use Rattle.std.specs.Prelude.{◌≡◌, ℕ, max, ◌-◌, ◌*◌, ◌/◌, ◌%◌, ◌^◌, ◌<◌, ◌≤◌, Bool, true, false, cond, eqb, leb, List, [], ◌∷◌, Option, Some, None, IsSome, map as map_list, slice_get}
 use Rattle.std.specs.Option.{option_map_or}
 use Rattle.std.specs.List.{Contains}
 use Rattle.std.specs.FinMap as finite
@@ -77,6 +77,10 @@ pub record IsShared (several : Bool) (p : MarkedView) (s : Slab Further) (keys :
   pub fit : 2 * fits ≤ p.all.items
   pub few : p.all.items ≤ 2 ^ 33
   pub even : p.marked.items ≡ p.all.items
+
+-- The list of each further place stands here once more.
+abbrev pub AreListed : Slab Further → (lists : List ℕ) → Type 0
+AreListed s lists = (k : ℕ) (f : Further) → get s k ≡ Some f → slice_get lists k ≡ Some f.list
 
 -- how they are seen
 abbrev pub seen : Bool → MarkedView → Slab Further → (keys : ListsView) → (fits : ℕ) → SharedView

@@ -12,7 +12,7 @@
 //! places are the items' own, and the odd ones the further ones.
 #![tactic(auto)]
 
-ghost use Rattle.std.specs.Prelude.{◌≡◌, ◌≢◌, ℕ, ◌+◌, ◌<◌, ◌≤◌, ◌^◌, ◌∷◌, [], cond, Some, None, IsSome, IsOk, OnOk, OnErr, IfSome, IfNone, IfOk, true, false, map as map_list, slice_get};
+ghost use Rattle.std.specs.Prelude.{◌≡◌, ◌≢◌, ℕ, ◌+◌, ◌<◌, ◌≤◌, ◌^◌, ◌∷◌, [], length, cond, Some, None, IsSome, IsOk, OnOk, OnErr, IfSome, IfNone, IfOk, true, false, map as map_list, slice_get};
 ghost use Rattle.std.specs.List.{Contains};
 ghost use Rattle.std.specs.FinMap as map;
 ghost use Rattle.member_lists.specs.Lists.{list_of, IsApart, IsMarkedIn, without};
@@ -39,6 +39,40 @@ const MOST_ITEMS: usize = 1 << 32;
 struct Further {
     item: usize,
     list: u64,
+}
+
+// The further places, and the list of each once more: to be read without a look at what else stands there.
+#[derive(Drop)]
+struct Listed<'a> {
+    further: &'a Slab<Further>,
+    lists: &'a [u64],
+}
+
+impl<'a> Model for Listed<'a> {
+    ghost use Rattle.slab.specs.Slab.{Slab, slab_code};
+    ghost use Rattle.shared_lists.specs.declared.Further.{Further};
+    ghost use Rattle.shared_lists.specs.contracts.Further as one;
+    ghost use Rattle.shared_lists.specs.Places.{AreListed};
+
+    ghost Value = { Slab Further };
+
+    ghost coded = { slab_code one.the_row.coded };
+
+    ghost view = { λ a. a.further.now };
+
+    ghost invariant = { λ a. AreListed a.further.now a.lists.now };
+}
+
+impl<'a> Listed<'a> {
+    // The list of a further place.
+    #[inline(always)]
+    fn list(&self, key: usize) -> u64
+        requires { IsSome (get self.now key) }
+        ensures { result ≡ list_at self.now key }
+    {
+        let lists = self.lists;
+        lists[key]
+    }
 }
 
 // The place that an item has without memory.
@@ -111,7 +145,7 @@ fn find(keys: &Lists, further: &Slab<Further>, item: usize, list: u64) -> Option
 }
 
 // Puts the further places of an item at the end of the marked ones of their lists.
-fn mark_each(places: &mut MarkedLists, keys: &Lists, further: &Slab<Further>, item: usize)
+fn mark_each(places: &mut MarkedLists, keys: &Lists, further: &Listed<'_>, item: usize)
     requires there { (k : ℕ) → Contains (list_of keys.now item) k → IsSome (get further.now k) }
     requires single { (k : ℕ) → times k (list_of keys.now item) ≤ 1 }
     requires fit { (k : ℕ) → Contains (list_of keys.now item) k → far k < 2 ^ 64 }
@@ -121,14 +155,14 @@ fn mark_each(places: &mut MarkedLists, keys: &Lists, further: &Slab<Further>, it
 {
     let mut next = keys.first(item as u64);
     while let Some(key) = next {
-        let list = further[key].list;
+        let list = further.list(key);
         places.mark(list, further_place(key));
         next = keys.behind(item as u64, key);
     }
 }
 
 // Takes the further places of an item out of the marked ones of their lists.
-fn unmark_each(places: &mut MarkedLists, keys: &Lists, further: &Slab<Further>, item: usize)
+fn unmark_each(places: &mut MarkedLists, keys: &Lists, further: &Listed<'_>, item: usize)
     requires there { (k : ℕ) → Contains (list_of keys.now item) k → IsSome (get further.now k) }
     requires single { (k : ℕ) → times k (list_of keys.now item) ≤ 1 }
     requires fit { (k : ℕ) → Contains (list_of keys.now item) k → far k < 2 ^ 64 }
@@ -137,7 +171,7 @@ fn unmark_each(places: &mut MarkedLists, keys: &Lists, further: &Slab<Further>, 
 {
     let mut next = keys.first(item as u64);
     while let Some(key) = next {
-        let list = further[key].list;
+        let list = further.list(key);
         places.unmark(list, further_place(key));
         next = keys.behind(item as u64, key);
     }
@@ -174,6 +208,16 @@ fn items_at(
     Ok(items)
 }
 
+// Makes a row so long, with 0 behind what it has.
+fn lengthen_row(row: &mut Vec<u64>, len: usize) -> Result<(), AllocError>
+    requires { length row.old.items ≤ len }
+    ensures stays { (k : ℕ) → k < length row.old.items → slice_get row.new.items k ≡ slice_get row.old.items k }
+    ensures ok { OnOk result (length row.new.items ≡ len) }
+    ensures err { OnErr result (row.new.items ≡ row.old.items) }
+{
+    row.resize(len, 0)
+}
+
 // Makes room for so many further places.
 fn lengthen(places: &mut MarkedLists, keys: &mut Lists, most: usize) -> Result<(), AllocError>
     ensures ok { OnOk result (AreLonger places.old places.new keys.old keys.new most) }
@@ -188,15 +232,16 @@ fn lengthen(places: &mut MarkedLists, keys: &mut Lists, most: usize) -> Result<(
 
 /// Lists of items, each in any number of them, some of which are ready. Each item takes what an item of
 /// [`MarkedLists`] takes, or twice that where an item may be in several lists. The room for a further list
-/// takes twice that and some 60 bytes.
+/// takes twice that and some 70 bytes.
 #[derive(Drop)]
 pub struct SharedLists {
     places: MarkedLists,
     further: Slab<Further>,
     // The further places of each item, in the order of its lists, under its number.
     keys: Lists,
-    // For so many further places there is room among the places and the keys.
-    fits: usize,
+    // The list of each further place once more. There is room for so many further places among the places and
+    // the keys.
+    lists: Vec<u64>,
     several: bool,
 }
 
@@ -207,11 +252,12 @@ impl Model for SharedLists {
 
     ghost coded = { shared_code };
 
-    ghost use Rattle.shared_lists.specs.Places.{seen, IsShared};
+    ghost use Rattle.std.specs.Prelude.{length};
+    ghost use Rattle.shared_lists.specs.Places.{seen, AreListed, IsShared};
 
-    ghost view = { λ a. seen a.several a.places a.further a.keys a.fits };
+    ghost view = { λ a. seen a.several a.places a.further a.keys (length a.lists.items) };
 
-    ghost invariant = { λ a. IsShared a.several a.places a.further a.keys a.fits };
+    ghost invariant = { λ a. IsShared a.several a.places a.further a.keys (length a.lists.items) × AreListed a.further a.lists.items };
 }
 
 impl SharedLists {
@@ -226,7 +272,7 @@ impl SharedLists {
             places: MarkedLists::new(alloc),
             further: Slab::new(alloc),
             keys: Lists::new(alloc),
-            fits: 0,
+            lists: Vec::new(alloc),
             several,
         }
     }
@@ -266,9 +312,9 @@ impl SharedLists {
         }
         self.further.reserve(1)?;
         let most = self.further.capacity();
-        if most > self.fits {
+        if most > self.lists.len() {
             lengthen(&mut self.places, &mut self.keys, most)?;
-            self.fits = most;
+            lengthen_row(&mut self.lists, most)?;
         }
         Ok(())
     }
@@ -294,6 +340,7 @@ impl SharedLists {
         ensures { self.new ≡ with_further (entered self.old list item is_ready) list item }
     {
         let key = self.further.insert_reserved(Further { item, list });
+        self.lists[key] = list;
         self.keys.push(item as u64, key);
         join(&mut self.places, list, further_place(key), is_ready);
     }
@@ -419,7 +466,11 @@ impl SharedLists {
     {
         let place = own_place(self.several, item);
         self.places.mark(own, place);
-        mark_each(&mut self.places, &self.keys, &self.further, item);
+        let further = Listed {
+            further: &self.further,
+            lists: &self.lists,
+        };
+        mark_each(&mut self.places, &self.keys, &further, item);
     }
 
     /// Makes a ready item unready: it leaves the ready ones of each of its lists, of which `own` is the
@@ -431,7 +482,11 @@ impl SharedLists {
     {
         let place = own_place(self.several, item);
         self.places.unmark(own, place);
-        unmark_each(&mut self.places, &self.keys, &self.further, item);
+        let further = Listed {
+            further: &self.further,
+            lists: &self.lists,
+        };
+        unmark_each(&mut self.places, &self.keys, &further, item);
     }
 
     /// Makes an item ready that isn't, and that is in this list alone: it joins the ready ones of the list at

@@ -9,16 +9,16 @@ use Rattle.shared_lists.proofs.Marking.{head_in, tail_in, not_behind}
 use Rattle.shared_lists.proofs.Walk.{IsAt, left_from, rest_of, none_of, none_back, at_inside, at_next, fewer}
 use Rattle.shared_lists.proofs.unmark_each.Goals as goal
 
-pub index-requires : goal.index-requires
-index-requires c = c.requires.there c.in-Some.key (at_inside (list_of c.args.keys.now c.args.item) c.in-Some.key c.loop-next.invariant.front c.loop-next.invariant.back (subst (λ n. IsAt (list_of c.args.keys.now c.args.item) n c.loop-next.invariant.front c.loop-next.invariant.back) c.in-Some.is c.loop-next.invariant.at))
+pub list-list-requires : goal.list-list-requires
+list-list-requires c = c.requires.there c.in-Some.key (at_inside (list_of c.args.keys.now c.args.item) c.in-Some.key c.loop-next.invariant.front c.loop-next.invariant.back (subst (λ n. IsAt (list_of c.args.keys.now c.args.item) n c.loop-next.invariant.front c.loop-next.invariant.back) c.in-Some.is c.loop-next.invariant.at))
 
 pub further_place-requires : goal.further_place-requires
 further_place-requires c = c.requires.fit c.in-Some.key (at_inside (list_of c.args.keys.now c.args.item) c.in-Some.key c.loop-next.invariant.front c.loop-next.invariant.back (subst (λ n. IsAt (list_of c.args.keys.now c.args.item) n c.loop-next.invariant.front c.loop-next.invariant.back) c.in-Some.is c.loop-next.invariant.at))
 
 pub unmark-requires : goal.unmark-requires
 unmark-requires c =
-    subst (λ z. Contains (list_of c.loop-next.places.marked c.index.result.now.list) z) (sym c.further_place.ensures)
-    (subst (λ l. Contains (list_of c.loop-next.places.marked l) (far c.in-Some.key)) (ap list_in c.index.ensures) (c.loop-next.invariant.left c.in-Some.key (subst (λ ys. Contains ys c.in-Some.key) (sym (rest_of (list_of c.args.keys.now c.args.item) c.in-Some.key c.loop-next.invariant.front c.loop-next.invariant.back (subst (λ n. IsAt (list_of c.args.keys.now c.args.item) n c.loop-next.invariant.front c.loop-next.invariant.back) c.in-Some.is c.loop-next.invariant.at)).back_is) (head_in c.in-Some.key ((rest_of (list_of c.args.keys.now c.args.item) c.in-Some.key c.loop-next.invariant.front c.loop-next.invariant.back (subst (λ n. IsAt (list_of c.args.keys.now c.args.item) n c.loop-next.invariant.front c.loop-next.invariant.back) c.in-Some.is c.loop-next.invariant.at)).rest)))))
+    subst (λ z. Contains (list_of c.loop-next.places.marked c.list-list.result) z) (sym c.further_place.ensures)
+    (subst (λ l. Contains (list_of c.loop-next.places.marked l) (far c.in-Some.key)) (sym c.list-list.ensures) (c.loop-next.invariant.left c.in-Some.key (subst (λ ys. Contains ys c.in-Some.key) (sym (rest_of (list_of c.args.keys.now c.args.item) c.in-Some.key c.loop-next.invariant.front c.loop-next.invariant.back (subst (λ n. IsAt (list_of c.args.keys.now c.args.item) n c.loop-next.invariant.front c.loop-next.invariant.back) c.in-Some.is c.loop-next.invariant.at)).back_is) (head_in c.in-Some.key ((rest_of (list_of c.args.keys.now c.args.item) c.in-Some.key c.loop-next.invariant.front c.loop-next.invariant.back (subst (λ n. IsAt (list_of c.args.keys.now c.args.item) n c.loop-next.invariant.front c.loop-next.invariant.back) c.in-Some.is c.loop-next.invariant.at)).rest)))))
 
 pub behind-next-requires : goal.behind-next-requires
 behind-next-requires c = at_inside (list_of c.args.keys.now c.args.item) c.in-Some.key c.loop-next.invariant.front c.loop-next.invariant.back (subst (λ n. IsAt (list_of c.args.keys.now c.args.item) n c.loop-next.invariant.front c.loop-next.invariant.back) c.in-Some.is c.loop-next.invariant.at)
@@ -34,13 +34,13 @@ loop-next-preserved c =
       at = at_next (list_of c.args.keys.now c.args.item) c.in-Some.key c.loop-next.invariant.front c.loop-next.invariant.back (subst (λ n. IsAt (list_of c.args.keys.now c.args.item) n c.loop-next.invariant.front c.loop-next.invariant.back) c.in-Some.is c.loop-next.invariant.at) c.behind-next.result c.behind-next.ensures;
       marked =
           ap (λ (w : MarkedView). parted_far w.marked c.args.further.now ((rest_of (list_of c.args.keys.now c.args.item) c.in-Some.key c.loop-next.invariant.front c.loop-next.invariant.back (subst (λ n. IsAt (list_of c.args.keys.now c.args.item) n c.loop-next.invariant.front c.loop-next.invariant.back) c.in-Some.is c.loop-next.invariant.at)).rest)) c.unmark.ensures
-          ∙ ap (λ z. parted_far (parted c.loop-next.places.marked c.index.result.now.list z) c.args.further.now ((rest_of (list_of c.args.keys.now c.args.item) c.in-Some.key c.loop-next.invariant.front c.loop-next.invariant.back (subst (λ n. IsAt (list_of c.args.keys.now c.args.item) n c.loop-next.invariant.front c.loop-next.invariant.back) c.in-Some.is c.loop-next.invariant.at)).rest)) c.further_place.ensures
-          ∙ ap (λ l. parted_far (parted c.loop-next.places.marked l (far c.in-Some.key)) c.args.further.now ((rest_of (list_of c.args.keys.now c.args.item) c.in-Some.key c.loop-next.invariant.front c.loop-next.invariant.back (subst (λ n. IsAt (list_of c.args.keys.now c.args.item) n c.loop-next.invariant.front c.loop-next.invariant.back) c.in-Some.is c.loop-next.invariant.at)).rest)) (sym (ap list_in c.index.ensures))
+          ∙ ap (λ z. parted_far (parted c.loop-next.places.marked c.list-list.result z) c.args.further.now ((rest_of (list_of c.args.keys.now c.args.item) c.in-Some.key c.loop-next.invariant.front c.loop-next.invariant.back (subst (λ n. IsAt (list_of c.args.keys.now c.args.item) n c.loop-next.invariant.front c.loop-next.invariant.back) c.in-Some.is c.loop-next.invariant.at)).rest)) c.further_place.ensures
+          ∙ ap (λ l. parted_far (parted c.loop-next.places.marked l (far c.in-Some.key)) c.args.further.now ((rest_of (list_of c.args.keys.now c.args.item) c.in-Some.key c.loop-next.invariant.front c.loop-next.invariant.back (subst (λ n. IsAt (list_of c.args.keys.now c.args.item) n c.loop-next.invariant.front c.loop-next.invariant.back) c.in-Some.is c.loop-next.invariant.at)).rest)) c.list-list.ensures
           ∙ ap (parted_far c.loop-next.places.marked c.args.further.now) (sym ((rest_of (list_of c.args.keys.now c.args.item) c.in-Some.key c.loop-next.invariant.front c.loop-next.invariant.back (subst (λ n. IsAt (list_of c.args.keys.now c.args.item) n c.loop-next.invariant.front c.loop-next.invariant.back) c.in-Some.is c.loop-next.invariant.at)).back_is))
           ∙ c.loop-next.invariant.marked;
       all = ap (λ (w : MarkedView). w.all) c.unmark.ensures ∙ c.loop-next.invariant.all;
       left = λ k inside. subst (λ (w : MarkedView). Contains (list_of w.marked (list_at c.args.further.now k)) (far k)) (sym c.unmark.ensures)
-          (parted_old c.loop-next.places.marked c.index.result.now.list c.further_place.result (list_at c.args.further.now k) (far k)
+          (parted_old c.loop-next.places.marked c.list-list.result c.further_place.result (list_at c.args.further.now k) (far k)
           (λ e. not_behind (list_of c.args.keys.now c.args.item) c.loop-next.invariant.front ((rest_of (list_of c.args.keys.now c.args.item) c.in-Some.key c.loop-next.invariant.front c.loop-next.invariant.back (subst (λ n. IsAt (list_of c.args.keys.now c.args.item) n c.loop-next.invariant.front c.loop-next.invariant.back) c.in-Some.is c.loop-next.invariant.at)).rest) c.in-Some.key k (rest_of (list_of c.args.keys.now c.args.item) c.in-Some.key c.loop-next.invariant.front c.loop-next.invariant.back (subst (λ n. IsAt (list_of c.args.keys.now c.args.item) n c.loop-next.invariant.front c.loop-next.invariant.back) c.in-Some.is c.loop-next.invariant.at)).is (c.requires.single c.in-Some.key) inside (far_once k c.in-Some.key (e ∙ c.further_place.ensures)))
           (c.loop-next.invariant.left k (subst (λ ys. Contains ys k) (sym (rest_of (list_of c.args.keys.now c.args.item) c.in-Some.key c.loop-next.invariant.front c.loop-next.invariant.back (subst (λ n. IsAt (list_of c.args.keys.now c.args.item) n c.loop-next.invariant.front c.loop-next.invariant.back) c.in-Some.is c.loop-next.invariant.at)).back_is) (tail_in c.in-Some.key k ((rest_of (list_of c.args.keys.now c.args.item) c.in-Some.key c.loop-next.invariant.front c.loop-next.invariant.back (subst (λ n. IsAt (list_of c.args.keys.now c.args.item) n c.loop-next.invariant.front c.loop-next.invariant.back) c.in-Some.is c.loop-next.invariant.at)).rest) inside))));
     }

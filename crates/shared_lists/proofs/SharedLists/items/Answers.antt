@@ -1,4 +1,4 @@
-use Rattle.std.proofs.Common.{◌≡◌, IfOk, ap, sym, subst, ◌∙◌, map, Contains}
+use Rattle.std.proofs.Common.{◌≡◌, IfOk, ap, sym, subst, ◌∙◌, map, Contains, length}
 use Rattle.member_lists.specs.Lists.{list_of}
 use Rattle.shared_lists.specs.Shared.{SharedView}
 use Rattle.shared_lists.specs.Places.{item_at}
@@ -7,7 +7,7 @@ use Rattle.shared_lists.proofs.Marking.{place_there}
 use Rattle.shared_lists.proofs.SharedLists.items.Goals as goal
 
 pub items_at-requires : goal.items_at-requires
-items_at-requires c x inside = place_there c.self.inside.several c.self.inside.places c.self.inside.further c.self.inside.keys c.self.inside.fits c.self.invariant c.args.self.now c.self.view_is c.args.list x (subst (λ xs. Contains xs x) (c.deref.ensures.value ∙ c.in_ok-places.ensures) inside)
+items_at-requires c x inside = place_there c.self.inside.several c.self.inside.places c.self.inside.further c.self.inside.keys (length c.self.inside.lists.items) c.self.invariant.0 c.args.self.now c.self.view_is c.args.list x (subst (λ xs. Contains xs x) (c.deref.ensures.value ∙ c.in_ok-places.ensures) inside)
 
 pub returns : goal.returns
 returns c = subst (λ xs. IfOk c.items_at.result (λ items. items.items ≡ xs))
