@@ -1,19 +1,19 @@
 -- What the tables have of a port is so in each state that they show.
 use Rattle.std.proofs.Common.{◌≡◌, ℕ, ◌+◌, Option, Some, None, List, [], ◌∷◌, ◌++◌, length, refl, sym, ap, ◌∙◌, arith}
-use Rattle.std.specs.Prelude.{is_some, slice_get}
+use Rattle.std.specs.Prelude.{drop, IfNone, IfSome, is_some, slice_get}
 use Rattle.std.specs.Option.{option_to_list, unwrap_or}
 use Rattle.std.specs.FinMap as map
 use Rattle.mach_types.specs.Messages.{Entry}
 use Rattle.mach_types.specs.Tokens.{Request}
 use Rattle.mach_model.specs.State.{State, queue}
-use Rattle.port.specs.Ports.{PortView}
+use Rattle.port.specs.Ports.{PortView, sets_in}
 use Rattle.port.specs.declared.Attributes.{Attributes}
 use Rattle.rights.specs.Counts.{no_rights}
 use Rattle.rights.specs.declared.Counts.{Counts}
 use Rattle.copyin_base.specs.Kept.{Kept}
 use Rattle.copyin_base.specs.Shows.{Shows, AllKept}
 use Rattle.copyin_base.specs.Worlds.{WorldView, port_at}
-use Rattle.mach_state.specs.Said.{SaysPort}
+use Rattle.mach_state.specs.Said.{SaysPort, number_of}
 use Rattle.mach_state.specs.declared.states.PortState.{PortState}
 
 kept_length : (p : ℕ) (ms : List Kept) (es : List Entry) → AllKept p ms es → length ms ≡ length es
@@ -33,6 +33,7 @@ pub record IsRead (w : WorldView) (p : ℕ) (v : PortView Kept) (a : Attributes)
   pub sequence : said.sequence ≡ a.sequence
   pub set : said.set ≡ a.set
   pub none : v.attributes.set ≡ None → v.more ≡ []
+  pub more_sets : said.more_sets ≡ number_of (drop 1 (sets_in v))
   pub send_rights : said.send_rights ≡ c.send
   pub once_rights : said.once_rights ≡ c.send_once + c.destination
   pub for_no_senders : said.no_senders ≡ map.get w.requests.no_senders.map p
@@ -54,8 +55,14 @@ read_says w s sh p v a c said r =
       make_send = sym agree.make_send ∙ ap (λ (a : Attributes). a.make_send) r.own ∙ sym r.make_send;
       sequence = sym agree.sequence ∙ ap (λ (a : Attributes). a.sequence) r.own ∙ sym r.sequence;
       set = ap (λ (xs : List ℕ). slice_get xs 0) (sym agree.sets) ∙ first_set v.attributes.set v.more r.none ∙ ap (λ (a : Attributes). a.set) r.own ∙ sym r.set;
+      more_sets = ap (λ (xs : List ℕ). number_of (drop 1 xs)) (sym agree.sets) ∙ sym r.more_sets;
       send_rights = sym counts.senders ∙ ap (λ (c : Counts). c.send) own ∙ sym r.send_rights;
       once_rights = sym counts.once_rights ∙ ap (λ (c : Counts). c.send_once + c.destination) own ∙ sym r.once_rights;
       for_no_senders = sh.agrees.of_requests.standing (Request.no_senders p) ∙ ap is_some (sym r.for_no_senders);
       for_its_end = sh.agrees.of_requests.standing (Request.port_destroyed p) ∙ ap is_some (sym r.for_its_end);
     }
+
+-- Where the first of them is told, the others are left.
+pub others_left : (told : Option ℕ) (old new : List ℕ) → IfSome told (λ x. old ≡ x ∷ new) → IfNone told ((old ≡ []) × (new ≡ [])) → new ≡ drop 1 old
+others_left None old new some none = none.1 ∙ sym (ap (drop 1) none.0)
+others_left (Some x) old new some none = sym (ap (drop 1) some)

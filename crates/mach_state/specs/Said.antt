@@ -1,5 +1,5 @@
 -- What is said of a task's name and of a port, and when that is true of a state of the machine.
-use Rattle.std.specs.Prelude.{◌≡◌, ℕ, true, false, length, slice_get, Option, Some, None, is_some}
+use Rattle.std.specs.Prelude.{◌≡◌, ℕ, ◌^◌, ◌-◌, true, false, List, drop, length, min, slice_get, Option, Some, None, is_some}
 use Rattle.mach_types.specs.Tokens.{receive, send, send_once, Request, count, is_of}
 use Rattle.mach_model.specs.State.{State, Target, lookup, queue, held, Holds}
 use Rattle.mach_model.specs.Telling.{one_if}
@@ -21,7 +21,11 @@ abbrev pub IsNameSaid : State → (task name : ℕ) → Option NameState → Typ
 IsNameSaid s task name (Some said) = SaysName s task name said
 IsNameSaid s task name None = lookup s task name ≡ None
 
--- The port lives, and its queue, numbers, first set, rights and requests are these.
+-- How many there are, as 64 bits say it: 2^64 - 1 stands for more.
+abbrev pub number_of : List ℕ → ℕ
+number_of xs = min (length xs) (2 ^ 64 - 1)
+
+-- The port lives, and its queue, numbers, sets, rights and requests are these.
 pub record SaysPort (s : State) (p : ℕ) (said : PortState) : Type 0 where
   pub live : s.live_port p ≡ true
   pub waiting : length (queue s p) ≡ said.queued
@@ -29,6 +33,7 @@ pub record SaysPort (s : State) (p : ℕ) (said : PortState) : Type 0 where
   pub make_send : s.make_send p ≡ said.make_send
   pub sequence : s.sequence p ≡ said.sequence
   pub set : slice_get (s.sets_of p) 0 ≡ said.set
+  pub more_sets : number_of (drop 1 (s.sets_of p)) ≡ said.more_sets
   pub send_rights : count (is_of send p) s.ledger ≡ said.send_rights
   pub once_rights : count (is_of send_once p) s.ledger ≡ said.once_rights
   pub for_no_senders : s.stands (Request.no_senders p) ≡ is_some said.no_senders

@@ -1,8 +1,11 @@
 //! What the tables say of a name and of a port.
-ghost use Rattle.std.specs.Prelude.{◌≡◌, IfSome};
+ghost use Rattle.std.specs.Prelude.{◌≡◌, drop, IfSome, Some};
 ghost use Rattle.mach_model.specs.State.{State};
+ghost use Rattle.copyin_base.specs.Kept.{Kept};
 ghost use Rattle.copyin_base.specs.Shows.{Shows};
-ghost use Rattle.mach_state.specs.Said.{IsNameSaid, IsPortSaid, Receives};
+ghost use Rattle.copyin_base.specs.Worlds.{port_at};
+ghost use Rattle.port.specs.Ports.{PortView, sets_in};
+ghost use Rattle.mach_state.specs.Said.{IsNameSaid, IsPortSaid, Receives, number_of};
 
 use copyin_base::World;
 use mach_types::{Name, PortId, SetId, TaskId};
@@ -25,7 +28,7 @@ pub struct PortState {
     pub holder: Holder,
     /// The set that the port is in; the first of them, where it is in several.
     pub set: Option<SetId>,
-    /// In how many sets it is beside the first. Nothing is promised of this number.
+    /// In how many sets it is beside the first; 2^64 - 1 stands for more.
     pub more_sets: usize,
     /// How many messages are queued.
     pub queued: usize,
@@ -59,15 +62,18 @@ pub fn name_state(world: &World, task: TaskId, name: Name) -> Option<NameState>
 }
 
 /// Returns in how many sets the port is beside the first. Linear in them.
-fn count_more_sets(world: &World, port: PortId) -> usize {
+fn count_more_sets(world: &World, port: PortId) -> usize
+    ensures { (v : PortView Kept) → port_at world.now port ≡ Some v → result ≡ number_of (drop 1 (sets_in v)) }
+{
     let Some(mut sets) = world.sets_of(port) else {
         return 0;
     };
-    let mut count: usize = 0;
+    sets.next_set();
+    let mut more: usize = 0;
     while let Some(_) = sets.next_set() {
-        count = count.saturating_add(1);
+        more = more.saturating_add(1);
     }
-    count.saturating_sub(1)
+    more
 }
 
 /// Returns what the tables say of a port; `None` if it doesn't live. Linear in its sets.

@@ -30,6 +30,7 @@ returns c s shown =
       sequence = refl;
       set = refl;
       none = c.find_attributes.ensures.none seen.0 seen.1;
+      more_sets = c.count_more_sets.ensures seen.0 seen.1;
       send_rights = search rules;
       once_rights = search rules;
       for_no_senders = search rules;
