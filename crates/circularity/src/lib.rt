@@ -16,7 +16,7 @@ use port::{Holder, Message, Ports};
 
 // The port in whose queue this one's receive right lies, if it lies in one.
 fn carrier<M: Message>(ports: &Ports<M>, port: PortId) -> Option<PortId>
-    ensures { MatchOption result ((queue : ℕ) → ¬ (IsHeldBy ports.now port (QueueOf queue))) (λ queue. IsHeldBy ports.now port (QueueOf queue)) }
+    ensures { MatchOption result ((queue : ℕ) → ¬ (IsHeldBy ports.now.bare port (QueueOf queue))) (λ queue. IsHeldBy ports.now.bare port (QueueOf queue)) }
 {
     let attributes = ports.attributes(port)?;
     match &attributes.holder {
@@ -27,7 +27,7 @@ fn carrier<M: Message>(ports: &Ports<M>, port: PortId) -> Option<PortId>
 
 // Whether the receive right of one of these ports lies in a queue.
 fn is_any_queued<M: Message>(ports: &Ports<M>, carried: &[PortId]) -> bool
-    ensures { IsTrue result ↔ ((port : ℕ) × (queue : ℕ) × Contains carried.now port × IsHeldBy ports.now port (QueueOf queue)) }
+    ensures { IsTrue result ↔ ((port : ℕ) × (queue : ℕ) × Contains carried.now port × IsHeldBy ports.now.bare port (QueueOf queue)) }
 {
     for port in carried {
         if carrier(ports, *port).is_some() {
@@ -46,7 +46,7 @@ fn is_any_queued<M: Message>(ports: &Ports<M>, carried: &[PortId]) -> bool
 /// circle. Linear in the way and in the ports carried. It takes their product only where the receive right of
 /// one of these is in a queue, and not with a task.
 pub fn closes_loop<M: Message>(ports: &Ports<M>, destination: PortId, carried: &[PortId]) -> bool
-    ensures { IsTrue result ↔ LeadsToAny ports.now destination carried.now }
+    ensures { IsTrue result ↔ LeadsToAny ports.now.bare destination carried.now }
 {
     let any_queued = is_any_queued(ports, carried);
     let mut port = destination;

@@ -49,6 +49,22 @@ fn renew_port(world: &mut World, given: Disposition, mark: Mark)
     }
 }
 
+// Makes a send right from the port's receive right: the port changes, and the right is counted.
+#[inline(always)]
+fn make_send(world: &mut World, mark: Mark)
+    requires entered { (port : ℕ) → mark ≡ mark_of.Port port → IsEntered world.old.ledger port }
+    requires room { world.old.ledger.total + made_by_mark disposition_of.MakeSend mark ≤ most_rights }
+    ensures { world.new ≡ record world.old {
+      ports = ports_copied disposition_of.MakeSend mark world.old.ports;
+      ledger = ledger_copied disposition_of.MakeSend mark world.old.ledger;
+    } }
+{
+    let Mark::Port(port) = &mark else {
+        return;
+    };
+    world.make_send(*port);
+}
+
 // Counts the right that is made, if one is.
 #[inline(always)]
 fn count_right(world: &mut World, given: Disposition, mark: Mark)
@@ -98,8 +114,13 @@ fn count_copied(world: &mut World, carried: Carried)
       ledger = ledger_copied carried.given carried.mark world.old.ledger;
     } }
 {
-    count_right(world, carried.given, carried.mark);
-    renew_port(world, carried.given, carried.mark);
+    match carried.given {
+        Disposition::MakeSend => make_send(world, carried.mark),
+        _ => {
+            count_right(world, carried.given, carried.mark);
+            renew_port(world, carried.given, carried.mark);
+        }
+    }
 }
 
 /// Sends the right under the name by its disposition. What is left stays under the name, the port changes as
@@ -150,16 +171,6 @@ fn copy_kept(world: &mut World, task: TaskId, name: Name, carried: &Carried)
     }
 }
 
-// Counts the send-once right that a message goes by, once it is queued, as unused no more.
-fn use_right(world: &mut World, port: PortId, by_once: bool)
-    requires { by_once ≡ true → 0 < (counts_of world.old.ledger port).send_once }
-    ensures { world.new ≡ record world.old { ledger = ledger_queued by_once port world.old.ledger } }
-{
-    if by_once {
-        world.use_once(port);
-    }
-}
-
 // The message joins the end of its port's queue, in a spare slot, and the right that it goes by is
 // unused no more.
 #[inline(always)]
@@ -172,9 +183,7 @@ fn queue_message(world: &mut World, port: PortId, message: Message)
       ledger = ledger_queued message.by_once port world.old.ledger;
     } }
 {
-    let by_once = message.by_once();
-    use_right(world, port, by_once);
-    world.enqueue(port, message);
+    world.enqueue_counted(port, message);
 }
 
 // A word's right goes, if the word is a name.

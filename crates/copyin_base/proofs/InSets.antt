@@ -3,7 +3,7 @@ use Rattle.std.proofs.Common.{◌≡◌, ℕ, List, [], ◌∷◌, Option, Some,
 use Rattle.std.specs.List.{Contains}
 use Rattle.std.specs.Option.{option_map_or}
 use Rattle.port_base.specs.declared.Membership.{Membership}
-use Rattle.port_base.specs.declared.Membership.TheVariants.{Nowhere, Alone, Several}
+use Rattle.port_base.specs.declared.Membership.TheVariants.{Nowhere}
 use Rattle.port_base.specs.Memberships.{membership_in}
 use Rattle.port.specs.Ports.{PortView, sets_in}
 use Rattle.tables_base.specs.Kept.{Kept}

@@ -11,6 +11,7 @@ pub mod Taking
 pub mod Putting
 pub mod Reading
 pub mod Written
+pub mod Recounted
 pub mod Entering
 pub mod Queueing
 pub mod Lost

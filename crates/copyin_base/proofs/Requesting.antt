@@ -3,7 +3,6 @@ use Rattle.std.proofs.Common.{◌≡◌, ℕ, ◌+◌, ◌<◌, ◌≤◌, ◌^�
 use Rattle.std.specs.Prelude.{is_some, if◌then◌else◌, ◌==◌, ◌&&◌}
 use Rattle.std.specs.Option.{option_map}
 use Rattle.std.specs.FinMap as map
-use Rattle.std.specs.Ordering.{nat_cmp}
 use Rattle.std.proofs.lemmas.Bool.{eq-eqb, lt-ltb, ltb-true}
 use Rattle.mach_types.specs.Tokens.{Kind, receive, send, send_once, Request, no_senders, port_destroyed, dead_name, in_request, Token}
 use Rattle.mach_model.specs.State.{same_request, request_at}
@@ -12,7 +11,7 @@ use Rattle.mach_model.proofs.Names.{removed_own}
 use Rattle.mach_model.proofs.Settling.{request_refl}
 use Rattle.request_table.specs.declared.Request.{Request as NameRequest}
 use Rattle.request_table.specs.Requests.{name_key}
-use Rattle.request_table.specs.Tables.{RequestTablesView, left_by, request_left, renamed_by, request_moved}
+use Rattle.request_table.specs.Tables.{RequestTablesView, left_by, request_left}
 use Rattle.copyin_base.specs.Requests.{notify_of, rights_kept, was_on, rights_went, AreMade, AreEnded, RequestsAgree, requests_after}
 use Rattle.copyin_base.proofs.Gets.{of_some}
 use Rattle.copyin_base.proofs.Putting.{get_removed}

@@ -10,6 +10,7 @@ pub mod Worlds
 pub mod Shows
 pub mod Stands
 pub mod Posted
+pub mod Destinations
 pub mod Serving
 pub mod Finds
 pub mod Asking

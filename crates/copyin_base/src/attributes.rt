@@ -10,6 +10,7 @@ use port::{Attributes, Holder};
 
 impl World {
     /// The attributes of a port that is there. Constant time.
+    #[inline(always)]
     pub fn attributes(&self, port: PortId) -> Attributes
         requires { is_some (port_at self.now port) ≡ true }
         ensures { HasAttributes self.now port result }

@@ -4,7 +4,7 @@ ghost use Rattle.std.specs.FinMap as map;
 ghost use Rattle.mach_types.specs.Numbers.{most_rights};
 ghost use Rattle.mach_types.specs.declared.codes.KernReturn.TheVariants.{NoSpace};
 ghost use Rattle.rights.specs.Counts.{number_of};
-ghost use Rattle.rights.specs.Ledger.{IsEntered, counts_of, made, shifted, taken};
+ghost use Rattle.rights.specs.Ledger.{IsEntered, counts_of, made, taken};
 ghost use Rattle.copyin_base.specs.Coming.{HasRoomForPort, with_new_port};
 
 use crate::world::World;
@@ -18,7 +18,7 @@ impl World {
     pub fn counts(&self, port: PortId) -> Option<Counts>
         ensures { result ≡ map.get self.now.ledger.counts port }
     {
-        self.ledger.counts(port)
+        self.ports.counts(port)
     }
 
     /// How many rights there are in all, at most 4,294,967,295. Constant time.
@@ -26,7 +26,7 @@ impl World {
     pub fn total_rights(&self) -> u32
         ensures { result ≡ self.now.ledger.total }
     {
-        self.ledger.total()
+        self.ledger.total
     }
 
     /// Counts new rights of a port. Takes no memory. Constant time.
@@ -45,7 +45,9 @@ impl World {
         ensures ok { OnOk result (self.new ≡ record self.old { ledger = made self.old.ledger port kind number }) }
         ensures err { OnErr result (self.new ≡ self.old) }
     {
-        self.ledger.make(port, kind, number)
+        self.ledger.make(kind, number)?;
+        self.ports.add_rights(port, kind, number);
+        Ok(())
     }
 
     /// Counts rights of a port as gone. Takes no memory. Constant time.
@@ -55,18 +57,8 @@ impl World {
         requires there { number ≤ number_of kind (counts_of self.old.ledger port) }
         ensures { self.new ≡ record self.old { ledger = taken self.old.ledger port kind number } }
     {
-        self.ledger.take(port, kind, number);
-    }
-
-    /// Counts a send-once right of a port as one to which a queued message was sent. Takes no memory. Constant
-    /// time.
-    #[inline(always)]
-    pub fn use_once(&mut self, port: PortId)
-        requires entered { IsEntered self.old.ledger port }
-        requires there { 0 < (counts_of self.old.ledger port).send_once }
-        ensures { self.new ≡ record self.old { ledger = shifted self.old.ledger port } }
-    {
-        self.ledger.shift(port);
+        self.ledger.take(kind, number);
+        self.ports.take_rights(port, kind, number);
     }
 
     /// Makes a port and its receive right, which the task holds and no name is for yet. Constant time, but
@@ -79,14 +71,8 @@ impl World {
         ensures ok { IfOk result (λ port. (port ≡ self.old.ports.made) × (self.new ≡ with_new_port self.old task)) }
         ensures err { OnErr result (self.new ≡ self.old) }
     {
-        let id = self.ports.next_id();
-        self.ledger.enter(id, RightKind::Receive)?;
-        match self.ports.allocate(task) {
-            Ok(port) => Ok(port),
-            Err(error) => {
-                self.ledger.leave(id);
-                Err(error)
-            }
-        }
+        let port = self.ports.allocate(task)?;
+        self.ledger.enter();
+        Ok(port)
     }
 }

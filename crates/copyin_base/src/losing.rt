@@ -26,8 +26,8 @@ impl World {
         ensures posts { Posts self.old port notice self.new }
         ensures slots { SlotsSuffice self.new }
     {
-        self.ledger.shift(port);
-        self.ports.enqueue(port, Queued::told(notice));
+        self.ledger.shift();
+        self.ports.enqueue_counted(port, Queued::told(notice), true);
     }
 
     /// Loses the port's receive right. The end of the step judges whether the port dies or is sent away.
@@ -38,7 +38,8 @@ impl World {
         requires { CanLose self.old port }
         ensures { LosesPort self.old port self.new }
     {
-        self.ledger.take(port, RightKind::Receive, 1);
+        self.ledger.take(RightKind::Receive, 1);
+        self.ports.take_rights(port, RightKind::Receive, 1);
         self.ports.lose(port);
     }
 
@@ -50,7 +51,8 @@ impl World {
         ensures { MatchBool (is_some (port_at self.old port)) (LosesPort self.old port self.new) (self.new ≡ self.old) }
     {
         if self.ports.lose_if_there(port) {
-            self.ledger.take(port, RightKind::Receive, 1);
+            self.ledger.take(RightKind::Receive, 1);
+            self.ports.take_rights(port, RightKind::Receive, 1);
         }
     }
 
@@ -63,7 +65,7 @@ impl World {
         requires some { number ≤ (counts_of self.old.ledger port).send }
         ensures { LosesSends self.old port number self.new }
     {
-        self.ledger.take(port, RightKind::Send, number);
+        self.take_rights(port, RightKind::Send, number);
         self.note_senderless(port);
     }
 
@@ -82,8 +84,8 @@ impl World {
         requires entered { IsEntered self.old.ledger port }
         ensures { self.new ≡ port_removed self.old port }
     {
-        self.ports.remove(port);
-        self.ledger.leave(port);
+        let counts = self.ports.remove(port).unwrap();
+        self.ledger.leave(counts);
     }
 
     /// Takes the names of a task that lives out of the tables, as they are kept: the task has ended. Takes no

@@ -1,46 +1,84 @@
 //! Messages that are queued and taken, and send rights that are counted as made.
-ghost use Rattle.std.specs.Prelude.{◌≡◌, ◌%◌, ◌+◌, ◌-◌, ◌<◌, ◌^◌, ◌++◌, ◌∷◌, [], None, Some, drop, is_some, slice_get, true};
+ghost use Rattle.std.specs.Prelude.{◌≡◌, ◌<◌, None, Some, is_some, slice_get, true};
 ghost use Rattle.std.specs.Option.{option_and_then};
-ghost use Rattle.port.specs.Ports.{IsLive, PortView, with_port};
+ghost use Rattle.mach_types.specs.Numbers.{most_rights};
+ghost use Rattle.port.specs.Ports.{IsLive, PortView};
+ghost use Rattle.rights.specs.Ledger.{IsEntered, counts_of};
 ghost use Rattle.tables_base.specs.Kept.{Kept};
+ghost use Rattle.copyin_base.specs.Destinations.{IsFrontCounted, destination_right, with_front_received, with_make_send, with_message_queued, with_send_made};
 ghost use Rattle.copyin_base.specs.Worlds.{port_at};
 
 use crate::world::World;
 use mach_types::PortId;
+use rights::RightKind;
 use tables_base::{Message, Queued};
 
+// The right that the message was sent to.
+#[inline(always)]
+fn destination_right(queued: &Queued) -> RightKind
+    ensures { result ≡ destination_right queued.now }
+{
+    if queued.by_once() {
+        RightKind::Destination
+    } else {
+        RightKind::Send
+    }
+}
+
 impl World {
-    /// Puts a message at the end of a port's queue, in a spare slot. Takes no memory. Constant time.
+    /// Takes the message at the front of a port's queue, which has one, and counts the right that it was sent to as gone.
+    /// Raises the port's sequence number by one modulo 2^32; the message's slot is spare again. Takes no memory.
+    /// Constant time: one look-up finds the port.
     #[inline(always)]
-    pub fn enqueue(&mut self, port: PortId, message: Message)
-        requires live { IsLive self.old.ports port }
-        requires spare { 0 < self.old.ports.spare }
-        ensures { (v : PortView Kept) → port_at self.old port ≡ Some v →
-            self.new ≡ record self.old { ports = record (with_port self.old.ports port (record v { queue = v.queue ++ message ∷ [] })) { spare = self.old.ports.spare - 1 } } }
+    pub fn receive_front(&mut self, port: PortId) -> Queued
+        requires waits { is_some (option_and_then (λ p. slice_get p.queue 0) (port_at self.old port)) ≡ true }
+        requires entered { IsEntered self.old.ledger port }
+        requires counted { IsFrontCounted self.old port }
+        ensures front { Some result ≡ option_and_then (λ p. slice_get p.queue 0) (port_at self.old port) }
+        ensures taken { (v : PortView Kept) → port_at self.old port ≡ Some v → self.new ≡ with_front_received self.old port v result }
     {
-        self.ports.enqueue(port, Queued::sent(message));
+        let Some((front, place)) = self.ports.placed_front(port) else {
+            unreachable!()
+        };
+        let kind = destination_right(front);
+        self.ledger.take(kind, 1);
+        self.ports.take_counted(port, place, kind)
     }
 
-    /// Takes the message at the front of a port's queue, which has one, and raises the port's sequence number by one
-    /// modulo 2^32; the message's slot is spare again. Takes no memory. Constant time.
-    pub fn take_front(&mut self, port: PortId) -> Queued
-        requires waits { is_some (option_and_then (λ p. slice_get p.queue 0) (port_at self.old port)) ≡ true }
-        ensures front { Some result ≡ option_and_then (λ p. slice_get p.queue 0) (port_at self.old port) }
-        ensures taken { (v : PortView Kept) → port_at self.old port ≡ Some v →
-            self.new ≡ record self.old { ports = record (with_port self.old.ports port (record v { queue = drop 1 v.queue; attributes = record v.attributes { sequence = (v.attributes.sequence + 1) % 2 ^ 32 } })) { spare = self.old.ports.spare + 1 } } }
+    /// Puts a message at the end of a port's queue, in a spare slot. If it is sent to a send-once right of the port,
+    /// that right is counted as used. Takes no memory. Constant time: one look-up finds the port.
+    #[inline(always)]
+    pub fn enqueue_counted(&mut self, port: PortId, message: Message)
+        requires live { IsLive self.old.ports port }
+        requires spare { 0 < self.old.ports.spare }
+        requires unused { message.by_once ≡ true → 0 < (counts_of self.old.ledger port).send_once }
+        ensures { (v : PortView Kept) → port_at self.old port ≡ Some v → self.new ≡ with_message_queued self.old port v message }
     {
-        match self.ports.take(port) {
-            Some(queued) => queued,
-            None => unreachable!(),
-        }
+        let once = message.by_once();
+        self.ledger.shift_if(once);
+        self.ports
+            .enqueue_counted(port, Queued::sent(message), once);
+    }
+
+    /// Counts a send right made from the port's receive right, modulo 2^32, and among all rights. Takes no memory.
+    /// Constant time: one look-up finds the port.
+    #[inline(always)]
+    pub fn make_send(&mut self, port: PortId)
+        requires entered { IsEntered self.old.ledger port }
+        requires room { self.old.ledger.total < most_rights }
+        ensures there { IsLive self.old.ports port }
+        ensures after { (v : PortView Kept) → port_at self.old port ≡ Some v → self.new ≡ with_send_made self.old port v }
+    {
+        // There is room.
+        let _ = self.ledger.make(RightKind::Send, 1);
+        self.ports.make_send(port);
     }
 
     /// Counts a send right made from the port's receive right, modulo 2^32; where the port is gone, nothing
     /// changes. Takes no memory. Constant time.
     #[inline(always)]
     pub fn count_make_send(&mut self, port: PortId)
-        ensures live { (v : PortView Kept) → port_at self.old port ≡ Some v →
-            self.new ≡ record self.old { ports = with_port self.old.ports port (record v { attributes = record v.attributes { make_send = (v.attributes.make_send + 1) % 2 ^ 32 } }) } }
+        ensures live { (v : PortView Kept) → port_at self.old port ≡ Some v → self.new ≡ with_make_send self.old port v }
         ensures gone { port_at self.old port ≡ None → self.new ≡ self.old }
     {
         self.ports.count_make_send(port);

@@ -1,17 +1,18 @@
 //! Ports that lose their last send right.
 ghost use Rattle.std.specs.Prelude.{◌≡◌, ◌↔◌, IsTrue};
-ghost use Rattle.rights.specs.Ledger.{counts_of};
+ghost use Rattle.port.specs.Ports.{rights_for};
 ghost use Rattle.copyin_base.specs.Changes.{IsSenderless, NotesSenderless};
 
 use crate::world::World;
 use mach_types::PortId;
-use rights::Ledger;
+use port::Ports;
+use tables_base::Queued;
 
 // Whether the port has no send rights.
-fn has_no_sends(ledger: &Ledger, port: PortId) -> bool
-    ensures { IsTrue result ↔ ((counts_of ledger.now port).send ≡ 0) }
+fn has_no_sends(ports: &Ports<Queued>, port: PortId) -> bool
+    ensures { IsTrue result ↔ ((rights_for ports.now port).send ≡ 0) }
 {
-    match ledger.counts(port) {
+    match ports.counts(port) {
         Some(counts) => counts.send == 0,
         None => true,
     }
@@ -24,7 +25,7 @@ impl World {
     {
         self.requests.no_senders.get(port.number()).is_some()
             && self.ports.contains(port)
-            && has_no_sends(&self.ledger, port)
+            && has_no_sends(&self.ports, port)
     }
 
     /// Notes the port for the end of the step where it is there, has no send rights, and a request stands

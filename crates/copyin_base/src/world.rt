@@ -25,9 +25,9 @@ use tables_base::{Queued, TaskNames};
 pub struct World {
     /// The names of each task; none where the task has ended.
     pub(crate) spaces: Vec<Option<Space>>,
-    /// The ports.
+    /// The ports, with how many rights there are for each.
     pub(crate) ports: Ports<Queued>,
-    /// How many rights there are.
+    /// How many rights there are in all.
     pub(crate) ledger: Ledger,
     /// The port sets. Which ports are in one is kept with the ports.
     pub(crate) sets: Sets,
@@ -53,15 +53,16 @@ impl Model for World {
     ghost use Rattle.tables_base.specs.contracts.message.Carried as carried;
     ghost use Rattle.mach_types.specs.contracts.profiles.Profile as profile_of;
     ghost use Rattle.copyin_base.specs.Reading.{AreGiven, live_in, read_spaces};
+    ghost use Rattle.rights.specs.Counted.{IsCounted};
     ghost use Rattle.copyin_base.specs.Worlds.{WorldView, world_code};
 
     ghost Value = { WorldView };
 
     ghost coded = { world_code (space_code entry.the_row.coded) (ports_code (kept_code carried.the_row.coded) attributes.the_row.coded) (ledger_code counts.the_row.coded) (sets_code set_record.the_row.coded) (request_tables_code request.the_row.coded port_id.the_row.coded) profile_of.the_row.coded };
 
-    ghost view = { λ w. record { spaces = read_spaces (live_in w.ports) w.spaces.items; ports = w.ports; ledger = w.ledger; sets = w.sets; requests = w.requests; profile = w.profile } };
+    ghost view = { λ w. record { spaces = read_spaces (live_in w.ports.bare) w.spaces.items; ports = w.ports.bare; ledger = record { counts = w.ports.counts; total = w.ledger.total; unused = w.ledger.unused }; sets = w.sets; requests = w.requests; profile = w.profile } };
 
-    ghost invariant = { λ w. AreGiven w.spaces.items w.ports };
+    ghost invariant = { λ w. AreGiven w.spaces.items w.ports.bare × IsCounted w.ports.counts w.ledger.total w.ledger.unused };
 }
 
 /// Drops each table. It is written out, so that it is proved here alone, and not in each crate that drops a world.
@@ -86,7 +87,7 @@ impl World {
         World {
             spaces: Vec::new(alloc),
             ports: Ports::new(alloc, profile == Profile::Three),
-            ledger: Ledger::new(alloc),
+            ledger: Ledger::new(),
             sets: Sets::new(alloc),
             requests: RequestTables::new(alloc),
             profile,
@@ -170,7 +171,7 @@ impl World {
         ensures all { IsUnusedOfAll self.old.ledger }
     {
         let spare = self.ports.spare();
-        let Some(wanted) = (self.ledger.unused() as usize).checked_add(more) else {
+        let Some(wanted) = (self.ledger.unused as usize).checked_add(more) else {
             return Err(AllocError);
         };
         if wanted <= spare {
@@ -184,6 +185,6 @@ impl World {
         ensures value { IsTrue result ↔ SlotsSuffice self.now }
         ensures all { IsUnusedOfAll self.now.ledger }
     {
-        self.ledger.unused() as usize <= self.ports.spare()
+        self.ledger.unused as usize <= self.ports.spare()
     }
 }

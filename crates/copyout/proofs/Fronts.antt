@@ -1,6 +1,6 @@
 -- The front message of a port, in the tables and in the machine.
 use Rattle.std.proofs.Common.{◌≡◌, ℕ, ◌+◌, List, [], ◌∷◌, Option, Some, refl, sym, ap, subst, ◌∙◌, arith, true, zero, suc, drop, ◌<◌, ◌≤◌, Bool, inl, inr, ◌++◌, length, length-append, false, ◌⊎◌}
-use Rattle.std.specs.Prelude.{is_some, slice_get, min, if◌then◌else◌, ◌==◌, MatchBool, Contains, ◌%◌, ◌^◌}
+use Rattle.std.specs.Prelude.{is_some, slice_get, min, if◌then◌else◌, ◌==◌, MatchBool, Contains}
 use Rattle.std.proofs.lemmas.List.{length-drop}
 use Rattle.std.specs.Option.{option_to_list, option_and_then}
 use Rattle.std.proofs.lemmas.Bool.{eq-eqb}
@@ -28,10 +28,10 @@ use Rattle.mach_model.proofs.Names.{lying_le_of}
 use Rattle.message_codec.proofs.Shapes.{length-words_text}
 use Rattle.message_codec.specs.Spans.{word_count}
 use Rattle.rights.specs.Counts.{number_of}
-use Rattle.rights.specs.Ledger.{counts_of, taken}
+use Rattle.rights.specs.Ledger.{counts_of}
 use Rattle.rights.specs.declared.RightKind.TheVariants as right
 use Rattle.name_space.proofs.Keys.{same_some, some_or_none}
-use Rattle.port.specs.Ports.{PortView, PortsView, NoneQueued, IsNumberedFront, with_port}
+use Rattle.port.specs.Ports.{PortView, PortsView, NoneQueued, IsNumberedFront}
 use Rattle.copyin_base.specs.Kept.{Kept, Keeps, items_of, body_of, items_given, body_given, mark_of}
 use Rattle.copyin_base.specs.Worlds.{WorldView, port_at}
 use Rattle.copyin_base.specs.Shows.{AllKept, Agrees, Shows}
@@ -345,19 +345,3 @@ module _ (w : WorldView) (ports : PortsView Kept) (same : ports ≡ w.ports) (po
 
   pub has_number : (m : Kept) (number : ℕ) → IsNumberedFront ports port m number → IsNumbered w port number
   has_number m number f = λ v there. ap (λ (u : PortView Kept). u.attributes.sequence) (same_found (map.get ports.ports port) v f.view (at v there) f.there) ∙ f.number
-
-abbrev pub front_waits : (w : WorldView) (port : ℕ) (x : Waits w port) → HasFront w port x.front
-front_waits w port x = record { v = x.v; there = x.there; behind = x.behind; queue = x.queue }
-
-abbrev pub takes_front : (w w1 w2 : WorldView) (port : ℕ) (x : Waits w port) →
-    w1 ≡ record w { ports = record (with_port w.ports port (record x.v { queue = x.behind; attributes = record x.v.attributes { sequence = (x.v.attributes.sequence + 1) % 2 ^ 32 } })) { spare = w.ports.spare + 1 } } →
-    w2 ≡ record w1 { ledger = taken w1.ledger port (destination_right x.front) 1 } →
-    TakesFront w port w2
-takes_front w w1 w2 port x e1 e2 = record {
-  v = x.v;
-  there = x.there;
-  front = x.front;
-  behind = x.behind;
-  queue = x.queue;
-  rest = e2 ∙ ap (λ (y : WorldView). record y { ledger = taken y.ledger port (destination_right x.front) 1 }) e1;
-}

@@ -6,18 +6,13 @@ use Rattle.message_codec.specs.declared.header.Header.{Header}
 use Rattle.message_codec.specs.Received.{header_text, received_body, IsLaidOut}
 use Rattle.port.specs.Ports.{PortView, with_port}
 use Rattle.rights.specs.Ledger.{taken}
-use Rattle.rights.specs.declared.RightKind.{RightKind}
-use Rattle.rights.specs.declared.RightKind.TheVariants as right
 use Rattle.copyin_base.specs.declared.Carried.{Carried}
 use Rattle.copyin_base.specs.Changes.{NotesSenderless}
+pub use Rattle.copyin_base.specs.Destinations.{destination_right}
 use Rattle.copyin_base.specs.Kept.{Kept}
 use Rattle.copyin_base.specs.Worlds.{WorldView, port_at}
 use Rattle.std.specs.Option.{option_to_list}
 use Rattle.copyout.specs.Giving.{GivesAll}
-
--- the right by which it goes
-abbrev pub destination_right : Kept → RightKind
-destination_right m = if m.by_once then right.Destination else right.Send
 
 -- The port's front message goes, its number is used, its slot is spare, and its destination right is consumed.
 pub record TakesFront (old : WorldView) (port : ℕ) (new : WorldView) : Type 0 where

@@ -1,15 +1,11 @@
 //! Taking a port's front message.
-ghost use Rattle.std.specs.Prelude.{◌≡◌, ◌≢◌, ℕ, ◌+◌, ◌*◌, ◌%◌, ◌^◌, ◌<◌, ◌≤◌, ◌++◌, [], ◌∷◌, true, Bool, Some, None, length, min, is_some, IfOk, IfErr, OnOk, OnErr, MatchBool, if◌then◌else◌, vec_len, vec_capacity, List};
+ghost use Rattle.std.specs.Prelude.{◌≡◌, ◌≢◌, ℕ, ◌+◌, ◌*◌, ◌^◌, ◌<◌, ◌≤◌, ◌++◌, [], ◌∷◌, true, Bool, Some, None, length, min, is_some, IfOk, IfErr, OnOk, OnErr, MatchBool, if◌then◌else◌, vec_len, vec_capacity, List};
 ghost use Rattle.std.specs.FinMap as map;
 ghost use Rattle.mach_types.specs.Numbers.{most_bytes};
 ghost use Rattle.mach_types.specs.Grammar.{WireBody, body_text};
 ghost use Rattle.message_codec.specs.Received.{IsLaidOut, header_text, received_body};
 ghost use Rattle.message_codec.specs.Spans.{word_count};
 ghost use Rattle.name_space.specs.Names.{SpaceView};
-ghost use Rattle.port.specs.Ports.{with_port};
-ghost use Rattle.rights.specs.declared.RightKind.TheVariants as right;
-ghost use Rattle.rights.specs.Ledger.{IsEntered, counts_of, taken};
-ghost use Rattle.rights.specs.Counts.{number_of};
 ghost use Rattle.copyin_base.specs.Carrying.{spans_in, spans_held};
 ghost use Rattle.copyin_base.specs.Changes.{MakesRoom, NotesSenderless};
 ghost use Rattle.copyin_base.specs.Kept.{Kept, Makes};
@@ -17,7 +13,7 @@ ghost use Rattle.copyin_base.specs.Wanted.{LacksRoomFor};
 ghost use Rattle.copyin_base.specs.Worlds.{WorldView, port_at, HasTask};
 ghost use Rattle.std.specs.Option.{option_to_list};
 ghost use Rattle.copyout.specs.Giving.{GivesAll};
-ghost use Rattle.copyout.specs.Takes.{TakesFront, TakesMessage, NotesFront, destination_right, reply_number, reply_word};
+ghost use Rattle.copyout.specs.Takes.{TakesFront, TakesMessage, NotesFront, reply_number, reply_word};
 ghost use Rattle.copyout.specs.Ready.{CanGive, Waits, HasFront, MayHave, MayReceive, ReadyFor, Delivers, IsNumbered, IsRefusedBy, carried_by};
 ghost use Rattle.copyout.specs.Prepared.{IsPrepared};
 ghost use Rattle.copyout.specs.Wanted.{WantsToPrepare, WantsToReceive, ReturnsSlot};
@@ -32,7 +28,6 @@ use mach_types::bits::COMPLEX;
 use mach_types::limits::{MOST_BYTES, MOST_NAMES};
 use mach_types::{Bytes, KernReturn, Name, PortId, TaskId};
 use message_codec::{Header, Span, put_received};
-use rights::RightKind;
 use smallvec::SmallVec;
 use std::alloc::{AllocError, Global};
 use std::boxed::Box;
@@ -69,30 +64,6 @@ pub(crate) fn header_bits(reply: &Option<Carried>, by_once: bool, is_complex: bo
     reply_number(reply) + local * 0x100 + complex
 }
 
-// Takes the port's front message from the queue; its number is used.
-#[inline(always)]
-fn dequeue(world: &mut World, port: PortId) -> Queued
-    requires { (m : Kept) × HasFront world.old port m }
-    ensures { (m : Kept) (f : HasFront world.old port m) → (result ≡ m)
-        × (world.new ≡ record world.old { ports = record (with_port world.old.ports port (record f.v { queue = f.behind; attributes = record f.v.attributes { sequence = (f.v.attributes.sequence + 1) % 2 ^ 32 } })) { spare = world.old.ports.spare + 1 } }) }
-{
-    world.take_front(port)
-}
-
-// Counts the right by which the message came as gone.
-fn consume(world: &mut World, port: PortId, queued: &Queued)
-    requires entered { IsEntered world.old.ledger port }
-    requires counted { 1 ≤ number_of (destination_right queued.now) (counts_of world.old.ledger port) }
-    ensures { world.new ≡ record world.old { ledger = taken world.old.ledger port (destination_right queued.now) 1 } }
-{
-    let kind = if queued.by_once() {
-        RightKind::Destination
-    } else {
-        RightKind::Send
-    };
-    world.take_rights(port, kind, 1);
-}
-
 /// Takes the port's front message; its number is used, its slot is spare, and its destination right is
 /// consumed.
 ///
@@ -102,9 +73,7 @@ pub fn take_front(world: &mut World, port: PortId) -> Queued
     requires { Waits world.old port }
     ensures { (t : TakesFront world.old port world.new) × (result ≡ t.front) }
 {
-    let queued = dequeue(world, port);
-    consume(world, port, &queued);
-    queued
+    world.receive_front(port)
 }
 
 /// Gives the task the reply right, if there is one, and returns its name.

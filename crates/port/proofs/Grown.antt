@@ -16,7 +16,7 @@ use Rattle.port_base.specs.Ready.{IsMoved, out_of}
 use Rattle.port_base.specs.Records.{waiting_list, noting_list}
 use Rattle.port_base.specs.Turns.{has_some, ready_if}
 use Rattle.port.specs.Ports.{PortView, PortsView}
-use Rattle.port.specs.Records.{ports_of, turns_at, port_in, queued_in, sets_at, IsIndexed, IsMembered, IsSound, IsKept, made_of}
+use Rattle.port.specs.Records.{ports_of, turns_at, port_in, queued_in, rights_in, rights_of, sets_at, IsIndexed, IsMembered, IsSound, IsKept, made_of}
 use Rattle.port.proofs.Changed.{same_view}
 use Rattle.port.proofs.Each.{nothing_in as nothing_there}
 use Rattle.port.proofs.Keys.{same_some, some_or_none, equal_or_not, out_here, out_other, same_gets}
@@ -57,7 +57,13 @@ module _ {M : Type 0} where
   pub ports-empty : (at : ℕ → Option (Record M)) (sets : SharedView) (n : Keyed) → n ≡ map.empty → ports_of at sets n ≡ map.empty
   ports-empty at sets n e = map.empty_of_len _ (len-with_values (λ k. port_in (at k) (more_of sets k)) n ∙ ap (λ (m : Keyed). map.len m) e ∙ map.len-empty nat_cmp ℕ)
 
+  pub rights-empty : (at : ℕ → Option (Record M)) (n : Keyed) → n ≡ map.empty → rights_of at n ≡ map.empty
+  rights-empty at n e = map.empty_of_len _ (len-with_values (λ k. rights_in (at k)) n ∙ ap (λ (m : Keyed). map.len m) e ∙ map.len-empty nat_cmp ℕ)
+
   -- ---- room for more
+
+  pub rights-widened : (s : Slab (Record M)) {t : Slab (Record M)} {keys keys2 : Keyed} → t ≡ record s { capacity = t.capacity } → keys2 ≡ keys → rights_of (get t) keys2 ≡ rights_of (get s) keys
+  rights-widened s {t} {keys} {keys2} e ek = ap (λ (u : Slab (Record M)). rights_of (get u) keys2) e ∙ ap (rights_of (get s)) ek
 
   pub widened : {s t : Slab (Record M)} {keys keys2 : Keyed} {next : Option ℕ} {spare destroyed : List M} {slots : ℕ} {sets sets2 : SharedView} {waiting waiting2 noting noting2 : ListsView} {v : PortsView M} → IsOpen s keys next spare destroyed slots sets waiting noting v →
       t ≡ record s { capacity = t.capacity } → keys2 ≡ keys → (a b room : ℕ) → sets2 ≡ wider sets a b room → sets.all.items ≤ a → (c : ℕ) → waiting2 ≡ record waiting { items = c } → waiting.items ≤ c → (d : ℕ) → noting2 ≡ record noting { items = d } → noting.items ≤ d →

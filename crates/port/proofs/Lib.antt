@@ -10,6 +10,7 @@ pub mod Waiting
 pub mod Changed
 pub mod Grown
 pub mod Messages
+pub mod Recounted
 pub mod Placed
 pub mod Idle
 pub mod Held

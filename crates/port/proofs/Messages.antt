@@ -1,11 +1,12 @@
 -- Ports once a message came to one of them, or its first one is gone, and once its attributes are others.
-use Rattle.std.proofs.Common.{◌≡◌, ◌≢◌, ℕ, ◌+◌, ◌-◌, ◌<◌, Option, Some, List, [], ◌∷◌, ◌++◌, length, refl, ap, sym, subst, ◌∙◌, arith, true, false, eqb}
+use Rattle.std.proofs.Common.{◌≡◌, ◌≢◌, ℕ, ◌+◌, ◌-◌, ◌<◌, Option, Some, List, [], ◌∷◌, ◌++◌, length, refl, ap, sym, subst, ◌∙◌, arith, true, false, eqb, is_some, slice_get}
 use Rattle.std.proofs.lemmas.List.{length_push}
 use Rattle.std.specs.Option.{option_to_list}
 use Rattle.std.specs.FinMap as map
 use Rattle.slab.specs.Slab.{Slab, get, with_value}
 use Rattle.member_lists.specs.Lists.{ListsView}
 use Rattle.shared_lists.specs.Shared.{SharedView, more_of, IsReady}
+use Rattle.rights.specs.declared.Counts.{Counts}
 use Rattle.port_base.specs.declared.Attributes.{Attributes}
 use Rattle.port_base.specs.declared.Membership.{Membership}
 use Rattle.port_base.specs.declared.Membership.TheVariants.{Nowhere}
@@ -26,6 +27,11 @@ use Rattle.port.proofs.Sound.{IsOpen, view_of, is_port}
 pub some_length : {M : Type 0} (ms queue : List M) → ms ≡ queue → false ≡ eqb (length ms) 0 → 0 < length queue
 some_length {M} ms [] same e = absurd (let f : false ≡ true = e ∙ ap (λ (l : List M). eqb (length l) 0) same in cc)
 some_length {M} ms (m ∷ queue) same e = omega arith
+
+-- a queue that has a front has a message
+pub front_some : {M : Type 0} (queue : List M) → is_some (slice_get queue 0) ≡ true → 0 < length queue
+front_some [] e = absurd (let f : false ≡ true = e in cc)
+front_some (m ∷ queue) e = omega arith
 
 module _ {M : Type 0} (sets : SharedView) (key : ℕ) (m : Membership) where
   pub readied_home : (queue : List M) → IsHome sets key m → readied_if queue m ≢ Nowhere → IsHome sets key (readied_if queue m)
@@ -55,9 +61,9 @@ module _ {M : Type 0} {s : Slab (Record M)} {keys : Keyed} {next : Option ℕ} {
 
   -- ---- a message came
 
-  module _ (message : M) (then : SharedView) (then_is : then ≡ readied sets key (readied_if r.queue r.kept.membership)) (t : Slab (Record M)) (set_is : t ≡ with_value s key (record r { queue = r.queue ++ message ∷ [] })) (left : List M) (less : length left + 1 ≡ length spare) where
+  module _ (message : M) (k : Counts) (then : SharedView) (then_is : then ≡ readied sets key (readied_if r.queue r.kept.membership)) (t : Slab (Record M)) (set_is : t ≡ with_value s key (record r { queue = r.queue ++ message ∷ []; counts = k })) (left : List M) (less : length left + 1 ≡ length spare) where
     abbrev queued : Record M
-    queued = record r { queue = r.queue ++ message ∷ [] }
+    queued = record r { queue = r.queue ++ message ∷ []; counts = k }
 
     queued_change : Change s keys next spare destroyed slots sets waiting noting v id key r queued t
     queued_change = change o id key r queued found here refl set_is
@@ -80,10 +86,10 @@ module _ {M : Type 0} {s : Slab (Record M)} {keys : Keyed} {next : Option ℕ} {
 
   -- ---- the first message is gone
 
-  module _ (b : Attributes) (set_same : b.set ≡ r.kept.attributes.set) (holder_same : b.holder ≡ r.kept.attributes.holder) (message : M) (rest : List M) (some : r.queue ≡ message ∷ rest) (then : SharedView) (then_is : then ≡ emptied sets key r.kept.membership rest)
-      (t : Slab (Record M)) (set_is : t ≡ with_value s key (record r { queue = rest; kept = record r.kept { attributes = b } })) (left more : List M) (balance : length left + length more ≡ length spare + length destroyed + 1) where
+  module _ (b : Attributes) (set_same : b.set ≡ r.kept.attributes.set) (holder_same : b.holder ≡ r.kept.attributes.holder) (message : M) (rest : List M) (some : r.queue ≡ message ∷ rest) (k : Counts) (then : SharedView) (then_is : then ≡ emptied sets key r.kept.membership rest)
+      (t : Slab (Record M)) (set_is : t ≡ with_value s key (record r { queue = rest; kept = record r.kept { attributes = b }; counts = k })) (left more : List M) (balance : length left + length more ≡ length spare + length destroyed + 1) where
     abbrev taken : Record M
-    taken = record r { queue = rest; kept = record r.kept { attributes = b } }
+    taken = record r { queue = rest; kept = record r.kept { attributes = b }; counts = k }
 
     taken_change : Change s keys next spare destroyed slots sets waiting noting v id key r taken t
     taken_change = change o id key r taken found here refl set_is
@@ -106,9 +112,9 @@ module _ {M : Type 0} {s : Slab (Record M)} {keys : Keyed} {next : Option ℕ} {
 
   -- ---- other attributes
 
-  module _ (b : Attributes) (set_same : b.set ≡ r.kept.attributes.set) (holder_same : b.holder ≡ r.kept.attributes.holder) (t : Slab (Record M)) (set_is : t ≡ with_value s key (record r { kept = record r.kept { attributes = b } })) where
+  module _ (b : Attributes) (set_same : b.set ≡ r.kept.attributes.set) (holder_same : b.holder ≡ r.kept.attributes.holder) (k : Counts) (t : Slab (Record M)) (set_is : t ≡ with_value s key (record r { kept = record r.kept { attributes = b }; counts = k })) where
     abbrev counted : Record M
-    counted = record r { kept = record r.kept { attributes = b } }
+    counted = record r { kept = record r.kept { attributes = b }; counts = k }
 
     counted_change : Change s keys next spare destroyed slots sets waiting noting v id key r counted t
     counted_change = change o id key r counted found here refl set_is

@@ -1,5 +1,5 @@
 -- Ports as they are kept and as they are seen, and a port by its identity.
-use Rattle.std.proofs.Common.{◌≡◌, ℕ, suc, zero, ◌+◌, ◌<◌, refl, ap, sym, ◌∙◌, Option, Some, None, IsSome, IfSome, is_some, Bor, slice_get, true, false, List, [], ◌∷◌, length, get_or, arith}
+use Rattle.std.proofs.Common.{◌≡◌, ℕ, suc, zero, ◌+◌, ◌<◌, refl, ap, sym, subst, ◌∙◌, Option, Some, None, IsSome, IfSome, is_some, Bor, slice_get, true, false, List, [], ◌∷◌, length, get_or, arith}
 use Rattle.std.specs.List.{sum_by}
 use Rattle.std.specs.Option.{option_copied}
 use Rattle.std.specs.FinMap as map
@@ -10,10 +10,12 @@ use Rattle.port_base.specs.declared.Record.{Record}
 use Rattle.member_lists.specs.Lists.{ListsView}
 use Rattle.shared_lists.specs.Shared.{SharedView, more_of}
 use Rattle.port_base.specs.Records.{lost_list, doomed_list, noted_list}
-use Rattle.port.specs.Ports.{PortView, PortsView}
-use Rattle.port.specs.Records.{ports_of, turns_at, ids_in, queued_in, IsKept, made_of}
+use Rattle.rights.specs.declared.Counts.{Counts}
+use Rattle.std.specs.Ordering.{nat_cmp}
+use Rattle.port.specs.Ports.{PortView, PortsView, CountedPorts}
+use Rattle.port.specs.Records.{ports_of, turns_at, ids_in, queued_in, rights_of, IsKept, made_of}
 use Rattle.port.proofs.Keys.{same_some, some_or_none}
-use Rattle.port.proofs.Records.{Keyed, port_of, Turns, port_at, no_port_at, live_key}
+use Rattle.port.proofs.Records.{Keyed, port_of, Turns, port_at, no_port_at, live_key, rights-kept}
 
 pub no_true : false ≡ true → ⊥
 no_true e = cc
@@ -31,6 +33,22 @@ view_of s keys next spare destroyed sets waiting noting = record {
   noted = ids_in (get s) noting noted_list;
   several = sets.several;
 }
+
+-- the two parts of what is seen
+pub bare_is : {M : Type 0} {v w : CountedPorts M} → v ≡ w → v.bare ≡ w.bare
+bare_is {M} e = ap (λ (x : CountedPorts M). x.bare) e
+
+pub counts_is : {M : Type 0} {v w : CountedPorts M} → v ≡ w → v.counts ≡ w.counts
+counts_is {M} e = ap (λ (x : CountedPorts M). x.counts) e
+
+pub places_are : {M : Type 0} {v w : CountedPorts M} → v ≡ w → v.places ≡ w.places
+places_are {M} e = ap (λ (x : CountedPorts M). x.places) e
+
+pub all_are : {M : Type 0} {v w : CountedPorts M} → v.bare ≡ w.bare → v.counts ≡ w.counts → v.places ≡ w.places → v ≡ w
+all_are {M} {v} {w} e f g =
+    ap (λ x. let u : CountedPorts M = record { bare = x; counts = v.counts; places = v.places } in u) e
+    ∙ ap (λ y. let u : CountedPorts M = record { bare = w.bare; counts = y; places = v.places } in u) f
+    ∙ ap (λ z. let u : CountedPorts M = record { bare = w.bare; counts = w.counts; places = z } in u) g
 
 -- ports that are kept so, and seen so
 pub record IsOpen {M : Type 0} (s : Slab (Record M)) (keys : Keyed) (next : Option ℕ) (spare destroyed : List M) (slots : ℕ) (sets : SharedView) (waiting noting : ListsView) (v : PortsView M) : Type 0 where
@@ -61,8 +79,15 @@ module _ {M : Type 0} where
     pub turns-set : Turns (get s) (get (with_value s key a)) key (Some a)
     turns-set = grind (arith, get_or-set_same, within, get_or-set_other)
 
+    pub turns-put : {t : Slab (Record M)} → t ≡ with_value s key a → Turns (get s) (get t) key (Some a)
+    turns-put e = subst (λ (u : Slab (Record M)). Turns (get s) (get u) key (Some a)) (sym e) turns-set
+
     pub sum-set : sum_by queued_in (with_value s key a).slots + length r.queue ≡ sum_by queued_in s.slots + length a.queue
     sum-set = grind (arith, sum_by-set, within)
+
+  -- how many rights there are stays where a record changes but for its counts
+  pub rights-set : (s : Slab (Record M)) (key : ℕ) (r a : Record M) {t : Slab (Record M)} → get s key ≡ Some r → t ≡ with_value s key a → a.counts ≡ r.counts → (keys : Keyed) → rights_of (get t) keys ≡ rights_of (get s) keys
+  rights-set s key r a {t} here e same keys = rights-kept (get s) (get t) keys key r a here (turns-put s key r a here e) same
 
   -- ---- after a port has come
 

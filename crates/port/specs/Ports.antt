@@ -6,7 +6,9 @@ use Rattle.std.specs.Ordering.{nat_cmp}
 use Rattle.port_base.specs.declared.Attributes.{Attributes}
 use Rattle.port_base.specs.Turns.{ReadyLists, turns_of, left, joined, passed, ready_if, sets_without}
 use Rattle.std.specs.List.{Contains}
-use Rattle.std.specs.Option.{option_to_list}
+use Rattle.std.specs.Option.{option_to_list, unwrap_or}
+use Rattle.rights.specs.declared.Counts.{Counts}
+use Rattle.rights.specs.Counts.{no_rights}
 pub use Rattle.port_base.specs.Attributes.{first_attributes}
 pub use Rattle.member_lists.specs.Lists.{without}
 
@@ -41,6 +43,28 @@ ports_code {M} m a = code_by
     (λ v. (v.ports, (v.ready, (v.made, (v.spare, (v.destroyed, (v.lost, (v.doomed, (v.noted, v.several)))))))))
     (λ p. record { ports = p.0; ready = p.1.0; made = p.1.1.0; spare = p.1.1.1.0; destroyed = p.1.1.1.1.0; lost = p.1.1.1.1.1.0; doomed = p.1.1.1.1.1.1.0; noted = p.1.1.1.1.1.1.1.0; several = p.1.1.1.1.1.1.1.1 })
     (λ _. refl)
+
+-- the ports, and how many rights there are for each
+pub record CountedPorts (M : Type 0) : Type 0 where
+  pub bare : PortsView M
+  pub counts : map.FinMap nat_cmp Counts
+  -- the place of each port, until a port comes or goes
+  pub places : map.FinMap nat_cmp ℕ
+
+abbrev pub counted_code : {M : Type 0} → Coded (PortsView M) → Coded Counts → Coded (CountedPorts M)
+counted_code {M} ports counts = code_by (PortsView M × (map.FinMap nat_cmp Counts × map.FinMap nat_cmp ℕ)) (coded× ports (coded× (map.code coded_ℕ counts) (map.code coded_ℕ coded_ℕ))) (λ v. (v.bare, (v.counts, v.places))) (λ p. record { bare = p.0; counts = p.1.0; places = p.1.1 }) (λ _. refl)
+
+-- how many rights there are for a port; none where it is gone
+abbrev pub rights_for : {M : Type 0} → CountedPorts M → ℕ → Counts
+rights_for v port = unwrap_or (map.get v.counts port) no_rights
+
+-- those for one port are so many, and all else is as it was
+abbrev pub with_rights : {M : Type 0} → CountedPorts M → ℕ → Counts → CountedPorts M
+with_rights v port counts = record v { counts = map.insert v.counts port counts }
+
+-- The port is there, and so are its counts.
+abbrev pub HasRights : {M : Type 0} → CountedPorts M → ℕ → Type 0
+HasRights v port = map.contains_key v.counts port ≡ true
 
 module _ {M : Type 0} where
   abbrev pub IsLive : PortsView M → ℕ → Type 0

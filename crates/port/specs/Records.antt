@@ -3,6 +3,8 @@ use Rattle.std.specs.Prelude.{◌≡◌, ◌↔◌, ℕ, ◌+◌, ◌<◌, ◌^�
 use Rattle.std.specs.List.{sum_by, Contains}
 use Rattle.std.specs.FinMap as map
 use Rattle.std.specs.Ordering.{nat_cmp}
+use Rattle.rights.specs.declared.Counts.{Counts}
+use Rattle.rights.specs.Counts.{no_rights}
 use Rattle.slab.specs.Slab.{Slab, get}
 use Rattle.member_lists.specs.Lists.{ListsView, list_of, without}
 use Rattle.member_lists.specs.Values.{with_values}
@@ -44,6 +46,14 @@ module _ {M : Type 0} where
 
   abbrev pub ports_of : (ℕ → Option (Record M)) → SharedView → map.FinMap nat_cmp ℕ → map.FinMap nat_cmp (PortView M)
   ports_of at sets keys = with_values (λ key. port_in (at key) (more_of sets key)) keys
+
+  abbrev pub rights_in : Option (Record M) → Counts
+  rights_in None = no_rights
+  rights_in (Some r) = r.counts
+
+  -- how many rights there are for each port
+  abbrev pub rights_of : (ℕ → Option (Record M)) → map.FinMap nat_cmp ℕ → map.FinMap nat_cmp Counts
+  rights_of at keys = with_values (λ key. rights_in (at key)) keys
 
   -- the identities of the ports in a list
   abbrev pub ids_in : (ℕ → Option (Record M)) → ListsView → (list : ℕ) → List ℕ

@@ -18,11 +18,12 @@ impl<M: Message> Ports<M> {
     /// returns whether it is. Where it is gone, nothing changes. Takes no memory. Constant time.
     #[inline(always)]
     pub fn lose_if_there(&mut self, port: PortId) -> bool
-        requires { (p : PortView M) → map.get self.old.ports port ≡ Some p → CanHold p.attributes.holder }
-        ensures there { (p : PortView M) → map.get self.old.ports port ≡ Some p →
-            self.new ≡ record (with_port self.old port (held p Holder.Nobody)) { lost = self.old.lost ++ port ∷ [] } }
-        ensures gone { map.get self.old.ports port ≡ None → self.new ≡ self.old }
-        ensures told { result ≡ map.contains_key self.old.ports port }
+        requires { (p : PortView M) → map.get self.old.bare.ports port ≡ Some p → CanHold p.attributes.holder }
+        ensures there { (p : PortView M) → map.get self.old.bare.ports port ≡ Some p →
+            self.new.bare ≡ record (with_port self.old.bare port (held p Holder.Nobody)) { lost = self.old.bare.lost ++ port ∷ [] } }
+        ensures gone { map.get self.old.bare.ports port ≡ None → self.new ≡ self.old }
+        ensures told { result ≡ map.contains_key self.old.bare.ports port }
+        ensures counts { self.new.counts ≡ self.old.counts }
     {
         let Some(key) = key_of(&self.by_id, port) else {
             return false;
@@ -37,10 +38,11 @@ impl<M: Message> Ports<M> {
     /// messages. Answers whether it has any. Takes no memory. Constant time.
     #[inline(always)]
     pub fn doom_first(&mut self) -> bool
-        requires { 0 < length self.old.lost }
-        ensures doomed { (port : ℕ) (p : PortView M) → slice_get self.old.lost 0 ≡ Some port → map.get self.old.ports port ≡ Some p →
-            self.new ≡ record (with_port self.old port (held p Holder.Doomed)) { lost = without port self.old.lost; doomed = self.old.doomed ++ port ∷ [] } }
-        ensures queued { (port : ℕ) (p : PortView M) → slice_get self.old.lost 0 ≡ Some port → map.get self.old.ports port ≡ Some p → (IsTrue result ↔ (0 < length p.queue)) }
+        requires { 0 < length self.old.bare.lost }
+        ensures doomed { (port : ℕ) (p : PortView M) → slice_get self.old.bare.lost 0 ≡ Some port → map.get self.old.bare.ports port ≡ Some p →
+            self.new.bare ≡ record (with_port self.old.bare port (held p Holder.Doomed)) { lost = without port self.old.bare.lost; doomed = self.old.bare.doomed ++ port ∷ [] } }
+        ensures queued { (port : ℕ) (p : PortView M) → slice_get self.old.bare.lost 0 ≡ Some port → map.get self.old.bare.ports port ≡ Some p → (IsTrue result ↔ (0 < length p.queue)) }
+        ensures counts { self.new.counts ≡ self.old.counts }
     {
         let key = self.waiting.first(LOST).unwrap();
         hold_at(&mut self.records, key, Holder::Doomed);
@@ -51,10 +53,10 @@ impl<M: Message> Ports<M> {
     /// The port that was doomed last of those that weren't removed. Constant time.
     #[inline(always)]
     pub fn last_doomed(&self) -> Option<PortId>
-        ensures last { IfSome result (λ port. (front : List ℕ) × (self.now.doomed ≡ front ++ port ∷ [])) }
-        ensures some { IfSome result (λ port. IsHeldBy self.now port Holder.Doomed) }
-        ensures none { IfNone result (NoneHeldBy self.now Holder.Doomed) }
-        ensures all { (port : ℕ) → Contains self.now.doomed port ↔ IsHeldBy self.now port Holder.Doomed }
+        ensures last { IfSome result (λ port. (front : List ℕ) × (self.now.bare.doomed ≡ front ++ port ∷ [])) }
+        ensures some { IfSome result (λ port. IsHeldBy self.now.bare port Holder.Doomed) }
+        ensures none { IfNone result (NoneHeldBy self.now.bare Holder.Doomed) }
+        ensures all { (port : ℕ) → Contains self.now.bare.doomed port ↔ IsHeldBy self.now.bare port Holder.Doomed }
     {
         let key = self.waiting.last(DOOMED)?;
         Some(self.records[key].id)

@@ -21,7 +21,7 @@ impl<M: Message> Ports<M> {
 
     /// The message at the front of a port's queue, if the port is there and has one. Constant time.
     pub fn front(&self, port: PortId) -> Option<&M>
-        ensures { option_copied result ≡ option_and_then (λ p. slice_get p.queue 0) (map.get self.now.ports port) }
+        ensures { option_copied result ≡ option_and_then (λ p. slice_get p.queue 0) (map.get self.now.bare.ports port) }
     {
         let key = key_of(&self.by_id, port)?;
         self.records[key].queue.front()
@@ -29,7 +29,7 @@ impl<M: Message> Ports<M> {
 
     /// A port's queue, to read, if the port is there. Constant time.
     pub fn queue(&self, port: PortId) -> Option<&LinkedList<M>>
-        ensures { option_copied result ≡ option_and_then (λ p. Some p.queue) (map.get self.now.ports port) }
+        ensures { option_copied result ≡ option_and_then (λ p. Some p.queue) (map.get self.now.bare.ports port) }
     {
         let key = key_of(&self.by_id, port)?;
         Some(&self.records[key].queue)
@@ -39,8 +39,8 @@ impl<M: Message> Ports<M> {
     /// port is there and has one. Constant time.
     #[inline(always)]
     pub fn numbered_front(&self, port: PortId) -> Option<(&M, u32)>
-        ensures some { IfSome result (λ front. IsNumberedFront self.now port front.0.now front.1) }
-        ensures none { IfNone result (NoneQueued self.now port) }
+        ensures some { IfSome result (λ front. IsNumberedFront self.now.bare port front.0.now front.1) }
+        ensures none { IfNone result (NoneQueued self.now.bare port) }
     {
         let key = key_of(&self.by_id, port)?;
         let record = &self.records[key];
@@ -51,10 +51,10 @@ impl<M: Message> Ports<M> {
     /// Whether a port is in a set, and how many messages it has, if it is there. Constant time.
     #[inline(always)]
     pub fn standing(&self, port: PortId) -> Option<Standing>
-        ensures some { IfSome result (λ s. (p : PortView M) → map.get self.now.ports port ≡ Some p → (s.is_member ≡ is_some p.attributes.set) × (s.queued ≡ length p.queue)) }
-        ensures none { IfNone result (map.get self.now.ports port ≡ None) }
-        ensures there { IfSome result (λ _. is_some (map.get self.now.ports port) ≡ true) }
-        ensures alone { (p : PortView M) → map.get self.now.ports port ≡ Some p → p.attributes.set ≡ None → p.more ≡ [] }
+        ensures some { IfSome result (λ s. (p : PortView M) → map.get self.now.bare.ports port ≡ Some p → (s.is_member ≡ is_some p.attributes.set) × (s.queued ≡ length p.queue)) }
+        ensures none { IfNone result (map.get self.now.bare.ports port ≡ None) }
+        ensures there { IfSome result (λ _. is_some (map.get self.now.bare.ports port) ≡ true) }
+        ensures alone { (p : PortView M) → map.get self.now.bare.ports port ≡ Some p → p.attributes.set ≡ None → p.more ≡ [] }
     {
         let key = key_of(&self.by_id, port)?;
         let record = &self.records[key];

@@ -58,9 +58,9 @@ impl<M: Message> Ports<M> {
     /// The port of the set that has a message and whose turn it is, if there is one. A port gets its turn at
     /// the end: when it becomes ready in the set, and when its turn there is passed. Constant time.
     pub fn first_ready(&self, set: SetId) -> Option<PortId>
-        ensures first { result ≡ slice_get (turns_of self.now.ready set) 0 }
-        ensures some { IfSome result (λ port. IsReadyIn self.now set port) }
-        ensures none { IfNone result (NoneReadyIn self.now set) }
+        ensures first { result ≡ slice_get (turns_of self.now.bare.ready set) 0 }
+        ensures some { IfSome result (λ port. IsReadyIn self.now.bare set port) }
+        ensures none { IfNone result (NoneReadyIn self.now.bare set) }
     {
         let key = self.sets.first_ready(set.number())?;
         Some(self.records[key].id)
@@ -70,7 +70,8 @@ impl<M: Message> Ports<M> {
     /// are ready. Its turns in other sets stay. Takes no memory. Constant time.
     #[inline(always)]
     pub fn pass_turn(&mut self, set: SetId, port: PortId)
-        ensures { PassesTurn self.old set port self.new }
+        ensures after { PassesTurn self.old.bare set port self.new.bare }
+        ensures counts { self.new.counts ≡ self.old.counts }
     {
         let Some(first) = self.first_ready(set) else {
             return;
@@ -83,8 +84,8 @@ impl<M: Message> Ports<M> {
 
     /// A port of the set, if there is one. Constant time.
     pub fn first_member(&self, set: SetId) -> Option<PortId>
-        ensures some { IfSome result (λ port. IsIn self.now set port) }
-        ensures none { IfNone result (NoneIn self.now set) }
+        ensures some { IfSome result (λ port. IsIn self.now.bare set port) }
+        ensures none { IfNone result (NoneIn self.now.bare set) }
     {
         let key = self.sets.first(set.number())?;
         Some(self.records[key].id)
@@ -94,8 +95,8 @@ impl<M: Message> Ports<M> {
     ///
     /// An error means that memory was refused.
     pub fn members(&self, set: SetId, alloc: Global) -> Result<Vec<PortId>, AllocError>
-        ensures only { IfOk result (λ ports. (port : ℕ) → Contains ports.items port → IsIn self.now set port) }
-        ensures all { IfOk result (λ ports. (port : ℕ) (p : PortView M) → map.get self.now.ports port ≡ Some p → Contains (sets_in p) set → Contains ports.items port) }
+        ensures only { IfOk result (λ ports. (port : ℕ) → Contains ports.items port → IsIn self.now.bare set port) }
+        ensures all { IfOk result (λ ports. (port : ℕ) (p : PortView M) → map.get self.now.bare.ports port ≡ Some p → Contains (sets_in p) set → Contains ports.items port) }
     {
         let keys = self.sets.items(set.number(), alloc)?;
         ids_of(&self.records, &keys, alloc)
@@ -103,8 +104,8 @@ impl<M: Message> Ports<M> {
 
     /// In how many sets a port is, with the first of them; in none, where the port is gone. Constant time.
     pub fn membership(&self, port: PortId) -> Membership
-        ensures live { (p : PortView M) → map.get self.now.ports port ≡ Some p → result ≡ membership_in (sets_in p) }
-        ensures gone { map.get self.now.ports port ≡ None → result ≡ Nowhere }
+        ensures live { (p : PortView M) → map.get self.now.bare.ports port ≡ Some p → result ≡ membership_in (sets_in p) }
+        ensures gone { map.get self.now.bare.ports port ≡ None → result ≡ Nowhere }
     {
         match key_of(&self.by_id, port) {
             Some(key) => member_at(&self.records, key),
@@ -114,7 +115,7 @@ impl<M: Message> Ports<M> {
 
     /// Returns whether a port is there and in the set. Takes no memory. Linear in the port's sets.
     pub fn is_in(&self, port: PortId, set: SetId) -> bool
-        ensures { IsTrue result ↔ IsIn self.now set port }
+        ensures { IsTrue result ↔ IsIn self.now.bare set port }
     {
         let Some(key) = key_of(&self.by_id, port) else {
             return false;
@@ -129,7 +130,7 @@ impl<M: Message> Ports<M> {
 
     /// A port's sets, in the order in which it entered them; `None` where the port is gone. Constant time.
     pub fn sets_of(&self, port: PortId) -> Option<PortSets<'_>>
-        ensures { result ≡ option_map sets_in (map.get self.now.ports port) }
+        ensures { result ≡ option_map sets_in (map.get self.now.bare.ports port) }
     {
         let key = key_of(&self.by_id, port)?;
         Some(PortSets {
@@ -142,8 +143,9 @@ impl<M: Message> Ports<M> {
     /// in another it has its turn after those that are ready there. Takes no memory. Constant time, and linear in
     /// the sets that it leaves.
     pub fn move_to(&mut self, port: PortId, set: Option<SetId>)
-        requires { IsLive self.old port }
-        ensures { (p : PortView M) → map.get self.old.ports port ≡ Some p → self.new ≡ with_port self.old port (in_set p set) }
+        requires { IsLive self.old.bare port }
+        ensures after { (p : PortView M) → map.get self.old.bare.ports port ≡ Some p → self.new.bare ≡ with_port self.old.bare port (in_set p set) }
+        ensures counts { self.new.counts ≡ self.old.counts }
     {
         let key = key_of(&self.by_id, port).unwrap();
         let was = member_at(&self.records, key);
@@ -163,8 +165,9 @@ impl<M: Message> Ports<M> {
     /// A port leaves all its sets, and its make-send count and its sequence number are 0: its receive right
     /// goes. Where it is gone, nothing changes. Takes no memory. Constant time, and linear in its sets.
     pub fn restart(&mut self, port: PortId)
-        ensures live { (p : PortView M) → map.get self.old.ports port ≡ Some p → self.new ≡ with_port self.old port (restarted p) }
-        ensures gone { map.get self.old.ports port ≡ None → self.new ≡ self.old }
+        ensures live { (p : PortView M) → map.get self.old.bare.ports port ≡ Some p → self.new.bare ≡ with_port self.old.bare port (restarted p) }
+        ensures gone { map.get self.old.bare.ports port ≡ None → self.new ≡ self.old }
+        ensures counts { self.new.counts ≡ self.old.counts }
     {
         let Some(key) = key_of(&self.by_id, port) else {
             return;
@@ -181,11 +184,12 @@ impl<M: Message> Ports<M> {
     /// An error means that memory was refused for a further set, or that a port may be in one set alone; all is
     /// then as before.
     pub fn enter(&mut self, port: PortId, set: SetId) -> Result<(), AllocError>
-        requires live { IsLive self.old port }
-        requires apart { ¬ (IsIn self.old set port) }
-        ensures ok { (p : PortView M) → map.get self.old.ports port ≡ Some p → OnOk result (self.new ≡ with_port self.old port (with_sets p (sets_in p ++ set ∷ []))) }
+        requires live { IsLive self.old.bare port }
+        requires apart { ¬ (IsIn self.old.bare set port) }
+        ensures ok { (p : PortView M) → map.get self.old.bare.ports port ≡ Some p → OnOk result (self.new.bare ≡ with_port self.old.bare port (with_sets p (sets_in p ++ set ∷ []))) }
         ensures err { OnErr result (self.new ≡ self.old) }
-        ensures further { (p : PortView M) → map.get self.old.ports port ≡ Some p → OnErr result (sets_in p ≢ []) }
+        ensures further { (p : PortView M) → map.get self.old.bare.ports port ≡ Some p → OnErr result (sets_in p ≢ []) }
+        ensures counts { self.new.counts ≡ self.old.counts }
     {
         let key = key_of(&self.by_id, port).unwrap();
         let is_ready = has_messages(&self.records, key);
@@ -207,9 +211,10 @@ impl<M: Message> Ports<M> {
     /// Takes the first member out of the set, and returns it; `None` where there is none. In its other sets it keeps
     /// its turns. Takes no memory. Constant time.
     pub fn leave_front(&mut self, set: SetId) -> Option<PortId>
-        ensures some { IfSome result (λ first. IsIn self.old set first) }
-        ensures left { (p : PortView M) → IfSome result (λ first. map.get self.old.ports first ≡ Some p → self.new ≡ with_port self.old first (with_sets p (without set (sets_in p)))) }
-        ensures none { IfNone result (NoneIn self.old set × (self.new ≡ self.old)) }
+        ensures some { IfSome result (λ first. IsIn self.old.bare set first) }
+        ensures left { (p : PortView M) → IfSome result (λ first. map.get self.old.bare.ports first ≡ Some p → self.new.bare ≡ with_port self.old.bare first (with_sets p (without set (sets_in p)))) }
+        ensures none { IfNone result (NoneIn self.old.bare set × (self.new.bare ≡ self.old.bare)) }
+        ensures counts { self.new.counts ≡ self.old.counts }
     {
         let key = self.sets.first(set.number())?;
         let was = member_at(&self.records, key);
@@ -222,8 +227,9 @@ impl<M: Message> Ports<M> {
     /// Takes a port out of a set that it is in. In its other sets it keeps its turns. Takes no memory. Linear in
     /// the port's sets.
     pub fn leave(&mut self, port: PortId, set: SetId)
-        requires { IsIn self.old set port }
-        ensures { (p : PortView M) → map.get self.old.ports port ≡ Some p → self.new ≡ with_port self.old port (with_sets p (without set (sets_in p))) }
+        requires { IsIn self.old.bare set port }
+        ensures after { (p : PortView M) → map.get self.old.bare.ports port ≡ Some p → self.new.bare ≡ with_port self.old.bare port (with_sets p (without set (sets_in p))) }
+        ensures counts { self.new.counts ≡ self.old.counts }
     {
         let key = key_of(&self.by_id, port).unwrap();
         let was = member_at(&self.records, key);

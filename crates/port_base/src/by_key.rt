@@ -1,5 +1,5 @@
 //! Records of ports under their keys: what is read of one, and what changes in one.
-ghost use Rattle.std.specs.Prelude.{◌≡◌, ℕ, ◌+◌, ◌<◌, ◌≤◌, ◌^◌, ◌++◌, ◌∷◌, [], List, length, cond, Option, Some, None, IsSome, IfOk, OnOk, true};
+ghost use Rattle.std.specs.Prelude.{◌≡◌, if◌then◌else◌, ℕ, ◌+◌, ◌<◌, ◌≤◌, ◌^◌, ◌++◌, ◌∷◌, [], List, length, cond, Option, Some, None, IsSome, IfOk, OnOk, true};
 ghost use Rattle.std.specs.List.{Contains};
 ghost use Rattle.slab.specs.Slab.{get, with_value, HasRoomFor};
 ghost use Rattle.port_base.specs.declared.Record.{Record as AnyRecord};
@@ -8,12 +8,15 @@ ghost use Rattle.port_base.specs.Memberships.{IsHome, emptied, first_of};
 ghost use Rattle.port_base.specs.declared.Membership.TheVariants.{Nowhere};
 ghost use Rattle.shared_lists.specs.Shared.{IsReady};
 ghost use Rattle.port_base.specs.Turns.{has_some};
+ghost use Rattle.rights.specs.Counts.{all_of, number_of, one_shifted, with_fewer, with_more};
+ghost use Rattle.rights.specs.declared.RightKind.TheVariants.{Send};
 ghost use Rattle.port_base.specs.Records.{readied_sets, left_sets, waiting_list, waits_in, noting_list, ids_at};
 
 use crate::moves::unready;
 use crate::slots::{move_first, pop, push};
 use crate::{Attributes, Holder, Membership, Message, Record};
 use mach_types::PortId;
+use rights::{Counts, RightKind};
 use shared_lists::SharedLists;
 use slab::Slab;
 use std::alloc::{AllocError, Global};
@@ -118,6 +121,34 @@ pub fn take_at<M: Message>(
     pop(&mut record.queue, spare, blank)
 }
 
+/// As [`take_at`], and counts a right of this kind for the port as gone.
+#[inline(always)]
+pub fn take_counted_at<M: Message>(
+    records: &mut Slab<Record<M>>,
+    key: usize,
+    sets: &mut SharedLists,
+    spare: &mut LinkedList<M>,
+    kind: RightKind,
+) -> M
+    requires there { IsSome (get records.old key) }
+    requires some { (r : AnyRecord M) → get records.old key ≡ Some r → 0 < length r.queue }
+    requires counted { (r : AnyRecord M) → get records.old key ≡ Some r → 1 ≤ number_of kind r.counts }
+    requires fit { (r : AnyRecord M) → get records.old key ≡ Some r → length r.queue + length spare.old < 2 ^ 63 }
+    requires home { (r : AnyRecord M) → get records.old key ≡ Some r → IsHome sets.old key r.kept.membership }
+    requires ready { IsReady sets.old key true }
+    ensures after { (r : AnyRecord M) → get records.old key ≡ Some r → (rest : List M) × (r.queue ≡ result ∷ rest) × (records.new ≡ with_value records.old key (record r { queue = rest; kept = record r.kept { attributes = one_received r.kept.attributes }; counts = with_fewer kind 1 r.counts })) }
+    ensures spare { length spare.new ≡ length spare.old + 1 }
+    ensures emptied { (r : AnyRecord M) (rest : List M) → get records.old key ≡ Some r → r.queue ≡ result ∷ rest → sets.new ≡ emptied sets.old key r.kept.membership rest }
+{
+    let record = &mut records[key];
+    record.counts.subtract(kind, 1);
+    unready(sets, key, record.left_sets());
+    record.kept.count_received();
+    let blank = M::blank(*spare.allocator());
+    // Last, so that the message is moved once less.
+    pop(&mut record.queue, spare, blank)
+}
+
 /// Moves the message at the front of the queue of the port under the key to the end of the destroyed ones.
 pub fn destroy_at<M: Message>(
     records: &mut Slab<Record<M>>,
@@ -139,6 +170,77 @@ pub fn count_at<M: Message>(records: &mut Slab<Record<M>>, key: usize)
     ensures { (r : AnyRecord M) → get records.old key ≡ Some r → records.new ≡ with_value records.old key (record r { kept = record r.kept { attributes = one_made r.kept.attributes } }) }
 {
     records[key].kept.count_made();
+}
+
+/// How many rights there are for the port under the key.
+#[inline(always)]
+pub fn counts_at<M: Message>(records: &Slab<Record<M>>, key: usize) -> Counts
+    requires { IsSome (get records.now key) }
+    ensures { (r : AnyRecord M) → get records.now key ≡ Some r → result ≡ r.counts }
+{
+    records[key].counts
+}
+
+/// Counts new rights for the port under the key.
+#[inline(always)]
+pub fn add_at<M: Message>(records: &mut Slab<Record<M>>, key: usize, kind: RightKind, number: u32)
+    requires there { IsSome (get records.old key) }
+    requires fits { (r : AnyRecord M) → get records.old key ≡ Some r → all_of r.counts + number < 2 ^ 32 }
+    ensures { (r : AnyRecord M) → get records.old key ≡ Some r → records.new ≡ with_value records.old key (record r { counts = with_more kind number r.counts }) }
+{
+    records[key].counts.add(kind, number);
+}
+
+/// Counts rights for the port under the key as gone.
+#[inline(always)]
+pub fn subtract_at<M: Message>(
+    records: &mut Slab<Record<M>>,
+    key: usize,
+    kind: RightKind,
+    number: u32,
+)
+    requires there { IsSome (get records.old key) }
+    requires some { (r : AnyRecord M) → get records.old key ≡ Some r → number ≤ number_of kind r.counts }
+    ensures { (r : AnyRecord M) → get records.old key ≡ Some r → records.new ≡ with_value records.old key (record r { counts = with_fewer kind number r.counts }) }
+{
+    records[key].counts.subtract(kind, number);
+}
+
+/// Counts a send right made from the receive right of the port under the key, also among its rights.
+#[inline(always)]
+pub fn make_send_at<M: Message>(records: &mut Slab<Record<M>>, key: usize)
+    requires there { IsSome (get records.old key) }
+    requires fits { (r : AnyRecord M) → get records.old key ≡ Some r → all_of r.counts + 1 < 2 ^ 32 }
+    ensures { (r : AnyRecord M) → get records.old key ≡ Some r → records.new ≡ with_value records.old key (record r { kept = record r.kept { attributes = one_made r.kept.attributes }; counts = with_more Send 1 r.counts }) }
+{
+    let record = &mut records[key];
+    record.kept.count_made();
+    record.counts.add(RightKind::Send, 1);
+}
+
+/// As [`push_at`]. Counts a send-once right of the port as the one that the message was sent to, if it was one.
+#[inline(always)]
+pub fn push_counted_at<M: Message>(
+    records: &mut Slab<Record<M>>,
+    key: usize,
+    spare: &mut LinkedList<M>,
+    message: M,
+    once: bool,
+) -> Membership
+    requires there { IsSome (get records.old key) }
+    requires some { 0 < length spare.old }
+    requires fit { (r : AnyRecord M) → get records.old key ≡ Some r → length r.queue + length spare.old < 2 ^ 63 }
+    requires once { (r : AnyRecord M) → get records.old key ≡ Some r → once ≡ true → 0 < r.counts.send_once }
+    requires few { (r : AnyRecord M) → get records.old key ≡ Some r → all_of r.counts < 2 ^ 32 }
+    ensures after { (r : AnyRecord M) → get records.old key ≡ Some r → records.new ≡ with_value records.old key (record r { queue = r.queue ++ message ∷ []; counts = (if once then one_shifted r.counts else r.counts) }) }
+    ensures spare { length spare.new + 1 ≡ length spare.old }
+    ensures readied { (r : AnyRecord M) → get records.old key ≡ Some r → result ≡ readied_sets r }
+{
+    let record = &mut records[key];
+    record.counts.shift_if(once);
+    let sets = record.readied_sets();
+    push(&mut record.queue, spare, message);
+    sets
 }
 
 /// Sets the limit and the counts of the port under the key; its sets and its holder stay.

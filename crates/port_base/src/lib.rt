@@ -1,7 +1,7 @@
 //! Records of ports under their keys, what is read of one and what changes in one, and how its key and
 //! its messages move.
 //!
-//! A port's record has its queue and its attributes. Its key stands in the lists of [`member_lists`], and
+//! A port's record has its queue, its attributes and the counts of its rights. Its key stands in the lists of [`member_lists`], and
 //! moves between them ([`moves`]). A message lies in a node of a linked list, and moves with it ([`slots`]),
 //! so that neither takes memory.
 #![tactic(auto)]
@@ -17,6 +17,7 @@ pub mod slots;
 use by_key::{DOOMED, LOST, NOTED};
 use mach_types::limits::FIRST_LIMIT;
 use mach_types::{PortId, SetId, TaskId};
+use rights::Counts;
 use std::alloc::Global;
 use std::collections::LinkedList;
 use std::marker::Model;
@@ -353,7 +354,9 @@ pub struct Record<M> {
     pub queue: LinkedList<M>,
     /// Its attributes, and whether it is noted.
     pub kept: Kept,
+    /// How many rights there are for it.
+    pub counts: Counts,
 }
 
 // A port without messages takes its record in the slab, and its place in the index.
-const _: () = prove!(mem::size_of::<Record<u8>>() <= 64);
+const _: () = prove!(mem::size_of::<Record<u8>>() <= 80);

@@ -129,8 +129,9 @@ impl Sets {
 /// `mach_port_move_member`). In a set that it is in it keeps its turn. Takes no memory. Constant time, and
 /// linear in the sets that it leaves.
 pub fn move_member<M: Message>(ports: &mut Ports<M>, member: PortId, set: Option<SetId>)
-    requires { IsLive ports.old member }
-    ensures { (p : PortView M) → map.get ports.old.ports member ≡ Some p → ports.new ≡ with_port ports.old member (in_set p set) }
+    requires { IsLive ports.old.bare member }
+    ensures after { (p : PortView M) → map.get ports.old.bare.ports member ≡ Some p → ports.new.bare ≡ with_port ports.old.bare member (in_set p set) }
+    ensures counts { ports.new.counts ≡ ports.old.counts }
 {
     ports.move_to(member, set);
 }
@@ -138,9 +139,9 @@ pub fn move_member<M: Message>(ports: &mut Ports<M>, member: PortId, set: Option
 /// The member of the set that has a message and whose turn it is, if there is one (IPC Interface,
 /// `mach_msg`, receiving by a port set). Takes no memory. Constant time.
 pub fn ready_member<M: Message>(ports: &Ports<M>, set: SetId) -> Option<PortId>
-    ensures first { result ≡ slice_get (turns_of ports.now.ready set) 0 }
-    ensures some { IfSome result (λ port. IsReady ports.now set port) }
-    ensures none { IfNone result (NoneReady ports.now set) }
+    ensures first { result ≡ slice_get (turns_of ports.now.bare.ready set) 0 }
+    ensures some { IfSome result (λ port. IsReady ports.now.bare set port) }
+    ensures none { IfNone result (NoneReady ports.now.bare set) }
 {
     ports.first_ready(set)
 }
@@ -148,7 +149,8 @@ pub fn ready_member<M: Message>(ports: &Ports<M>, set: SetId) -> Option<PortId>
 /// Takes all members out of a set; each stays in its other sets, in its turns there (Port Manipulation
 /// Interface, `mach_port_destroy`). Takes no memory. Linear in the set's members.
 pub fn disband<M: Message>(ports: &mut Ports<M>, set: SetId)
-    ensures { IsDisbanded ports.old ports.new set }
+    ensures after { IsDisbanded ports.old.bare ports.new.bare set }
+    ensures counts { ports.new.counts ≡ ports.old.counts }
 {
     while ports.leave_front(set).is_some() {}
 }

@@ -1,3 +1,4 @@
 pub mod Sums
 pub mod Found
 pub mod Unused
+pub mod Changing

@@ -31,7 +31,7 @@ impl<'a> Model for TaskNames<'a> {
 
     ghost coded = { space_code entry.the_row.coded };
 
-    ghost view = { λ fields. read_space (live_in fields.ports.now) fields.kept.now };
+    ghost view = { λ fields. read_space (live_in fields.ports.now.bare) fields.kept.now };
 }
 
 // What is left under a name of a right for a port that is gone.
@@ -49,7 +49,7 @@ fn dead_name(kept: Entry) -> Entry
 
 // What stands under a name that keeps this.
 fn read(ports: &Ports<Queued>, kept: Entry) -> Entry
-    ensures { result ≡ reading (live_in ports.now) kept }
+    ensures { result ≡ reading (live_in ports.now.bare) kept }
 {
     match kept.right_port() {
         Some(port) if !ports.contains(port) => dead_name(kept),
@@ -60,7 +60,7 @@ fn read(ports: &Ports<Queued>, kept: Entry) -> Entry
 impl<'a> TaskNames<'a> {
     /// Those that are kept here, read with these ports. Constant time.
     pub fn of(kept: &'a Space, ports: &'a Ports<Queued>) -> TaskNames<'a>
-        ensures { result ≡ read_space (live_in ports.now) kept.now }
+        ensures { result ≡ read_space (live_in ports.now.bare) kept.now }
     {
         TaskNames { kept, ports }
     }

@@ -13,12 +13,12 @@ pub loop-port-preserved : goal.loop-port-preserved
 loop-port-preserved g c =
     let none = none_of _ _ c.carrier.result c.carrier.ensures (sym c.is_some.ensures ∙ c.if-is_some.false) in
     let at : get_or c.args.carried.now c.loop-port.port-index 0 ≡ c.port-item.result = sym (get_or_default_zero c.args.carried.now c.loop-port.port-index c.port-item.result (omega arith)) ∙ sym c.port-item.is in
-    below_more _ _ c.loop-port.invariant (λ queue held. none queue (subst (λ p. IsHeldBy c.args.ports.now p (QueueOf queue)) at held))
+    below_more _ _ c.loop-port.invariant (λ queue held. none queue (subst (λ p. IsHeldBy c.args.ports.now.bare p (QueueOf queue)) at held))
 
 pub returns : goal.returns
 returns g c = (
   (λ is. absurd (cc)),
   (λ (port, queue, (k, below, is), held).
       let at : get_or c.args.carried.now k 0 ≡ port = sym (get_or_default_zero c.args.carried.now k port below) ∙ is in
-      absurd (c.loop-port.invariant k (omega arith) queue (subst (λ p. IsHeldBy c.args.ports.now p (QueueOf queue)) (sym at) held))),
+      absurd (c.loop-port.invariant k (omega arith) queue (subst (λ p. IsHeldBy c.args.ports.now.bare p (QueueOf queue)) (sym at) held))),
 )

@@ -1,35 +1,46 @@
-use Rattle.std.proofs.Common.{◌≤◌, ap, sym, subst, ◌∙◌}
+use Rattle.std.proofs.Common.{◌≡◌, ◌+◌, ◌%◌, ◌^◌, ◌<◌, List, Option, ap, sym, subst, ◌∙◌, drop, slice_get}
 use Rattle.std.specs.Prelude.{is_some}
-use Rattle.std.specs.FinMap as map
+use Rattle.std.specs.Option.{option_and_then}
+use Rattle.port.specs.Ports.{PortView, PortsView, with_port}
 use Rattle.rights.specs.Counts.{number_of}
-use Rattle.rights.specs.Ledger.{LedgerView, counts_of, taken}
+use Rattle.rights.specs.Ledger.{counts_of, taken}
 use Rattle.copyin_base.specs.Kept.{Kept}
 use Rattle.copyin_base.specs.Worlds.{WorldView}
 use Rattle.copyout.specs.Takes.{destination_right}
-use Rattle.copyout.proofs.Fronts.{front_waits, takes_front}
+use Rattle.copyout.proofs.Fronts.{is_front}
 use Rattle.copyout.proofs.receipt.take_front.Goals as goal
 
-pub dequeue-queued-requires : goal.dequeue-queued-requires
-dequeue-queued-requires c = (c.requires.front, front_waits c.args.world.now c.args.port c.requires)
+abbrev front_of : PortView Kept → Option Kept
+front_of p = slice_get p.queue 0
 
-pub consume-requires-clause-entered : goal.consume-requires-clause-entered
-consume-requires-clause-entered c =
-    let r = c.requires in
-    let e = c.dequeue-queued.ensures r.front (front_waits c.args.world.now c.args.port r) in
-    ap (λ (x : WorldView). map.contains_key x.ledger.counts c.args.port) e.1 ∙ r.entered c.args.port (ap is_some r.there)
+pub receive_front-requires-clause-waits : goal.receive_front-requires-clause-waits
+receive_front-requires-clause-waits c = ap (λ o. is_some (option_and_then front_of o)) c.requires.there ∙ ap (λ (l : List Kept). is_some (slice_get l 0)) c.requires.queue
 
-pub consume-requires-clause-counted : goal.consume-requires-clause-counted
-consume-requires-clause-counted c =
+pub receive_front-requires-clause-entered : goal.receive_front-requires-clause-entered
+receive_front-requires-clause-entered c = c.requires.entered c.args.port (ap is_some c.requires.there)
+
+pub receive_front-requires-clause-counted : goal.receive_front-requires-clause-counted
+receive_front-requires-clause-counted c = λ m is.
     let r = c.requires in
-    let e = c.dequeue-queued.ensures r.front (front_waits c.args.world.now c.args.port r) in
-    subst (λ (l : LedgerView). 1 ≤ number_of (destination_right c.dequeue-queued.result) (counts_of l c.args.port)) (sym (ap (λ (x : WorldView). x.ledger) e.1))
-    (subst (λ (m : Kept). 1 ≤ number_of (destination_right m) (counts_of c.args.world.now.ledger c.args.port)) (sym e.0) r.destination)
+    let w : WorldView = c.args.world.now in
+    let same : m ≡ r.front = is_front w.ports c.args.port r.v r.front m r.behind r.there r.queue (sym is) in
+    subst (λ (x : Kept). 0 < number_of (destination_right x) (counts_of w.ledger c.args.port)) (sym same) r.destination
 
 pub returns : goal.returns
 returns c =
     let r = c.requires in
-    let e = c.dequeue-queued.ensures r.front (front_waits c.args.world.now c.args.port r) in (
-      takes_front c.args.world.now c.dequeue-queued.new.world c.consume.new.world c.args.port r e.1
-          (c.consume.ensures ∙ ap (λ (m : Kept). record c.dequeue-queued.new.world { ledger = taken c.dequeue-queued.new.world.ledger c.args.port (destination_right m) 1 }) e.0),
-      e.0,
+    let w : WorldView = c.args.world.now in
+    let found : c.receive_front.result ≡ r.front = is_front w.ports c.args.port r.v r.front c.receive_front.result r.behind r.there r.queue c.receive_front.ensures.front in
+    let after : List Kept → PortsView Kept = λ l. record (with_port w.ports c.args.port (record r.v { queue = l; attributes = record r.v.attributes { sequence = (r.v.attributes.sequence + 1) % 2 ^ 32 } })) { spare = w.ports.spare + 1 } in (
+      record {
+        v = r.v;
+        there = r.there;
+        front = r.front;
+        behind = r.behind;
+        queue = r.queue;
+        rest = c.receive_front.ensures.taken r.v r.there
+            ∙ ap (λ (l : List Kept). record w { ports = after (drop 1 l); ledger = taken w.ledger c.args.port (destination_right c.receive_front.result) 1 }) r.queue
+            ∙ ap (λ (m : Kept). record w { ports = after r.behind; ledger = taken w.ledger c.args.port (destination_right m) 1 }) found;
+      },
+      found,
     )

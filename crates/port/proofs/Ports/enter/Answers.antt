@@ -12,16 +12,16 @@ use Rattle.port.proofs.Grown.{widened}
 use Rattle.port.proofs.Membered.{apart_there, first_there}
 use Rattle.port.proofs.Placed.{placed_as, kept-placed, view-placed, entered-moves, entered-sets, further-moves, further-sets, apart_from, stands_in, some_sets}
 use Rattle.port.proofs.Readied.{on_err}
-use Rattle.port.proofs.Sound.{opened, record_at, live_at}
+use Rattle.port.proofs.Sound.{all_are, places_are, bare_is, opened, record_at, live_at, counts_is, rights-set}
 use Rattle.port.proofs.Ports.enter.Goals as goal
 
 pub unwrap-key-requires : goal.unwrap-key-requires
 unwrap-key-requires g c =
-    ap is_some (c.key_of.ensures ∙ (live_at (opened c.self.invariant c.self.view_is) c.args.port c.requires.live).1)
+    ap is_some (c.key_of.ensures ∙ (live_at (opened c.self.invariant (bare_is c.self.view_is)) c.args.port c.requires.live).1)
 
 pub enter-requires-clause-apart : goal.enter-requires-clause-apart
 enter-requires-clause-apart g c =
-    let o = opened c.self.invariant c.self.view_is in
+    let o = opened c.self.invariant (bare_is c.self.view_is) in
     let found : map.get c.self.inside.by_id.map c.args.port ≡ Some c.unwrap-key.result = sym c.key_of.ensures ∙ c.unwrap-key.ensures in
     let there = record_at o c.args.port c.unwrap-key.result found in
     let r : Record g.row.M.Denot = there.0 in
@@ -30,7 +30,7 @@ enter-requires-clause-apart g c =
 
 pub invariant_of-self : goal.invariant_of-self
 invariant_of-self g c =
-    let o = opened c.self.invariant c.self.view_is in
+    let o = opened c.self.invariant (bare_is c.self.view_is) in
     let found : map.get c.self.inside.by_id.map c.args.port ≡ Some c.unwrap-key.result = sym c.key_of.ensures ∙ c.unwrap-key.ensures in
     let there = record_at o c.args.port c.unwrap-key.result found in
     let r : Record g.row.M.Denot = there.0 in
@@ -42,7 +42,7 @@ invariant_of-self g c =
 
 pub returns-in-None-clause-ok : goal.returns-in-None-clause-ok
 returns-in-None-clause-ok g c p h =
-    let o = opened c.self.invariant c.self.view_is in
+    let o = opened c.self.invariant (bare_is c.self.view_is) in
     let found : map.get c.self.inside.by_id.map c.args.port ≡ Some c.unwrap-key.result = sym c.key_of.ensures ∙ c.unwrap-key.ensures in
     let there = record_at o c.args.port c.unwrap-key.result found in
     let r : Record g.row.M.Denot = there.0 in
@@ -58,7 +58,7 @@ enter_further-requires-clause-several g c =
 
 pub enter_further-requires-clause-elsewhere : goal.enter_further-requires-clause-elsewhere
 enter_further-requires-clause-elsewhere g c =
-    let o = opened c.self.invariant c.self.view_is in
+    let o = opened c.self.invariant (bare_is c.self.view_is) in
     let found : map.get c.self.inside.by_id.map c.args.port ≡ Some c.unwrap-key.result = sym c.key_of.ensures ∙ c.unwrap-key.ensures in
     let there = record_at o c.args.port c.unwrap-key.result found in
     let r : Record g.row.M.Denot = there.0 in
@@ -68,7 +68,7 @@ enter_further-requires-clause-elsewhere g c =
 
 pub enter_further-requires-clause-apart : goal.enter_further-requires-clause-apart
 enter_further-requires-clause-apart g c =
-    let o = opened c.self.invariant c.self.view_is in
+    let o = opened c.self.invariant (bare_is c.self.view_is) in
     let found : map.get c.self.inside.by_id.map c.args.port ≡ Some c.unwrap-key.result = sym c.key_of.ensures ∙ c.unwrap-key.ensures in
     let there = record_at o c.args.port c.unwrap-key.result found in
     let r : Record g.row.M.Denot = there.0 in
@@ -77,7 +77,7 @@ enter_further-requires-clause-apart g c =
 
 pub invariant_of-self-in_err-reserve_further-in-Some : goal.invariant_of-self-in_err-reserve_further-in-Some
 invariant_of-self-in_err-reserve_further-in-Some g c =
-    let o = opened c.self.invariant c.self.view_is in
+    let o = opened c.self.invariant (bare_is c.self.view_is) in
     let found : map.get c.self.inside.by_id.map c.args.port ≡ Some c.unwrap-key.result = sym c.key_of.ensures ∙ c.unwrap-key.ensures in
     let there = record_at o c.args.port c.unwrap-key.result found in
     let r : Record g.row.M.Denot = there.0 in
@@ -86,7 +86,7 @@ invariant_of-self-in_err-reserve_further-in-Some g c =
 
 pub returns-in_err-reserve_further-in-Some-clause-further : goal.returns-in_err-reserve_further-in-Some-clause-further
 returns-in_err-reserve_further-in-Some-clause-further g c p h =
-    let o = opened c.self.invariant c.self.view_is in
+    let o = opened c.self.invariant (bare_is c.self.view_is) in
     let found : map.get c.self.inside.by_id.map c.args.port ≡ Some c.unwrap-key.result = sym c.key_of.ensures ∙ c.unwrap-key.ensures in
     let there = record_at o c.args.port c.unwrap-key.result found in
     let r : Record g.row.M.Denot = there.0 in
@@ -95,7 +95,7 @@ returns-in_err-reserve_further-in-Some-clause-further g c p h =
 
 pub invariant_of-self-in-Some : goal.invariant_of-self-in-Some
 invariant_of-self-in-Some g c =
-    let o = opened c.self.invariant c.self.view_is in
+    let o = opened c.self.invariant (bare_is c.self.view_is) in
     let found : map.get c.self.inside.by_id.map c.args.port ≡ Some c.unwrap-key.result = sym c.key_of.ensures ∙ c.unwrap-key.ensures in
     let there = record_at o c.args.port c.unwrap-key.result found in
     let r : Record g.row.M.Denot = there.0 in
@@ -109,7 +109,7 @@ invariant_of-self-in-Some g c =
 
 pub returns-in_ok-reserve_further-in-Some-clause-ok : goal.returns-in_ok-reserve_further-in-Some-clause-ok
 returns-in_ok-reserve_further-in-Some-clause-ok g c p h =
-    let o = opened c.self.invariant c.self.view_is in
+    let o = opened c.self.invariant (bare_is c.self.view_is) in
     let found : map.get c.self.inside.by_id.map c.args.port ≡ Some c.unwrap-key.result = sym c.key_of.ensures ∙ c.unwrap-key.ensures in
     let there = record_at o c.args.port c.unwrap-key.result found in
     let r : Record g.row.M.Denot = there.0 in
@@ -120,3 +120,28 @@ returns-in_ok-reserve_further-in-Some-clause-ok g c p h =
     c.enter_further.ensures ∙ ap (λ n. with_further (entered c.reserve_further.new.self n c.unwrap-key.result c.has_messages-is_ready.result) n c.unwrap-key.result) c.number-in-Some.ensures ∙ ap (λ b. with_further (entered c.reserve_further.new.self c.args.set c.unwrap-key.result b) c.args.set c.unwrap-key.result) ready_is in
     let apart = apart_from o2 c.args.port c.unwrap-key.result r found there.1 c.args.set c.requires.apart in
     view-placed o2 c.args.port c.unwrap-key.result r found there.1 c.enter_further.new.self (Several c.in-Some.first) c.place_at-in-Some.new.records (c.place_at-in-Some.ensures r there.1) (further-moves o2 c.args.port c.unwrap-key.result r found there.1 c.enter_further.new.self c.in-Some.first c.args.set some apart is) p h (sets_in p ++ c.args.set ∷ []) (further-sets o2 c.args.port c.unwrap-key.result r found there.1 c.enter_further.new.self c.in-Some.first c.args.set some is p h)
+
+pub returns-in-None-clause-counts : goal.returns-in-None-clause-counts
+returns-in-None-clause-counts g c =
+    let o = opened c.self.invariant (bare_is c.self.view_is) in
+    let found : map.get c.self.inside.by_id.map c.args.port ≡ Some c.unwrap-key.result = sym c.key_of.ensures ∙ c.unwrap-key.ensures in
+    let there = record_at o c.args.port c.unwrap-key.result found in
+    let r : Record g.row.M.Denot = there.0 in
+    rights-set c.self.inside.records c.unwrap-key.result r _ there.1 (c.place_at.ensures r there.1) refl c.self.inside.by_id.map ∙ counts_is c.self.view_is
+
+pub returns-in_ok-reserve_further-in-Some-clause-counts : goal.returns-in_ok-reserve_further-in-Some-clause-counts
+returns-in_ok-reserve_further-in-Some-clause-counts g c =
+    let o = opened c.self.invariant (bare_is c.self.view_is) in
+    let found : map.get c.self.inside.by_id.map c.args.port ≡ Some c.unwrap-key.result = sym c.key_of.ensures ∙ c.unwrap-key.ensures in
+    let there = record_at o c.args.port c.unwrap-key.result found in
+    let r : Record g.row.M.Denot = there.0 in
+    rights-set c.self.inside.records c.unwrap-key.result r _ there.1 (c.place_at-in-Some.ensures r there.1) refl c.self.inside.by_id.map ∙ counts_is c.self.view_is
+
+pub returns-in_err-reserve_further-in-Some-clause-err : goal.returns-in_err-reserve_further-in-Some-clause-err
+returns-in_err-reserve_further-in-Some-clause-err g c =
+    let o = opened c.self.invariant (bare_is c.self.view_is) in
+    let found : map.get c.self.inside.by_id.map c.args.port ≡ Some c.unwrap-key.result = sym c.key_of.ensures ∙ c.unwrap-key.ensures in
+    let there = record_at o c.args.port c.unwrap-key.result found in
+    let r : Record g.row.M.Denot = there.0 in
+    let o2 = widened {t = c.self.inside.records} o refl refl c.reserve_further.new.self.all.items c.reserve_further.new.self.all.items c.reserve_further.new.self.room c.reserve_further.ensures.rest_kept c.reserve_further.ensures.items c.self.inside.waiting.items refl (omega arith) c.self.inside.noted.items refl (omega arith) in
+    on_err _ _ (all_are o2.view_is (counts_is c.self.view_is) (places_are c.self.view_is))

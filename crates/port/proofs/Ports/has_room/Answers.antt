@@ -4,7 +4,7 @@ use Rattle.shared_lists.specs.Shared.{more_of}
 use Rattle.port.specs.Ports.{PortView}
 use Rattle.port.proofs.Keys.{same_some, some_or_none}
 use Rattle.port.proofs.Records.{port_of}
-use Rattle.port.proofs.Sound.{opened, record_at, live_port, gone_port}
+use Rattle.port.proofs.Sound.{bare_is, opened, record_at, live_port, gone_port}
 use Rattle.port.proofs.Ports.has_room.Goals as goal
 
 less_told : (a b : ℕ) → (IsTrue (nat_lt a b) → a < b) × (a < b → IsTrue (nat_lt a b))
@@ -16,12 +16,12 @@ room_told a b n m e f = (λ t. let less : a < b = (less_told a b).0 t in omega a
 pub index-record-requires : goal.index-record-requires
 index-record-requires g c =
     let found : map.get c.self.inside.by_id.map c.args.port ≡ Some c.in-Some.key = sym (c.in-Some.ensures) in
-    ap is_some (record_at (opened c.self.invariant c.self.view_is) c.args.port c.in-Some.key found).1
+    ap is_some (record_at (opened c.self.invariant (bare_is c.self.view_is)) c.args.port c.in-Some.key found).1
 
 pub returns-in-Some : goal.returns-in-Some
 returns-in-Some g c =
     let found : map.get c.self.inside.by_id.map c.args.port ≡ Some c.in-Some.key = sym (c.in-Some.ensures) in
-    let is : map.get c.args.self.now.ports c.args.port ≡ Some (port_of c.index-record.result.now (more_of c.self.inside.sets c.in-Some.key)) = live_port (opened c.self.invariant c.self.view_is) c.args.port c.in-Some.key c.index-record.result.now found c.index-record.ensures in
+    let is : map.get c.args.self.now.bare.ports c.args.port ≡ Some (port_of c.index-record.result.now (more_of c.self.inside.sets c.in-Some.key)) = live_port (opened c.self.invariant (bare_is c.self.view_is)) c.args.port c.in-Some.key c.index-record.result.now found c.index-record.ensures in
     record {
       live = λ p h.
           let same : port_of c.index-record.result.now (more_of c.self.inside.sets c.in-Some.key) ≡ p = same_some (port_of c.index-record.result.now (more_of c.self.inside.sets c.in-Some.key)) p (sym is ∙ h) in
@@ -32,7 +32,7 @@ returns-in-Some g c =
 
 pub returns-in-None : goal.returns-in-None
 returns-in-None g c =
-    let gone : map.get c.args.self.now.ports c.args.port ≡ None = gone_port (opened c.self.invariant c.self.view_is) c.args.port (sym c.in-None.ensures) in
+    let gone : map.get c.args.self.now.bare.ports c.args.port ≡ None = gone_port (opened c.self.invariant (bare_is c.self.view_is)) c.args.port (sym c.in-None.ensures) in
     record {
       live = λ p h. absurd (some_or_none p _ h gone);
       gone = λ h. refl;

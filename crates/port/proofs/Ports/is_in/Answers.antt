@@ -6,18 +6,18 @@ use Rattle.port_base.specs.declared.Record.{Record}
 use Rattle.port.proofs.Each.{nothing_in, head_in}
 use Rattle.port.proofs.Keys.{some_or_none}
 use Rattle.port.proofs.Placed.{told_in, alone_told, several_told}
-use Rattle.port.proofs.Sound.{no_true, opened, record_at, gone_port}
+use Rattle.port.proofs.Sound.{bare_is, no_true, opened, record_at, gone_port}
 use Rattle.port.proofs.Ports.is_in.Goals as goal
 
 same_told : (a b : ℕ) → (IsTrue (nat_eq a b) → a ≡ b) × (a ≡ b → IsTrue (nat_eq a b))
 same_told a b = (search rules, search rules)
 
 pub returns-in_default : goal.returns-in_default
-returns-in_default g c = (λ t. absurd (no_true t), λ i. absurd (some_or_none i.view _ i.there (gone_port (opened c.self.invariant c.self.view_is) c.args.port (sym c.in_default.ensures))))
+returns-in_default g c = (λ t. absurd (no_true t), λ i. absurd (some_or_none i.view _ i.there (gone_port (opened c.self.invariant (bare_is c.self.view_is)) c.args.port (sym c.in_default.ensures))))
 
 pub returns-in-Nowhere : goal.returns-in-Nowhere
 returns-in-Nowhere g c =
-    let o = opened c.self.invariant c.self.view_is in
+    let o = opened c.self.invariant (bare_is c.self.view_is) in
     let found : map.get c.self.inside.by_id.map c.args.port ≡ Some c.in-Some.key = sym c.in-Some.ensures in
     let there = record_at o c.args.port c.in-Some.key found in
     let r : Record g.row.M.Denot = there.0 in
@@ -26,7 +26,7 @@ returns-in-Nowhere g c =
 
 pub returns-in-Alone : goal.returns-in-Alone
 returns-in-Alone g c =
-    let o = opened c.self.invariant c.self.view_is in
+    let o = opened c.self.invariant (bare_is c.self.view_is) in
     let found : map.get c.self.inside.by_id.map c.args.port ≡ Some c.in-Some.key = sym c.in-Some.ensures in
     let there = record_at o c.args.port c.in-Some.key found in
     let r : Record g.row.M.Denot = there.0 in
@@ -35,7 +35,7 @@ returns-in-Alone g c =
 
 pub returns-then-first-list : goal.returns-then-first-list
 returns-then-first-list g c =
-    let o = opened c.self.invariant c.self.view_is in
+    let o = opened c.self.invariant (bare_is c.self.view_is) in
     let found : map.get c.self.inside.by_id.map c.args.port ≡ Some c.in-Some.key = sym c.in-Some.ensures in
     let there = record_at o c.args.port c.in-Some.key found in
     let r : Record g.row.M.Denot = there.0 in
@@ -44,7 +44,7 @@ returns-then-first-list g c =
 
 pub returns-else-first-list : goal.returns-else-first-list
 returns-else-first-list g c =
-    let o = opened c.self.invariant c.self.view_is in
+    let o = opened c.self.invariant (bare_is c.self.view_is) in
     let found : map.get c.self.inside.by_id.map c.args.port ≡ Some c.in-Some.key = sym c.in-Some.ensures in
     let there = record_at o c.args.port c.in-Some.key found in
     let r : Record g.row.M.Denot = there.0 in

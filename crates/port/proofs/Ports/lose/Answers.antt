@@ -7,11 +7,11 @@ use Rattle.port.proofs.Sound.{relisted}
 use Rattle.port.proofs.Waiting.{can_hold}
 use Rattle.port.proofs.Ports.lose.Goals as goal
 
-pub returns : goal.returns
-returns g c p h =
+pub returns-clause-after : goal.returns-clause-after
+returns-clause-after g c p h =
     c.set_holder.ensures.held p h
-    ∙ relisted (with_port c.args.self.now c.args.port (held p Holder.Nobody)) (without c.args.port c.args.self.now.lost ++ c.args.port ∷ []) (without c.args.port c.args.self.now.doomed) c.args.self.now.noted
-    (c.args.self.now.lost ++ c.args.port ∷ []) c.args.self.now.doomed c.args.self.now.noted (record {
+    ∙ relisted (with_port c.args.self.now.bare c.args.port (held p Holder.Nobody)) (without c.args.port c.args.self.now.bare.lost ++ c.args.port ∷ []) (without c.args.port c.args.self.now.bare.doomed) c.args.self.now.bare.noted
+    (c.args.self.now.bare.lost ++ c.args.port ∷ []) c.args.self.now.bare.doomed c.args.self.now.bare.noted (record {
       lost_is = ap (λ (l : List ℕ). l ++ c.args.port ∷ []) (c.set_holder.ensures.lost p h (can_hold p.attributes.holder Holder.Nobody (λ e. e) (c.requires.held p h)));
       doomed_is = c.set_holder.ensures.doomed p h (can_hold p.attributes.holder Holder.Doomed (λ e. e) (c.requires.held p h));
       noted_is = refl;

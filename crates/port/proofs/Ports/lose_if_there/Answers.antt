@@ -13,13 +13,13 @@ use Rattle.port.proofs.Changed.{change, still, kept-held, view-held}
 use Rattle.port.proofs.Held.{lost-apart, doomed-apart}
 use Rattle.port.proofs.Keys.{some_or_none}
 use Rattle.port.proofs.Records.{port_of}
-use Rattle.port.proofs.Sound.{opened, record_at, live_port, gone_port, is_port, relisted}
+use Rattle.port.proofs.Sound.{bare_is, opened, record_at, live_port, gone_port, is_port, relisted, counts_is, rights-set}
 use Rattle.port.proofs.Waiting.{can_hold, waits_in_two}
 use Rattle.port.proofs.Ports.lose_if_there.Goals as goal
 
 pub hold_at-was-requires : goal.hold_at-was-requires
 hold_at-was-requires g c =
-    let o = opened c.self.invariant c.self.view_is in
+    let o = opened c.self.invariant (bare_is c.self.view_is) in
     let found : map.get c.self.inside.by_id.map c.args.port ≡ Some c.in-Some.key = sym c.in-Some.ensures in
     let there = record_at o c.args.port c.in-Some.key found in
     let r : Record g.row.M.Denot = there.0 in
@@ -27,7 +27,7 @@ hold_at-was-requires g c =
 
 pub rejoin_two-requires-clause-room : goal.rejoin_two-requires-clause-room
 rejoin_two-requires-clause-room g c =
-    let o = opened c.self.invariant c.self.view_is in
+    let o = opened c.self.invariant (bare_is c.self.view_is) in
     let found : map.get c.self.inside.by_id.map c.args.port ≡ Some c.in-Some.key = sym c.in-Some.ensures in
     let there = record_at o c.args.port c.in-Some.key found in
     let r : Record g.row.M.Denot = there.0 in
@@ -35,7 +35,7 @@ rejoin_two-requires-clause-room g c =
 
 pub rejoin_two-requires-clause-was : goal.rejoin_two-requires-clause-was
 rejoin_two-requires-clause-was g c =
-    let o = opened c.self.invariant c.self.view_is in
+    let o = opened c.self.invariant (bare_is c.self.view_is) in
     let found : map.get c.self.inside.by_id.map c.args.port ≡ Some c.in-Some.key = sym c.in-Some.ensures in
     let there = record_at o c.args.port c.in-Some.key found in
     let r : Record g.row.M.Denot = there.0 in
@@ -43,7 +43,7 @@ rejoin_two-requires-clause-was g c =
 
 pub rejoin_two-requires-clause-left : goal.rejoin_two-requires-clause-left
 rejoin_two-requires-clause-left g c l is =
-    let o = opened c.self.invariant c.self.view_is in
+    let o = opened c.self.invariant (bare_is c.self.view_is) in
     let found : map.get c.self.inside.by_id.map c.args.port ≡ Some c.in-Some.key = sym c.in-Some.ensures in
     let there = record_at o c.args.port c.in-Some.key found in
     let r : Record g.row.M.Denot = there.0 in
@@ -55,7 +55,7 @@ rejoin_two-requires-clause-joined g c l is =
 
 pub invariant_of-self : goal.invariant_of-self
 invariant_of-self g c =
-    let o = opened c.self.invariant c.self.view_is in
+    let o = opened c.self.invariant (bare_is c.self.view_is) in
     let found : map.get c.self.inside.by_id.map c.args.port ≡ Some c.in-Some.key = sym c.in-Some.ensures in
     let there = record_at o c.args.port c.in-Some.key found in
     let r : Record g.row.M.Denot = there.0 in
@@ -65,7 +65,7 @@ invariant_of-self g c =
 
 pub returns-clause-there : goal.returns-clause-there
 returns-clause-there g c p h =
-    let o = opened c.self.invariant c.self.view_is in
+    let o = opened c.self.invariant (bare_is c.self.view_is) in
     let found : map.get c.self.inside.by_id.map c.args.port ≡ Some c.in-Some.key = sym c.in-Some.ensures in
     let there = record_at o c.args.port c.in-Some.key found in
     let r : Record g.row.M.Denot = there.0 in
@@ -76,8 +76,8 @@ returns-clause-there g c p h =
     let is = is_port o c.args.port c.in-Some.key r found there.1 p h in
     let can = c.requires p h in
     view-held ch (c.self.invariant.membered.first c.in-Some.key r there.1) (still ch refl refl refl) refl refl Holder.Nobody refl c.rejoin_two.new.lists moved p (ap (λ (q : PortView g.row.M.Denot). let b : PortView g.row.M.Denot = held q Holder.Nobody in b) (sym is)) joined
-    ∙ relisted (with_port c.args.self.now c.args.port (held p Holder.Nobody)) (without c.args.port c.args.self.now.lost ++ c.args.port ∷ []) (without c.args.port c.args.self.now.doomed) c.args.self.now.noted
-    (c.args.self.now.lost ++ c.args.port ∷ []) c.args.self.now.doomed c.args.self.now.noted (record {
+    ∙ relisted (with_port c.args.self.now.bare c.args.port (held p Holder.Nobody)) (without c.args.port c.args.self.now.bare.lost ++ c.args.port ∷ []) (without c.args.port c.args.self.now.bare.doomed) c.args.self.now.bare.noted
+    (c.args.self.now.bare.lost ++ c.args.port ∷ []) c.args.self.now.bare.doomed c.args.self.now.bare.noted (record {
       lost_is = ap (λ (l : List ℕ). l ++ c.args.port ∷ []) (lost-apart o c.args.port c.in-Some.key r found there.1 (λ e. can_hold p.attributes.holder Holder.Nobody (λ n. n) can (ap (λ (q : PortView g.row.M.Denot). q.attributes.holder) is ∙ e)));
       doomed_is = doomed-apart o c.args.port c.in-Some.key r found there.1 (λ e. can_hold p.attributes.holder Holder.Doomed (λ n. n) can (ap (λ (q : PortView g.row.M.Denot). q.attributes.holder) is ∙ e));
       noted_is = refl;
@@ -85,7 +85,7 @@ returns-clause-there g c p h =
 
 pub returns-clause-gone : goal.returns-clause-gone
 returns-clause-gone g c h =
-    let o = opened c.self.invariant c.self.view_is in
+    let o = opened c.self.invariant (bare_is c.self.view_is) in
     let found : map.get c.self.inside.by_id.map c.args.port ≡ Some c.in-Some.key = sym c.in-Some.ensures in
     let there = record_at o c.args.port c.in-Some.key found in
     let r : Record g.row.M.Denot = there.0 in
@@ -93,7 +93,7 @@ returns-clause-gone g c h =
 
 pub returns-clause-told : goal.returns-clause-told
 returns-clause-told g c =
-    let o = opened c.self.invariant c.self.view_is in
+    let o = opened c.self.invariant (bare_is c.self.view_is) in
     let found : map.get c.self.inside.by_id.map c.args.port ≡ Some c.in-Some.key = sym c.in-Some.ensures in
     let there = record_at o c.args.port c.in-Some.key found in
     let r : Record g.row.M.Denot = there.0 in
@@ -101,8 +101,16 @@ returns-clause-told g c =
 
 pub returns-in_default-clause-there : goal.returns-in_default-clause-there
 returns-in_default-clause-there g c p h =
-    absurd (some_or_none p _ h (gone_port (opened c.self.invariant c.self.view_is) c.args.port (sym c.in_default.ensures)))
+    absurd (some_or_none p _ h (gone_port (opened c.self.invariant (bare_is c.self.view_is)) c.args.port (sym c.in_default.ensures)))
 
 pub returns-in_default-clause-told : goal.returns-in_default-clause-told
 returns-in_default-clause-told g c =
-    sym (ap is_some (gone_port (opened c.self.invariant c.self.view_is) c.args.port (sym c.in_default.ensures)))
+    sym (ap is_some (gone_port (opened c.self.invariant (bare_is c.self.view_is)) c.args.port (sym c.in_default.ensures)))
+
+pub returns-clause-counts : goal.returns-clause-counts
+returns-clause-counts g c =
+    let o = opened c.self.invariant (bare_is c.self.view_is) in
+    let found : map.get c.self.inside.by_id.map c.args.port ≡ Some c.in-Some.key = sym c.in-Some.ensures in
+    let there = record_at o c.args.port c.in-Some.key found in
+    let r : Record g.row.M.Denot = there.0 in
+    rights-set c.self.inside.records c.in-Some.key r _ there.1 (c.hold_at-was.ensures.after r there.1) refl c.self.inside.by_id.map ∙ counts_is c.self.view_is

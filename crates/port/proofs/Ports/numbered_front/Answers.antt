@@ -4,7 +4,7 @@ use Rattle.shared_lists.specs.Shared.{more_of}
 use Rattle.port.specs.Ports.{PortView, NoneQueued}
 use Rattle.port.proofs.Keys.{same_some, some_or_none}
 use Rattle.port.proofs.Records.{port_of}
-use Rattle.port.proofs.Sound.{opened, record_at, live_port, gone_port, front_got}
+use Rattle.port.proofs.Sound.{bare_is, opened, record_at, live_port, gone_port, front_got}
 use Rattle.port.proofs.Ports.numbered_front.Goals as goal
 
 -- a queue without a first message is empty
@@ -14,28 +14,28 @@ no_first (m ∷ l) e = absurd (some_or_none m _ refl e)
 
 pub returns-in_err-key-clause-none : goal.returns-in_err-key-clause-none
 returns-in_err-key-clause-none g c =
-    let gone : map.get c.args.self.now.ports c.args.port ≡ None = gone_port (opened c.self.invariant c.self.view_is) c.args.port (sym c.in_err-key.ensures) in
-    let none : NoneQueued c.args.self.now c.args.port = λ p h. absurd (some_or_none p _ h gone) in
+    let gone : map.get c.args.self.now.bare.ports c.args.port ≡ None = gone_port (opened c.self.invariant (bare_is c.self.view_is)) c.args.port (sym c.in_err-key.ensures) in
+    let none : NoneQueued c.args.self.now.bare c.args.port = λ p h. absurd (some_or_none p _ h gone) in
     rw c.from_residual.ensures none
 
 pub index-record-requires : goal.index-record-requires
 index-record-requires g c =
     let found : map.get c.self.inside.by_id.map c.args.port ≡ Some c.in_ok-key.key = sym (c.in_ok-key.ensures) in
-    ap is_some (record_at (opened c.self.invariant c.self.view_is) c.args.port c.in_ok-key.key found).1
+    ap is_some (record_at (opened c.self.invariant (bare_is c.self.view_is)) c.args.port c.in_ok-key.key found).1
 
 pub returns-in_err-message-clause-none : goal.returns-in_err-message-clause-none
 returns-in_err-message-clause-none g c =
     let found : map.get c.self.inside.by_id.map c.args.port ≡ Some c.in_ok-key.key = sym (c.in_ok-key.ensures) in
-    let is : map.get c.args.self.now.ports c.args.port ≡ Some (port_of c.index-record.result.now (more_of c.self.inside.sets c.in_ok-key.key)) = live_port (opened c.self.invariant c.self.view_is) c.args.port c.in_ok-key.key c.index-record.result.now found c.index-record.ensures in
+    let is : map.get c.args.self.now.bare.ports c.args.port ≡ Some (port_of c.index-record.result.now (more_of c.self.inside.sets c.in_ok-key.key)) = live_port (opened c.self.invariant (bare_is c.self.view_is)) c.args.port c.in_ok-key.key c.index-record.result.now found c.index-record.ensures in
     let first : option_copied c.front.result ≡ slice_get c.index-record.result.now.queue 0 = front_got c.front.result c.index-record.result.now.queue c.front.ensures.variant.0 c.front.ensures.variant.1 c.front.ensures.lookup in
     let empty : slice_get c.index-record.result.now.queue 0 ≡ None = sym first ∙ ap option_copied c.in_err-message.was in
-    let none : NoneQueued c.args.self.now c.args.port = λ p h. ap (λ (q : PortView g.row.M.Denot). length q.queue) (same_some p (port_of c.index-record.result.now (more_of c.self.inside.sets c.in_ok-key.key)) (sym h ∙ is)) ∙ no_first c.index-record.result.now.queue empty in
+    let none : NoneQueued c.args.self.now.bare c.args.port = λ p h. ap (λ (q : PortView g.row.M.Denot). length q.queue) (same_some p (port_of c.index-record.result.now (more_of c.self.inside.sets c.in_ok-key.key)) (sym h ∙ is)) ∙ no_first c.index-record.result.now.queue empty in
     rw c.from_residual-in_err-message.ensures none
 
 pub returns-clause-some : goal.returns-clause-some
 returns-clause-some g c =
     let found : map.get c.self.inside.by_id.map c.args.port ≡ Some c.in_ok-key.key = sym (c.in_ok-key.ensures) in
-    let is : map.get c.args.self.now.ports c.args.port ≡ Some (port_of c.index-record.result.now (more_of c.self.inside.sets c.in_ok-key.key)) = live_port (opened c.self.invariant c.self.view_is) c.args.port c.in_ok-key.key c.index-record.result.now found c.index-record.ensures in
+    let is : map.get c.args.self.now.bare.ports c.args.port ≡ Some (port_of c.index-record.result.now (more_of c.self.inside.sets c.in_ok-key.key)) = live_port (opened c.self.invariant (bare_is c.self.view_is)) c.args.port c.in_ok-key.key c.index-record.result.now found c.index-record.ensures in
     let first : option_copied c.front.result ≡ slice_get c.index-record.result.now.queue 0 = front_got c.front.result c.index-record.result.now.queue c.front.ensures.variant.0 c.front.ensures.variant.1 c.front.ensures.lookup in
     record {
       view = port_of c.index-record.result.now (more_of c.self.inside.sets c.in_ok-key.key);

@@ -1,4 +1,4 @@
-use Rattle.std.proofs.Common.{◌≡◌, Some, sym, subst}
+use Rattle.std.proofs.Common.{refl, ◌∙◌, ◌≡◌, Some, sym, subst}
 use Rattle.std.specs.FinMap as map
 use Rattle.shared_lists.specs.Shared.{more_of, IsReady}
 use Rattle.port_base.specs.declared.Record.{Record}
@@ -7,12 +7,12 @@ use Rattle.port_base.specs.Turns.{has_some}
 use Rattle.port.proofs.Keys.{some_or_none}
 use Rattle.port.proofs.Placed.{kept-restarted, view-restarted}
 use Rattle.port.proofs.Records.{port_of}
-use Rattle.port.proofs.Sound.{opened, record_at, live_port, gone_port}
+use Rattle.port.proofs.Sound.{bare_is, opened, record_at, live_port, gone_port, counts_is, rights-set}
 use Rattle.port.proofs.Ports.restart.Goals as goal
 
 pub leave-requires-clause-ready : goal.leave-requires-clause-ready
 leave-requires-clause-ready g c =
-    let o = opened c.self.invariant c.self.view_is in
+    let o = opened c.self.invariant (bare_is c.self.view_is) in
     let found : map.get c.self.inside.by_id.map c.args.port ≡ Some c.in-Some.key = sym c.in-Some.ensures in
     let there = record_at o c.args.port c.in-Some.key found in
     let r : Record g.row.M.Denot = there.0 in
@@ -20,7 +20,7 @@ leave-requires-clause-ready g c =
 
 pub invariant_of-self : goal.invariant_of-self
 invariant_of-self g c =
-    let o = opened c.self.invariant c.self.view_is in
+    let o = opened c.self.invariant (bare_is c.self.view_is) in
     let found : map.get c.self.inside.by_id.map c.args.port ≡ Some c.in-Some.key = sym c.in-Some.ensures in
     let there = record_at o c.args.port c.in-Some.key found in
     let r : Record g.row.M.Denot = there.0 in
@@ -31,7 +31,7 @@ invariant_of-self g c =
 
 pub returns-clause-live : goal.returns-clause-live
 returns-clause-live g c p h =
-    let o = opened c.self.invariant c.self.view_is in
+    let o = opened c.self.invariant (bare_is c.self.view_is) in
     let found : map.get c.self.inside.by_id.map c.args.port ≡ Some c.in-Some.key = sym c.in-Some.ensures in
     let there = record_at o c.args.port c.in-Some.key found in
     let r : Record g.row.M.Denot = there.0 in
@@ -42,7 +42,7 @@ returns-clause-live g c p h =
 
 pub returns-clause-gone : goal.returns-clause-gone
 returns-clause-gone g c h =
-    let o = opened c.self.invariant c.self.view_is in
+    let o = opened c.self.invariant (bare_is c.self.view_is) in
     let found : map.get c.self.inside.by_id.map c.args.port ≡ Some c.in-Some.key = sym c.in-Some.ensures in
     let there = record_at o c.args.port c.in-Some.key found in
     let r : Record g.row.M.Denot = there.0 in
@@ -50,4 +50,12 @@ returns-clause-gone g c h =
 
 pub returns-in_default-clause-live : goal.returns-in_default-clause-live
 returns-in_default-clause-live g c p h =
-    absurd (some_or_none p _ h (gone_port (opened c.self.invariant c.self.view_is) c.args.port (sym c.in_default.ensures)))
+    absurd (some_or_none p _ h (gone_port (opened c.self.invariant (bare_is c.self.view_is)) c.args.port (sym c.in_default.ensures)))
+
+pub returns-clause-counts : goal.returns-clause-counts
+returns-clause-counts g c =
+    let o = opened c.self.invariant (bare_is c.self.view_is) in
+    let found : map.get c.self.inside.by_id.map c.args.port ≡ Some c.in-Some.key = sym c.in-Some.ensures in
+    let there = record_at o c.args.port c.in-Some.key found in
+    let r : Record g.row.M.Denot = there.0 in
+    rights-set c.self.inside.records c.in-Some.key r _ there.1 (c.restart_at.ensures r there.1) refl c.self.inside.by_id.map ∙ counts_is c.self.view_is

@@ -8,17 +8,17 @@ use Rattle.port.specs.Ports.{PortView}
 use Rattle.port.specs.Holding.{held}
 use Rattle.port.proofs.Changed.{change, still, kept-held, view-held}
 use Rattle.port.proofs.Held.{lost-apart, doomed-apart}
-use Rattle.port.proofs.Sound.{opened, record_at, live_at, is_port}
+use Rattle.port.proofs.Sound.{bare_is, opened, record_at, live_at, is_port, counts_is, rights-set}
 use Rattle.port.proofs.Waiting.{waits_in_two}
 use Rattle.port.proofs.Ports.set_holder.Goals as goal
 
 pub unwrap-key-requires : goal.unwrap-key-requires
 unwrap-key-requires g c =
-    ap is_some (c.key_of.ensures ∙ (live_at (opened c.self.invariant c.self.view_is) c.args.port c.requires).1)
+    ap is_some (c.key_of.ensures ∙ (live_at (opened c.self.invariant (bare_is c.self.view_is)) c.args.port c.requires).1)
 
 pub rejoin_two-requires-clause-was : goal.rejoin_two-requires-clause-was
 rejoin_two-requires-clause-was g c =
-    let o = opened c.self.invariant c.self.view_is in
+    let o = opened c.self.invariant (bare_is c.self.view_is) in
     let found : map.get c.self.inside.by_id.map c.args.port ≡ Some c.unwrap-key.result = sym c.key_of.ensures ∙ c.unwrap-key.ensures in
     let there = record_at o c.args.port c.unwrap-key.result found in
     let r : Record g.row.M.Denot = there.0 in
@@ -26,7 +26,7 @@ rejoin_two-requires-clause-was g c =
 
 pub rejoin_two-requires-clause-left : goal.rejoin_two-requires-clause-left
 rejoin_two-requires-clause-left g c l is =
-    let o = opened c.self.invariant c.self.view_is in
+    let o = opened c.self.invariant (bare_is c.self.view_is) in
     let found : map.get c.self.inside.by_id.map c.args.port ≡ Some c.unwrap-key.result = sym c.key_of.ensures ∙ c.unwrap-key.ensures in
     let there = record_at o c.args.port c.unwrap-key.result found in
     let r : Record g.row.M.Denot = there.0 in
@@ -38,7 +38,7 @@ rejoin_two-requires-clause-joined g c l is =
 
 pub invariant_of-self : goal.invariant_of-self
 invariant_of-self g c =
-    let o = opened c.self.invariant c.self.view_is in
+    let o = opened c.self.invariant (bare_is c.self.view_is) in
     let found : map.get c.self.inside.by_id.map c.args.port ≡ Some c.unwrap-key.result = sym c.key_of.ensures ∙ c.unwrap-key.ensures in
     let there = record_at o c.args.port c.unwrap-key.result found in
     let r : Record g.row.M.Denot = there.0 in
@@ -48,7 +48,7 @@ invariant_of-self g c =
 
 pub returns-clause-held : goal.returns-clause-held
 returns-clause-held g c p h =
-    let o = opened c.self.invariant c.self.view_is in
+    let o = opened c.self.invariant (bare_is c.self.view_is) in
     let found : map.get c.self.inside.by_id.map c.args.port ≡ Some c.unwrap-key.result = sym c.key_of.ensures ∙ c.unwrap-key.ensures in
     let there = record_at o c.args.port c.unwrap-key.result found in
     let r : Record g.row.M.Denot = there.0 in
@@ -60,7 +60,7 @@ returns-clause-held g c p h =
 
 pub returns-clause-lost : goal.returns-clause-lost
 returns-clause-lost g c p h not =
-    let o = opened c.self.invariant c.self.view_is in
+    let o = opened c.self.invariant (bare_is c.self.view_is) in
     let found : map.get c.self.inside.by_id.map c.args.port ≡ Some c.unwrap-key.result = sym c.key_of.ensures ∙ c.unwrap-key.ensures in
     let there = record_at o c.args.port c.unwrap-key.result found in
     let r : Record g.row.M.Denot = there.0 in
@@ -68,8 +68,16 @@ returns-clause-lost g c p h not =
 
 pub returns-clause-doomed : goal.returns-clause-doomed
 returns-clause-doomed g c p h not =
-    let o = opened c.self.invariant c.self.view_is in
+    let o = opened c.self.invariant (bare_is c.self.view_is) in
     let found : map.get c.self.inside.by_id.map c.args.port ≡ Some c.unwrap-key.result = sym c.key_of.ensures ∙ c.unwrap-key.ensures in
     let there = record_at o c.args.port c.unwrap-key.result found in
     let r : Record g.row.M.Denot = there.0 in
     doomed-apart o c.args.port c.unwrap-key.result r found there.1 (λ e. not (ap (λ (q : PortView g.row.M.Denot). q.attributes.holder) (is_port o c.args.port c.unwrap-key.result r found there.1 p h) ∙ e))
+
+pub returns-clause-counts : goal.returns-clause-counts
+returns-clause-counts g c =
+    let o = opened c.self.invariant (bare_is c.self.view_is) in
+    let found : map.get c.self.inside.by_id.map c.args.port ≡ Some c.unwrap-key.result = sym c.key_of.ensures ∙ c.unwrap-key.ensures in
+    let there = record_at o c.args.port c.unwrap-key.result found in
+    let r : Record g.row.M.Denot = there.0 in
+    rights-set c.self.inside.records c.unwrap-key.result r _ there.1 (c.hold_at-was.ensures.after r there.1) refl c.self.inside.by_id.map ∙ counts_is c.self.view_is

@@ -9,13 +9,13 @@ use Rattle.port.specs.Records.{ids_in, made_of}
 use Rattle.port.proofs.Changed.{change, still, now_there, kept-noted, view-noted}
 use Rattle.port.proofs.Keys.{same_some}
 use Rattle.port.proofs.Readied.{held_first}
-use Rattle.port.proofs.Sound.{opened}
+use Rattle.port.proofs.Sound.{bare_is, opened, counts_is, rights-set}
 use Rattle.port.proofs.Waiting.{noted_now, noted_first, noted_live, ids-out}
 use Rattle.port.proofs.Ports.take_noted.Goals as goal
 
 pub leave_two-requires-clause-was : goal.leave_two-requires-clause-was
 leave_two-requires-clause-was g c =
-    let o = opened c.self.invariant c.self.view_is in
+    let o = opened c.self.invariant (bare_is c.self.view_is) in
     let e : slice_get (list_of c.self.inside.noted noted_list) 0 ≡ Some c.in_ok-key.key = sym c.in_ok-key.ensures in
     let inside : Contains (list_of c.self.inside.noted noted_list) c.in_ok-key.key = held_first (list_of c.self.inside.noted noted_list) c.in_ok-key.key e in
     let there = c.self.invariant.are_noted.held c.in_ok-key.key noted_list inside in
@@ -25,7 +25,7 @@ leave_two-requires-clause-was g c =
 
 pub note_at-requires : goal.note_at-requires
 note_at-requires g c =
-    let o = opened c.self.invariant c.self.view_is in
+    let o = opened c.self.invariant (bare_is c.self.view_is) in
     let e : slice_get (list_of c.self.inside.noted noted_list) 0 ≡ Some c.in_ok-key.key = sym c.in_ok-key.ensures in
     let inside : Contains (list_of c.self.inside.noted noted_list) c.in_ok-key.key = held_first (list_of c.self.inside.noted noted_list) c.in_ok-key.key e in
     let there = c.self.invariant.are_noted.held c.in_ok-key.key noted_list inside in
@@ -34,7 +34,7 @@ note_at-requires g c =
 
 pub index-requires : goal.index-requires
 index-requires g c =
-    let o = opened c.self.invariant c.self.view_is in
+    let o = opened c.self.invariant (bare_is c.self.view_is) in
     let e : slice_get (list_of c.self.inside.noted noted_list) 0 ≡ Some c.in_ok-key.key = sym c.in_ok-key.ensures in
     let inside : Contains (list_of c.self.inside.noted noted_list) c.in_ok-key.key = held_first (list_of c.self.inside.noted noted_list) c.in_ok-key.key e in
     let there = c.self.invariant.are_noted.held c.in_ok-key.key noted_list inside in
@@ -44,7 +44,7 @@ index-requires g c =
 
 pub invariant_of-self : goal.invariant_of-self
 invariant_of-self g c =
-    let o = opened c.self.invariant c.self.view_is in
+    let o = opened c.self.invariant (bare_is c.self.view_is) in
     let e : slice_get (list_of c.self.inside.noted noted_list) 0 ≡ Some c.in_ok-key.key = sym c.in_ok-key.ensures in
     let inside : Contains (list_of c.self.inside.noted noted_list) c.in_ok-key.key = held_first (list_of c.self.inside.noted noted_list) c.in_ok-key.key e in
     let there = c.self.invariant.are_noted.held c.in_ok-key.key noted_list inside in
@@ -54,7 +54,7 @@ invariant_of-self g c =
 
 pub returns-clause-first : goal.returns-clause-first
 returns-clause-first g c =
-    let o = opened c.self.invariant c.self.view_is in
+    let o = opened c.self.invariant (bare_is c.self.view_is) in
     let e : slice_get (list_of c.self.inside.noted noted_list) 0 ≡ Some c.in_ok-key.key = sym c.in_ok-key.ensures in
     let inside : Contains (list_of c.self.inside.noted noted_list) c.in_ok-key.key = held_first (list_of c.self.inside.noted noted_list) c.in_ok-key.key e in
     let there = c.self.invariant.are_noted.held c.in_ok-key.key noted_list inside in
@@ -65,7 +65,7 @@ returns-clause-first g c =
 
 pub returns-clause-taken : goal.returns-clause-taken
 returns-clause-taken g c =
-    let o = opened c.self.invariant c.self.view_is in
+    let o = opened c.self.invariant (bare_is c.self.view_is) in
     let e : slice_get (list_of c.self.inside.noted noted_list) 0 ≡ Some c.in_ok-key.key = sym c.in_ok-key.ensures in
     let inside : Contains (list_of c.self.inside.noted noted_list) c.in_ok-key.key = held_first (list_of c.self.inside.noted noted_list) c.in_ok-key.key e in
     let there = c.self.invariant.are_noted.held c.in_ok-key.key noted_list inside in
@@ -73,11 +73,20 @@ returns-clause-taken g c =
     let ch = change o r.id c.in_ok-key.key r (record r { kept = record r.kept { is_noted = false } }) (c.self.invariant.sound.indexed.held c.in_ok-key.key r there.1) there.1 refl (c.note_at.ensures r there.1) in
     let home : noting_list r ≡ Some noted_list = (c.self.invariant.are_noted.stands c.in_ok-key.key r there.1).only noted_list inside in
     let id : c.index.result.now.id ≡ r.id = ap (λ (b : Record g.row.M.Denot). b.id) (same_some c.index.result.now (record r { kept = record r.kept { is_noted = false } }) (sym c.index.ensures ∙ now_there ch)) in
-    view-noted ch (c.self.invariant.membered.first c.in_ok-key.key r there.1) (still ch refl refl refl) refl refl c.leave_two.new.lists c.leave_two.ensures.moved refl (without c.index.result.now.id c.args.self.now.noted)
+    view-noted ch (c.self.invariant.membered.first c.in_ok-key.key r there.1) (still ch refl refl refl) refl refl c.leave_two.new.lists c.leave_two.ensures.moved refl (without c.index.result.now.id c.args.self.now.bare.noted)
     (ap (λ w. ids_in (get c.self.inside.records) w noted_list) (c.leave_two.ensures.left ∙ ap (out_of c.self.inside.noted c.in_ok-key.key) (sym home))
     ∙ ids-out (get c.self.inside.records) noting_list c.self.inside.noted c.self.invariant.are_noted c.self.inside.by_id.map (made_of c.self.inside.next) c.self.invariant.sound.indexed r.id c.in_ok-key.key r (c.self.invariant.sound.indexed.held c.in_ok-key.key r there.1) there.1 noted_list
-    ∙ ap (without r.id) (noted_now o) ∙ ap (λ n. without n c.args.self.now.noted) (sym id))
+    ∙ ap (without r.id) (noted_now o) ∙ ap (λ n. without n c.args.self.now.bare.noted) (sym id))
 
 pub returns-clause-live : goal.returns-clause-live
 returns-clause-live g c =
-    noted_live (opened c.self.invariant c.self.view_is)
+    noted_live (opened c.self.invariant (bare_is c.self.view_is))
+
+pub returns-clause-counts : goal.returns-clause-counts
+returns-clause-counts g c =
+    let o = opened c.self.invariant (bare_is c.self.view_is) in
+    let e : slice_get (list_of c.self.inside.noted noted_list) 0 ≡ Some c.in_ok-key.key = sym c.in_ok-key.ensures in
+    let inside : Contains (list_of c.self.inside.noted noted_list) c.in_ok-key.key = held_first (list_of c.self.inside.noted noted_list) c.in_ok-key.key e in
+    let there = c.self.invariant.are_noted.held c.in_ok-key.key noted_list inside in
+    let r : Record g.row.M.Denot = there.0 in
+    rights-set c.self.inside.records c.in_ok-key.key r _ there.1 (c.note_at.ensures r there.1) refl c.self.inside.by_id.map ∙ counts_is c.self.view_is

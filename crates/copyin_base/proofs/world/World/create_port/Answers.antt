@@ -1,42 +1,33 @@
-use Rattle.std.proofs.Common.{◌≡◌, ℕ, None, ap, ◌∙◌}
+use Rattle.std.proofs.Common.{◌≡◌, ℕ, ◌+◌, None, ap, ◌∙◌, refl, subst, arith}
 use Rattle.std.specs.FinMap as map
-use Rattle.port.specs.Ports.{PortsView}
 use Rattle.rights.specs.declared.RightKind.TheVariants as right
-use Rattle.rights.specs.Ledger.{LedgerView, left, entered, made}
-use Rattle.tables_base.specs.Kept.{Kept}
+use Rattle.rights.specs.Counted.{IsCounted}
+use Rattle.rights.specs.Counts.{no_rights, with_more}
+use Rattle.rights.specs.Ledger.{LedgerView, entered, made}
+use Rattle.rights.proofs.Found.{counted-came, first-made}
 use Rattle.copyin_base.specs.Worlds.{WorldView}
+use Rattle.copyin_base.proofs.Recounted.{ledger_of, ledgers_are, sums_are}
 use Rattle.copyin_base.proofs.Written.{tables, made_given, made_written}
 use Rattle.copyin_base.specs.Coming.{first_port}
-use Rattle.copyin_base.proofs.Coming.{came_there, came_and_left}
 use Rattle.copyin_base.proofs.world.World.create_port.Goals as goal
 
-pub leave-requires : goal.leave-requires
-leave-requires c = came_there _ _ c.next_id-id.result c.in_ok-enter.ensures.ok
+pub invariant_of-self-2 : goal.invariant_of-self-2
+invariant_of-self-2 c =
+    let i = c.self.inside in
+    let unknown : map.get i.ports.counts i.ports.bare.made ≡ None = ap (λ (w : WorldView). map.get w.ledger.counts w.ports.made) c.self.view_is ∙ c.requires.unknown in
+    let came = counted-came i.ports.counts i.ledger.total i.ledger.unused c.self.invariant.1 i.ports.bare.made (with_more right.Receive 1 no_rights) unknown in
+    let none : i.ledger.unused + 0 ≡ i.ledger.unused = omega arith in (
+      made_given c.args.self.now i.spaces.items i.ports.bare (ledger_of i.ports.counts i.ledger) i.sets i.requests c.self.view_is c.self.invariant.0 (first_port c.args.task) c.allocate.new.self.bare c.in_ok-port.ensures.ok,
+      sums_are c.in_ok-port.ensures.counts c.enter.ensures (subst (λ (unused : ℕ). IsCounted (map.insert i.ports.counts i.ports.bare.made (with_more right.Receive 1 no_rights)) (i.ledger.total + 1) unused) none came),
+    )
 
-pub returns-in-Err-clause-err : goal.returns-in-Err-clause-err
-returns-in-Err-clause-err c =
-    let none : map.get c.self.inside.ledger.counts c.next_id-id.result ≡ None =
-    ap (map.get c.self.inside.ledger.counts) c.next_id-id.ensures ∙ ap (λ (w : WorldView). map.get w.ledger.counts w.ports.made) c.self.view_is ∙ c.requires.unknown in
-    let ledger : c.leave.new.self ≡ c.self.inside.ledger =
-    c.leave.ensures.after ∙ ap (λ l. left l c.next_id-id.result) c.in_ok-enter.ensures.ok ∙ came_and_left c.self.inside.ledger c.next_id-id.result none in
-    ap (λ (x : PortsView Kept). tables c.self.inside.profile c.self.inside.spaces.items x c.leave.new.self c.self.inside.sets c.self.inside.requests) c.in-Err.ensures.err
-    ∙ ap (λ (x : LedgerView). tables c.self.inside.profile c.self.inside.spaces.items c.self.inside.ports x c.self.inside.sets c.self.inside.requests) ledger ∙ c.self.view_is
-
-pub invariant_of-self-in-Ok : goal.invariant_of-self-in-Ok
-invariant_of-self-in-Ok c =
-    made_given c.args.self.now c.self.inside.spaces.items c.self.inside.ports c.self.inside.ledger c.self.inside.sets c.self.inside.requests c.self.view_is c.self.invariant
-    (first_port c.args.task) c.allocate.new.self c.in-Ok.ensures.ok
-
-pub returns-in-Ok-clause-ok : goal.returns-in-Ok-clause-ok
-returns-in-Ok-clause-ok c =
-    let old : WorldView = c.args.self.now in
-    let ledger : c.enter.new.self ≡ made (entered old.ledger old.ports.made) old.ports.made right.Receive 1 =
-    c.in_ok-enter.ensures.ok
-    ∙ ap (λ (n : ℕ). made (entered c.self.inside.ledger n) n right.Receive 1) c.next_id-id.ensures
-    ∙ ap (λ (w : WorldView). made (entered w.ledger w.ports.made) w.ports.made right.Receive 1) c.self.view_is in (
-      c.in-Ok.ensures.identity ∙ ap (λ (w : WorldView). w.ports.made) c.self.view_is,
-      ap (λ (l : LedgerView). tables c.self.inside.profile c.self.inside.spaces.items c.allocate.new.self l c.self.inside.sets c.self.inside.requests) ledger
+pub returns-clause-ok : goal.returns-clause-ok
+returns-clause-ok c =
+    let i = c.self.inside in
+    let old : WorldView = c.args.self.now in (
+      c.in_ok-port.ensures.identity ∙ ap (λ (w : WorldView). w.ports.made) c.self.view_is,
+      ap (λ (l : LedgerView). tables i.profile i.spaces.items c.allocate.new.self.bare l i.sets i.requests)
+          (ledgers_are c.in_ok-port.ensures.counts c.enter.ensures ∙ first-made (ledger_of i.ports.counts i.ledger) i.ports.bare.made ∙ ap (λ (w : WorldView). made (entered w.ledger w.ports.made) w.ports.made right.Receive 1) c.self.view_is)
           ∙ ap (λ (w : WorldView). record w { ledger = made (entered old.ledger old.ports.made) old.ports.made right.Receive 1 })
-          (made_written old c.self.inside.spaces.items c.self.inside.ports c.self.inside.ledger c.self.inside.sets c.self.inside.requests c.self.view_is c.self.invariant
-          (first_port c.args.task) c.allocate.new.self c.in-Ok.ensures.ok),
+          (made_written old i.spaces.items i.ports.bare (ledger_of i.ports.counts i.ledger) i.sets i.requests c.self.view_is c.self.invariant.0 (first_port c.args.task) c.allocate.new.self.bare c.in_ok-port.ensures.ok),
     )

@@ -8,4 +8,4 @@ use Rattle.tables_base.proofs.task_names.TaskNames.is_empty.Goals as goal
 
 pub returns : goal.returns
 returns c = subst (λ (n : ℕ). IsTrue c.is_empty.result ↔ (n ≡ 0))
-    (sym (len_read (live_in c.self.inside.ports.now) c.self.inside.kept.now.names) ∙ ap (λ (x : SpaceView). map.len x.names) c.self.view_is) c.is_empty.ensures
+    (sym (len_read (live_in c.self.inside.ports.now.bare) c.self.inside.kept.now.names) ∙ ap (λ (x : SpaceView). map.len x.names) c.self.view_is) c.is_empty.ensures

@@ -9,4 +9,4 @@ use Rattle.tables_base.proofs.task_names.TaskNames.is_full.Goals as goal
 
 pub returns : goal.returns
 returns c = subst (λ (n : ℕ). IsTrue c.is_full.result ↔ (most_names ≤ n))
-    (sym (len_read (live_in c.self.inside.ports.now) c.self.inside.kept.now.names) ∙ ap (λ (x : SpaceView). map.len x.names) c.self.view_is) c.is_full.ensures
+    (sym (len_read (live_in c.self.inside.ports.now.bare) c.self.inside.kept.now.names) ∙ ap (λ (x : SpaceView). map.len x.names) c.self.view_is) c.is_full.ensures

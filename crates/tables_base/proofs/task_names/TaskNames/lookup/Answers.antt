@@ -9,13 +9,13 @@ use Rattle.tables_base.proofs.task_names.TaskNames.lookup.Goals as goal
 pub returns-in_err-kept : goal.returns-in_err-kept
 returns-in_err-kept c =
     c.from_residual.ensures
-    ∙ ap (option_map (reading (live_in c.self.inside.ports.now))) (sym (sym c.lookup.ensures ∙ c.in_err-kept.was))
-    ∙ sym (get_read (live_in c.self.inside.ports.now) c.self.inside.kept.now.names c.args.name)
+    ∙ ap (option_map (reading (live_in c.self.inside.ports.now.bare))) (sym (sym c.lookup.ensures ∙ c.in_err-kept.was))
+    ∙ sym (get_read (live_in c.self.inside.ports.now.bare) c.self.inside.kept.now.names c.args.name)
     ∙ ap (λ (x : SpaceView). map.get x.names c.args.name) c.self.view_is
 
 pub returns : goal.returns
 returns c =
     ap Some c.read.ensures
-    ∙ ap (option_map (reading (live_in c.self.inside.ports.now))) (sym (sym c.lookup.ensures ∙ c.in_ok-kept.was))
-    ∙ sym (get_read (live_in c.self.inside.ports.now) c.self.inside.kept.now.names c.args.name)
+    ∙ ap (option_map (reading (live_in c.self.inside.ports.now.bare))) (sym (sym c.lookup.ensures ∙ c.in_ok-kept.was))
+    ∙ sym (get_read (live_in c.self.inside.ports.now.bare) c.self.inside.kept.now.names c.args.name)
     ∙ ap (λ (x : SpaceView). map.get x.names c.args.name) c.self.view_is

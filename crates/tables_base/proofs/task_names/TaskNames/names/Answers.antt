@@ -11,4 +11,4 @@ on_ok (Ok x) P Q f h = f x h
 on_ok (Err e) P Q f h = tt
 
 pub returns : goal.returns
-returns c = on_ok c.names.result _ _ (λ names are. are ∙ sym (keys_read (live_in c.self.inside.ports.now) c.self.inside.kept.now.names) ∙ ap (λ (x : SpaceView). map.keys x.names) c.self.view_is) c.names.ensures
+returns c = on_ok c.names.result _ _ (λ names are. are ∙ sym (keys_read (live_in c.self.inside.ports.now.bare) c.self.inside.kept.now.names) ∙ ap (λ (x : SpaceView). map.keys x.names) c.self.view_is) c.names.ensures

@@ -27,8 +27,8 @@ next_read live m start name next = record {
 
 pub returns-clause-none : goal.returns-clause-none
 returns-clause-none c = on_none c.next_name.result _ _
-    (λ none n from. ap (λ (x : SpaceView). map.get x.names n) (sym c.self.view_is) ∙ unused_read (live_in c.self.inside.ports.now) c.self.inside.kept.now.names n (none n from)) c.next_name.ensures.none
+    (λ none n from. ap (λ (x : SpaceView). map.get x.names n) (sym c.self.view_is) ∙ unused_read (live_in c.self.inside.ports.now.bare) c.self.inside.kept.now.names n (none n from)) c.next_name.ensures.none
 
 pub returns-clause-found : goal.returns-clause-found
 returns-clause-found c = on_some c.next_name.result _ _
-    (λ name next. subst (λ (x : SpaceView). IsNextName x.names c.args.from name) c.self.view_is (next_read (live_in c.self.inside.ports.now) c.self.inside.kept.now.names c.args.from name next)) c.next_name.ensures.found
+    (λ name next. subst (λ (x : SpaceView). IsNextName x.names c.args.from name) c.self.view_is (next_read (live_in c.self.inside.ports.now.bare) c.self.inside.kept.now.names c.args.from name next)) c.next_name.ensures.found
