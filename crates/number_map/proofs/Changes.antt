@@ -1,7 +1,7 @@
 -- Trees of keys, and what each step leaves of them.
-use Rattle.std.proofs.Common.{◌≡◌, ◌≢◌, ◌⊎◌, inl, inr, ℕ, suc, ◌^◌, ◌<◌, ◌≤◌, cond, eqb, refl, sym, ◌∙◌, ap, arith}
+use Rattle.std.proofs.Common.{◌≡◌, ◌≢◌, ◌⊎◌, inl, inr, ℕ, zero, suc, ◌^◌, ◌<◌, ◌≤◌, cond, eqb, refl, sym, ◌∙◌, ap, arith}
 use Rattle.std.proofs.lemmas.Bool.Decides.{eqb_tells}
-use Rattle.number_map.specs.Kept.{turn, AreAlike, IsBelow, IsTree, IsTurned, IsLed}
+use Rattle.number_map.specs.Kept.{turn, AreAlike, IsBelow, IsTree, IsTurned, IsLed, KnowAbove}
 use Rattle.number_map.proofs.Trees.{equal_or_not, lower, same_keys, source, on_way}
 
 -- the same link, by other names
@@ -31,6 +31,13 @@ same_tree slots key key' out out' deep places hole low ks os so = record {
   empty = λ i h. os hole i low ∙ so.empty i h;
 }
 
+-- the same nodes, links and nodes above
+pub know_same : (slots : ℕ) (key : ℕ → ℕ) (out out' : ℕ → ℕ → ℕ) (above above' deep : ℕ → ℕ) (places hole : ℕ) → IsTree slots key out deep places hole → ((v : ℕ) → v ≤ places → above' v ≡ above v) → ((u i : ℕ) → u ≤ places → out' u i ≡ out u i)
+    → KnowAbove out above places → KnowAbove out' above' places
+know_same slots key out out' above above' deep places hole so ms os know u i v h e some =
+    let same : out u i ≡ v = sym (os u i h) ∙ e in
+    ms v (so.down u i v h same some).inside ∙ know u i v h same some
+
 -- other keys, each of which turns as the one before down to its node
 pub keys_changed : (slots : ℕ) (key key' : ℕ → ℕ) (out : ℕ → ℕ → ℕ) (deep : ℕ → ℕ) (places hole : ℕ) → ((v : ℕ) → AreAlike slots (deep v) (key v) (key' v)) → IsTree slots key out deep places hole → IsTree slots key' out deep places hole
 keys_changed slots key key' out deep places hole same so = record {
@@ -54,7 +61,11 @@ keys_changed slots key key' out deep places hole same so = record {
   empty = so.empty;
 }
 
-both : (u i w j : ℕ) → ((u ≡ w) × (i ≡ j)) ⊎ (u ≡ w → i ≡ j → ⊥)
+turn_few : (slots d k : ℕ) → d ≢ 0 → turn slots d k < 2
+turn_few slots zero k some = absurd (some refl)
+turn_few slots (suc d) k some = omega arith
+
+pub both : (u i w j : ℕ) → ((u ≡ w) × (i ≡ j)) ⊎ (u ≡ w → i ≡ j → ⊥)
 both u i w j = elim (equal_or_not u w) [
   | inl e ↦ elim (equal_or_not i j) [ inl f ↦ inl (e, f) | inr n ↦ inr (λ _ f. n f) ]
   | inr n ↦ inr (λ e _. n e)
@@ -62,8 +73,8 @@ both u i w j = elim (equal_or_not u w) [
 
 -- ---- a leaf joins
 
-module _ (slots : ℕ) (key : ℕ → ℕ) (out out' : ℕ → ℕ → ℕ) (deep : ℕ → ℕ) (places : ℕ) (so : IsTree slots key out deep places 0)
-    (bare : (i : ℕ) → out (suc places) i ≡ 0) (led : IsLed slots out out' (key (suc places)) 0 (suc places))
+module _ (slots : ℕ) (key : ℕ → ℕ) (out out' : ℕ → ℕ → ℕ) (above above' deep : ℕ → ℕ) (places : ℕ) (so : IsTree slots key out deep places 0)
+    (bare : (i : ℕ) → out (suc places) i ≡ 0) (led : IsLed slots out out' above above' (key (suc places)) (suc places))
     (short : (v : ℕ) → key v < 2 ^ 64) (absent : (v : ℕ) → v ≢ 0 → v ≤ places → key v ≢ key (suc places)) where
   way : (led.u ≤ places) × (deep led.u ≡ led.depth) × AreAlike slots led.depth (key led.u) (key (suc places))
   way = on_way slots key out deep places 0 so (key (suc places)) led.depth led.u led.on
@@ -141,6 +152,21 @@ module _ (slots : ℕ) (key : ℕ → ℕ) (out out' : ℕ → ℕ → ℕ) (dee
     empty = λ i h. absurd (h refl);
   }
 
+  pub joined_above : KnowAbove out above places → KnowAbove out' above' (suc places)
+  joined_above know u i v h e some = elim (both u i led.u (turn slots led.depth (key (suc places)))) [
+    | inl s ↦
+        let is : v ≡ suc places = sym e ∙ ap (λ n. out' n i) s.0 ∙ ap (λ n. out' led.u n) s.1 ∙ led.turned.is in
+        ap above' is ∙ led.here ∙ sym s.0
+    | inr n ↦
+        let same : out u i ≡ v = sym (led.turned.others u i n) ∙ e in
+        let low : u ≤ places = elim (equal_or_not u (suc places)) [
+          | inl z ↦ absurd (some (sym same ∙ ap (λ m. out m i) z ∙ bare i))
+          | inr o ↦ omega arith
+        ] in
+        let inside = (so.down u i v low same some).inside in
+        led.others v (λ z. omega arith) ∙ know u i v low same some
+  ]
+
 -- ---- a leaf is cut off, and is then the hole
 
 module _ (slots : ℕ) (key : ℕ → ℕ) (out out' : ℕ → ℕ → ℕ) (deep : ℕ → ℕ) (places : ℕ) (so : IsTree slots key out deep places 0)
@@ -171,6 +197,12 @@ module _ (slots : ℕ) (key : ℕ → ℕ) (out out' : ℕ → ℕ → ℕ) (dee
     ];
   }
 
+  pub cut_above : (above above' : ℕ → ℕ) → ((v : ℕ) → above' v ≡ above v) → KnowAbove out above places → KnowAbove out' above' places
+  cut_above above above' ms know u i v h e some = elim (both u i u0 i0) [
+    | inl s ↦ absurd (some (sym e ∙ ap (λ m. out' m i) s.0 ∙ ap (out' u0) s.1 ∙ cut.is))
+    | inr n ↦ ms v ∙ know u i v h (sym (cut.others u i n) ∙ e) some
+  ]
+
 -- ---- the last node moves into the hole, or is it
 
 module _ (slots : ℕ) (key key' : ℕ → ℕ) (out out' : ℕ → ℕ → ℕ) (deep : ℕ → ℕ) (m hole : ℕ) (so : IsTree slots key out deep (suc m) hole) where
@@ -192,6 +224,13 @@ module _ (slots : ℕ) (key key' : ℕ → ℕ) (out out' : ℕ → ℕ → ℕ)
         (p.0, low, os p.0 _ low ∙ ap (λ k. out p.0 (turn slots (deep p.0) k)) (ks v within) ∙ p.2);
     empty = λ i h. absurd (h refl);
   }
+
+  pub last_above : (above above' : ℕ → ℕ) → hole ≡ suc m → ((v : ℕ) → v ≤ m → above' v ≡ above v) → ((u i : ℕ) → u ≤ m → out' u i ≡ out u i) → KnowAbove out above (suc m) → KnowAbove out' above' m
+  last_above above above' is ms os know u i v h e some =
+      let same : out u i ≡ v = sym (os u i h) ∙ e in
+      let b = so.down u i v (omega arith) same some in
+      let low : v ≤ m = (let a = b.inside in let n = b.present in omega arith) in
+      ms v low ∙ know u i v (omega arith) same some
 
   module _ (some_hole : hole ≢ 0) (low_hole : hole ≤ m) (u0 i0 : ℕ) (inside : u0 ≤ suc m) (out1 : ℕ → ℕ → ℕ) (led : IsTurned out out1 u0 i0 (suc m) hole)
       (key_hole : key' hole ≡ key (suc m)) (key_other : (v : ℕ) → v ≤ m → v ≢ hole → key' v ≡ key v)
@@ -289,3 +328,35 @@ module _ (slots : ℕ) (key key' : ℕ → ℕ) (out out' : ℕ → ℕ → ℕ)
           );
       empty = λ i h. absurd (h refl);
     }
+
+    module _ (above above' : ℕ → ℕ) (know : KnowAbove out above (suc m)) (come : ((i : ℕ) → i < 2 → out1 (suc m) i ≢ suc m) → above' hole ≡ above (suc m))
+        (hung : (v i : ℕ) → v ≢ 0 → v ≤ m → v ≢ hole → i < 2 → out1 (suc m) i ≡ v → above' v ≡ hole)
+        (kept : (v : ℕ) → v ≤ m → v ≢ hole → ((i : ℕ) → i < 2 → out1 (suc m) i ≢ v) → above' v ≡ above v) where
+      -- no link leads to the last node's place
+      not_last : (i : ℕ) → i < 2 → out1 (suc m) i ≢ suc m
+      not_last i few e = let l = led_before (suc m) i (suc m) (omega arith) e (omega arith) in let z = l.1 in omega arith
+
+      pub moved_above : KnowAbove out' above' m
+      moved_above u i v h e some =
+          let l = led_before (was u) i v (was_inside u h) (sym (out_was u i h) ∙ e) some in
+          let there : was v ≢ 0 = (elim (equal_or_not v hole) [ inl s ↦ (let w = was_hole v s in omega arith) | inr n ↦ (let w = was_other v n in omega arith) ]) in
+          let k : above (was v) ≡ was u = know (was u) i (was v) (was_inside u h) l.0 there in
+          elim (equal_or_not v hole) [
+            | inl ev ↦
+                let off : u ≢ hole = (λ z.
+                let b = so.down (was u) i (was v) (was_inside u h) l.0 there in
+                let d : deep (was v) ≡ suc (deep (was v)) = b.deeper ∙ ap (λ w. suc (deep w)) (was_hole u z ∙ sym (was_hole v ev)) in omega arith) in
+                ap above' ev ∙ come not_last ∙ ap above (sym (was_hole v ev)) ∙ k ∙ was_other u off
+            | inr dv ↦ elim (equal_or_not u hole) [
+              | inl eu ↦
+                  let w = was_hole u eu in
+                  let b = so.down (was u) i (was v) (was_inside u h) l.0 there in
+                  let t = b.turned in
+                  let f = turn_few slots (deep (was u)) (key (was v)) (λ z. let y = so.root (was u) z in omega arith) in
+                  hung v i some l.1 dv (omega arith) (ap (λ w. out1 w i) (sym (was_hole u eu)) ∙ sym (out_was u i h) ∙ e) ∙ sym eu
+              | inr du ↦ kept v l.1 dv (λ j few f.
+                  let p = led_before (suc m) j v (omega arith) f some in
+                  let z : above (was v) ≡ suc m = know (suc m) j (was v) (omega arith) p.0 there in
+                  let y : was u ≡ u = was_other u du in omega arith) ∙ ap above (sym (was_other v dv)) ∙ k ∙ was_other u du
+            ]
+          ]

@@ -1,12 +1,20 @@
 -- Rows of nodes: what is found, and what each step leaves.
-use Rattle.std.proofs.Common.{◌≡◌, ◌≢◌, inl, inr, ℕ, zero, suc, ◌-◌, ◌%◌, ◌/◌, ◌^◌, ◌<◌, ◌≤◌, List, [], ◌∷◌, ◌++◌, length, Option, Some, None, slice_get, slice_set, slice_index_or, get_or, take, drop, refl, sym, ◌∙◌, ap, arith}
+use Rattle.std.proofs.Common.{◌≡◌, ◌≢◌, ◌⊎◌, inl, inr, ℕ, zero, suc, ◌-◌, ◌%◌, ◌/◌, ◌^◌, ◌<◌, ◌≤◌, List, [], ◌∷◌, ◌++◌, length, Option, Some, None, slice_get, slice_set, slice_index_or, get_or, take, drop, refl, sym, ◌∙◌, ap, arith}
 use Rattle.std.specs.Option.{option_map, option_map_or}
 use Rattle.std.specs.Int.{bit_at}
-use Rattle.std.proofs.lemmas.List.{get_or-set_same, get_or-set_other}
+use Rattle.std.proofs.lemmas.List.{get_or-set_same, get_or-set_other, length-set}
 use Rattle.std.proofs.lemmas.Option.{slice_get_within, slice_get-map, slice_get_read}
 use Rattle.number_map.specs.declared.Node.{Node}
-use Rattle.number_map.specs.Kept.{slot, head_at, key_in, link_in, key_at, link_at, out_at, entry_of, entries_of, follow, walk, IsPlanted, IsIndexed, IsWay, IsTurned, IsLed, IsLedBelow, IsHung, HasKey, SameEntries}
-use Rattle.number_map.proofs.Trees.{equal_or_not, lower, shares, found, stops, next_bits, left, left_less, ended}
+use Rattle.number_map.specs.Kept.{slot, turn, head_at, key_in, link_in, key_at, link_at, above_in, above_at, out_at, entry_of, entries_of, follow, walk, IsPlanted, IsIndexed, IsWay, IsTurnedBelow, IsLed, IsLedBelow, IsCut, IsHung, AreHung, HasKey, SameEntries, SameAbove}
+use Rattle.number_map.proofs.Trees.{equal_or_not, shares, found, stops, next_bits, left, left_less, ended}
+
+bit_few : (key d : ℕ) → bit_at key d < 2
+bit_few key d = omega arith
+
+pub few_cases : (i : ℕ) → i < 2 → (i ≡ 0) ⊎ (i ≡ 1)
+few_cases zero h = inl refl
+few_cases (suc zero) h = inr refl
+few_cases (suc (suc i)) h = absurd (omega arith)
 
 pub same_some : {A : Type 0} (x y : A) → Some x ≡ Some y → x ≡ y
 same_some x y e = cc
@@ -73,6 +81,9 @@ module _ {V : Type 0} where
   pub link_of_some : (nodes : List (Node V)) (x i : ℕ) (n : Node V) → slice_get nodes x ≡ Some n → link_at nodes x i ≡ slice_index_or n.links i 0
   link_of_some nodes x i n e = ap (λ (o : Option (Node V)). link_in i o) e
 
+  pub above_of_some : (nodes : List (Node V)) (x : ℕ) (n : Node V) → slice_get nodes x ≡ Some n → above_at nodes (suc x) ≡ n.above
+  above_of_some nodes x n e = ap (λ (o : Option (Node V)). above_in o) e
+
   pub entry_here : (nodes : List (Node V)) (x : ℕ) (n : Node V) → slice_get nodes x ≡ Some n → slice_get (entries_of nodes) x ≡ Some (entry_of n)
   entry_here nodes x n e = slice_get-map entry_of nodes x ∙ ap (λ (o : Option (Node V)). option_map entry_of o) e
 
@@ -118,13 +129,8 @@ module _ {V : Type 0} where
         let f = found (length heads) (key_at nodes) (out_at nodes heads) r.deep places hole r.tree (suc x) (omega arith) (omega arith) present in
         (r.deep (suc x) - 1, rw own at f)
 
-    pub way_to : (x key from : ℕ) → x < places → suc x ≢ hole → key_at nodes (suc x) ≡ key → from ≡ suc x → places ≤ length nodes → IsWay nodes (head_at heads key) key from
-    way_to x key from h present own is low =
-        let f = way_leads x key h present own in
-        record { depth = f.0; is = f.1 ∙ sym is; inside = λ d y e. (let w = way_inside key d y e in omega arith); ends = way_ends key }
-
-    pub way_out : (key : ℕ) → places ≤ length nodes → IsWay nodes (head_at heads key) key 0
-    way_out key low = record { depth = 65; is = way_ends key; inside = λ d y e. (let w = way_inside key d y e in omega arith); ends = way_ends key }
+    pub way_out : (key : ℕ) → places ≤ length nodes → IsWay nodes (head_at heads key) key
+    way_out key low = record { inside = λ d y e. (let w = way_inside key d y e in omega arith); ends = way_ends key }
 
   module _ (nodes : List (Node V)) (first key d bits x : ℕ) (bits_is : bits ≡ key / 2 ^ d) (on : suc x ≡ walk (link_at nodes) first key d) (n : Node V) (at : slice_get nodes x ≡ Some n) where
     pub next_link : slice_index_or n.links (bits % 2) 0 ≡ walk (link_at nodes) first key (suc d)
@@ -179,34 +185,23 @@ module _ {V : Type 0} where
 
   -- ---- on the way to a link
 
-  -- The node at this place leads on to the key's, and no link before led where the sought one does.
-  pub record IsLeading (nodes : List (Node V)) (first key from above bits link : ℕ) : Type 0 where
+  -- The node at this place is on the way to the key, and so is what its link leads to.
+  pub record IsLeading (nodes : List (Node V)) (first key above bits link : ℕ) : Type 0 where
     pub inside : above < length nodes
-    pub some : link ≢ from → 0 < link
     pub low : link ≤ length nodes
     pub depth : ℕ
     pub bits_is : bits ≡ key / 2 ^ depth
     pub on : suc above ≡ walk (link_at nodes) first key depth
     pub next : link ≡ walk (link_at nodes) first key (suc depth)
-    pub before : (e : ℕ) → e ≤ depth → walk (link_at nodes) first key e ≢ from
 
-  module _ (nodes : List (Node V)) (first key from : ℕ) (way : IsWay nodes first key from) where
-    leading_at : (d above bits : ℕ) → bits ≡ key / 2 ^ d → suc above ≡ walk (link_at nodes) first key d → ((e : ℕ) → e ≤ d → walk (link_at nodes) first key e ≢ from)
-        → (n : Node V) → slice_get nodes above ≡ Some n → IsLeading nodes first key from above bits (slice_index_or n.links (bits % 2) 0)
-    leading_at d above bits b on before n at =
+  module _ (nodes : List (Node V)) (first key : ℕ) (way : IsWay nodes first key) where
+    leading_at : (d above bits : ℕ) → bits ≡ key / 2 ^ d → suc above ≡ walk (link_at nodes) first key d
+        → (n : Node V) → slice_get nodes above ≡ Some n → IsLeading nodes first key above bits (slice_index_or n.links (bits % 2) 0)
+    leading_at d above bits b on n at =
         let next = next_link nodes first key d bits above b on n at in
         let link : ℕ = slice_index_or n.links (bits % 2) 0 in
         record {
           inside = way.inside d above (sym on);
-          some = λ other. elim (equal_or_not link 0) [
-            | inl z ↦
-                let none : walk (link_at nodes) first key (suc d) ≡ 0 = sym next ∙ z in
-                elim (lower d way.depth) [
-                  | inl h ↦ absurd (other (z ∙ sym (ended (link_at nodes) first key (suc d) way.depth none h) ∙ way.is))
-                  | inr h ↦ absurd (before way.depth h way.is)
-                ]
-            | inr o ↦ omega arith
-          ];
           low = elim (equal_or_not link 0) [
             | inl z ↦ omega arith
             | inr o ↦
@@ -217,31 +212,25 @@ module _ {V : Type 0} where
           bits_is = b;
           on = on;
           next = next;
-          before = before;
         }
 
-    pub leading_first : 0 < first → first ≢ from → (n : Node V) → slice_get nodes (first - 1) ≡ Some n → IsLeading nodes first key from (first - 1) key (slice_index_or n.links (key % 2) 0)
-    leading_first some other n at =
+    pub leading_first : 0 < first → (n : Node V) → slice_get nodes (first - 1) ≡ Some n → IsLeading nodes first key (first - 1) key (slice_index_or n.links (key % 2) 0)
+    leading_first some n at =
         let one : key ≡ key / 2 ^ 0 = grind arith in
         let up : suc (first - 1) ≡ first = omega arith in
-        leading_at 0 (first - 1) key one up (λ e h. let z : e ≡ 0 = omega arith in rw z other) n at
+        leading_at 0 (first - 1) key one up n at
 
-    module _ (above bits link : ℕ) (so : IsLeading nodes first key from above bits link) (other : link ≢ from) where
-      pub leading_next : (n : Node V) → slice_get nodes (link - 1) ≡ Some n → IsLeading nodes first key from (link - 1) (bits / 2) (slice_index_or n.links (bits / 2 % 2) 0)
+    module _ (above bits link : ℕ) (so : IsLeading nodes first key above bits link) (some : 0 < link) where
+      pub leading_next : (n : Node V) → slice_get nodes (link - 1) ≡ Some n → IsLeading nodes first key (link - 1) (bits / 2) (slice_index_or n.links (bits / 2 % 2) 0)
       leading_next n at =
-          let up : suc (link - 1) ≡ link = (let s = so.some other in omega arith) in
-          leading_at (suc so.depth) (link - 1) (bits / 2) (next_bits key so.depth bits so.bits_is) (up ∙ so.next)
-          (λ e h. elim (equal_or_not e (suc so.depth)) [
-            | inl z ↦ rw z (λ f. other (so.next ∙ f))
-            | inr o ↦ so.before e (omega arith)
-          ]) n at
+          let up : suc (link - 1) ≡ link = omega arith in
+          leading_at (suc so.depth) (link - 1) (bits / 2) (next_bits key so.depth bits so.bits_is) (up ∙ so.next) n at
 
-      pub leading_less : left (link_at nodes) 66 (suc (link - 1)) (bits / 2) < left (link_at nodes) 66 (suc above) bits
+      pub leading_less : left (link_at nodes) 66 link (bits / 2) < left (link_at nodes) 66 (suc above) bits
       leading_less =
-          let up : suc (link - 1) ≡ link = (let s = so.some other in omega arith) in
           let turn : bits % 2 ≡ bit_at key so.depth = ap (λ m. m % 2) so.bits_is in
-          left_less (link_at nodes) first key so.depth above bits (suc (link - 1)) so.bits_is so.on way.ends
-          (up ∙ so.next ∙ ap (λ u. follow (link_at nodes) u (bit_at key so.depth)) (sym so.on) ∙ ap (λ i. link_at nodes above i) (sym turn))
+          left_less (link_at nodes) first key so.depth above bits link so.bits_is so.on way.ends
+          (so.next ∙ ap (λ u. follow (link_at nodes) u (bit_at key so.depth)) (sym so.on) ∙ ap (λ i. link_at nodes above i) (sym turn))
 
   -- ---- a link is turned
 
@@ -263,60 +252,113 @@ module _ {V : Type 0} where
       | inr d ↦ slice_get-map entry_of (slice_set nodes x m) i ∙ ap (λ (o : Option (Node V)). option_map entry_of o) (got_other nodes x i m d) ∙ sym (slice_get-map entry_of nodes i)
     ])
 
-    pub turned_link : (side to : ℕ) → slice_index_or m.links side 0 ≡ to → ((i : ℕ) → i ≢ side → slice_index_or m.links i 0 ≡ slice_index_or n.links i 0)
-        → (link_at (slice_set nodes x m) x side ≡ to) × ((w j : ℕ) → (w ≡ x → j ≡ side → ⊥) → link_at (slice_set nodes x m) w j ≡ link_at nodes w j)
-    turned_link side to here others = (
-      turned_here side ∙ here,
-      λ w j d. elim (equal_or_not w x) [
+    pub above_here : above_at (slice_set nodes x m) (suc x) ≡ m.above
+    above_here = ap (λ (o : Option (Node V)). above_in o) (got_set nodes x m inside_turned)
+
+    pub above_other : (v : ℕ) → v ≢ suc x → above_at (slice_set nodes x m) v ≡ above_at nodes v
+    above_other zero d = refl
+    above_other (suc y) d = ap (λ (o : Option (Node V)). above_in o) (got_other nodes x y m (λ e. d (ap (λ n. suc n) e)))
+
+    pub above_same : m.above ≡ n.above → SameAbove nodes (slice_set nodes x m)
+    above_same k v = elim (equal_or_not v (suc x)) [
+      | inl e ↦ ap (above_at (slice_set nodes x m)) e ∙ above_here ∙ k ∙ sym (ap (λ (o : Option (Node V)). above_in o) at) ∙ ap (above_at nodes) (sym e)
+      | inr d ↦ above_other v d
+    ]
+
+    pub links_same : m.links ≡ n.links → (w j : ℕ) → link_at (slice_set nodes x m) w j ≡ link_at nodes w j
+    links_same k w j = elim (equal_or_not w x) [
+      | inl e ↦
+          ap (λ y. link_at (slice_set nodes x m) y j) e ∙ turned_here j ∙ ap (λ (ls : List ℕ). slice_index_or ls j 0) k
+          ∙ sym (link_of_some nodes x j n at) ∙ ap (λ y. link_at nodes y j) (sym e)
+      | inr o ↦ turned_other w j o
+    ]
+
+    pub turned_below : (side from to : ℕ) → slice_index_or n.links side 0 ≡ from → slice_index_or m.links side 0 ≡ to → ((i : ℕ) → i ≢ side → slice_index_or m.links i 0 ≡ slice_index_or n.links i 0)
+        → m.key ≡ n.key → m.value ≡ n.value → m.above ≡ n.above → IsTurnedBelow nodes (slice_set nodes x m) x from to
+    turned_below side from to was here others k v a = record {
+      side = side;
+      was = link_of_some nodes x side n at ∙ was;
+      is = turned_here side ∙ here;
+      others = λ w j d. elim (equal_or_not w x) [
         | inl e ↦
             ap (λ y. link_at (slice_set nodes x m) y j) e ∙ turned_here j ∙ others j (λ f. d e f)
             ∙ sym (link_of_some nodes x j n at) ∙ ap (λ y. link_at nodes y j) (sym e)
         | inr o ↦ turned_other w j o
-      ],
-    )
+      ];
+      entries = turned_entries k v;
+      above = above_same a;
+    }
 
-    pub led_below : (first key from to bits link : ℕ) → IsLeading nodes first key from x bits link → link ≡ from → slice_index_or m.links (bits % 2) 0 ≡ to
-        → ((i : ℕ) → i ≢ bits % 2 → slice_index_or m.links i 0 ≡ slice_index_or n.links i 0) → IsLedBelow nodes (slice_set nodes x m) first key from to
-    led_below first key from to bits link so is here others =
-        let turn : bits % 2 ≡ bit_at key so.depth = ap (λ m. m % 2) so.bits_is in
-        record {
-          depth = so.depth;
-          x = x;
-          on = sym so.on;
-          was = ap (λ u. follow (link_at nodes) u (bit_at key so.depth)) so.on ∙ sym so.next ∙ is;
-          is = turned_here (bit_at key so.depth) ∙ ap (λ i. slice_index_or m.links i 0) (sym turn) ∙ here;
-          others = λ w j d. elim (equal_or_not w x) [
-            | inl e ↦
-                ap (λ y. link_at (slice_set nodes x m) y j) e ∙ turned_here j ∙ others j (λ f. d e (f ∙ turn))
-                ∙ sym (link_of_some nodes x j n at) ∙ ap (λ y. link_at nodes y j) (sym e)
-            | inr o ↦ turned_other w j o
-          ];
-        }
+    module _ (nodes' : List (Node V)) (first key to bits link : ℕ) (so : IsLeading nodes first key x bits link) (is : link ≡ 0) (here : slice_index_or m.links (bits % 2) 0 ≡ to)
+        (others : (i : ℕ) → i ≢ bits % 2 → slice_index_or m.links i 0 ≡ slice_index_or n.links i 0) (above : m.above ≡ n.above) (a : ℕ) (a_is : a ≡ suc x) (hung : IsHung (slice_set nodes x m) nodes' to a) (some : 0 < to) where
+      pub led_below : IsLedBelow nodes nodes' first key to
+      led_below =
+          let turn : bits % 2 ≡ bit_at key so.depth = ap (λ m. m % 2) so.bits_is in
+          record {
+            depth = so.depth;
+            x = x;
+            on = sym so.on;
+            was = ap (λ u. follow (link_at nodes) u (bit_at key so.depth)) so.on ∙ sym so.next ∙ is;
+            is = hung.links x (bit_at key so.depth) ∙ turned_here (bit_at key so.depth) ∙ ap (λ i. slice_index_or m.links i 0) (sym turn) ∙ here;
+            links = λ w j d. hung.links w j ∙ elim (equal_or_not w x) [
+              | inl e ↦
+                  ap (λ y. link_at (slice_set nodes x m) y j) e ∙ turned_here j ∙ others j (λ f. d e (f ∙ turn))
+                  ∙ sym (link_of_some nodes x j n at) ∙ ap (λ y. link_at nodes y j) (sym e)
+              | inr o ↦ turned_other w j o
+            ];
+            here = hung.here (omega arith) ∙ a_is;
+            others = λ v d. hung.others v d ∙ above_same above v;
+          }
+
+  -- what a link leads to hangs on another node
+  pub hung_here : (nodes : List (Node V)) (link above : ℕ) (n m : Node V) → 0 < link → slice_get nodes (link - 1) ≡ Some n → m.links ≡ n.links → m.key ≡ n.key → m.value ≡ n.value → m.above ≡ above → IsHung nodes (slice_set nodes (link - 1) m) link above
+  hung_here nodes link above n m some at ls k v a =
+      let up : link ≡ suc (link - 1) = omega arith in
+      record {
+        here = λ h. ap (above_at (slice_set nodes (link - 1) m)) up ∙ above_here nodes (link - 1) n m at ∙ a;
+        others = λ w d. above_other nodes (link - 1) n m at w (λ e. d (e ∙ sym up));
+        links = links_same nodes (link - 1) n m at ls;
+        entries = turned_entries nodes (link - 1) n m at k v;
+      }
+
+  -- what both links of a node lead to hangs on another node
+  pub both_hung : (nodes nodes1 nodes2 : List (Node V)) (place above : ℕ) (n : Node V) → slice_get nodes place ≡ Some n → IsHung nodes nodes1 (slice_index_or n.links 0 0) above → IsHung nodes1 nodes2 (slice_index_or n.links 1 0) above → AreHung nodes nodes2 place above
+  both_hung nodes nodes1 nodes2 place above n at one two = record {
+    here = λ v i some few e. elim (few_cases i few) [
+      | inl z ↦
+          let is : v ≡ slice_index_or n.links 0 0 = sym e ∙ ap (link_at nodes place) z ∙ link_of_some nodes place 0 n at in
+          elim (equal_or_not v (slice_index_or n.links 1 0)) [
+            | inl f ↦ ap (above_at nodes2) f ∙ two.here (λ y. some (f ∙ y))
+            | inr d ↦ two.others v d ∙ ap (above_at nodes1) is ∙ one.here (λ y. some (is ∙ y))
+          ]
+      | inr z ↦
+          let is : v ≡ slice_index_or n.links 1 0 = sym e ∙ ap (link_at nodes place) z ∙ link_of_some nodes place 1 n at in
+          ap (above_at nodes2) is ∙ two.here (λ y. some (is ∙ y))
+    ];
+    others = λ v none.
+        two.others v (λ e. none 1 (omega arith) (link_of_some nodes place 1 n at ∙ sym e))
+        ∙ one.others v (λ e. none 0 (omega arith) (link_of_some nodes place 0 n at ∙ sym e));
+    links = λ x i. two.links x i ∙ one.links x i;
+    entries = two.entries ∙ one.entries;
+  }
 
   -- ---- a link is led elsewhere, from the head on
 
-  module _ (nodes : List (Node V)) (heads : List ℕ) (key from : ℕ) (way : IsWay nodes (head_at heads key) key from) where
-    pub head_some : head_at heads key ≢ from → 0 < head_at heads key
-    head_some other = elim (equal_or_not (head_at heads key) 0) [
-      | inl z ↦ absurd (other (z ∙ sym (ended (link_at nodes) (head_at heads key) key 0 way.depth z (omega arith)) ∙ way.is))
-      | inr n ↦ omega arith
-    ]
-
-    pub head_low : head_at heads key ≤ length nodes
-    head_low = elim (equal_or_not (head_at heads key) 0) [
-      | inl z ↦ omega arith
-      | inr n ↦
-          let up : head_at heads key ≡ suc (head_at heads key - 1) = omega arith in
-          let i = way.inside 0 (head_at heads key - 1) up in omega arith
-    ]
+  pub head_low : (nodes : List (Node V)) (heads : List ℕ) (key : ℕ) → IsWay nodes (head_at heads key) key → head_at heads key ≤ length nodes
+  head_low nodes heads key way = elim (equal_or_not (head_at heads key) 0) [
+    | inl z ↦ omega arith
+    | inr n ↦
+        let up : head_at heads key ≡ suc (head_at heads key - 1) = omega arith in
+        let i = way.inside 0 (head_at heads key - 1) up in omega arith
+  ]
 
   others_head : (nodes : List (Node V)) (heads : List ℕ) (s to w j : ℕ) → (w ≡ 0 → j ≡ s → ⊥) → out_at nodes (slice_set heads s to) w j ≡ out_at nodes heads w j
   others_head nodes heads s to zero j d = get_or-set_other heads s j to 0 (λ e. d refl e)
   others_head nodes heads s to (suc x) j d = refl
 
-  pub led_head : (nodes : List (Node V)) (heads : List ℕ) (key from to s : ℕ) → s ≡ slot key (length heads) → s < length heads → slice_index_or heads s 0 ≡ from
-      → IsLed (length heads) (out_at nodes heads) (out_at nodes (slice_set heads s to)) key from to
-  led_head nodes heads key from to s is few was = record {
+  pub led_head : (nodes : List (Node V)) (heads : List ℕ) (key to s : ℕ) → s ≡ slot key (length heads) → s < length heads → slice_index_or heads s 0 ≡ 0 → above_at nodes to ≡ 0
+      → IsLed (length heads) (out_at nodes heads) (out_at nodes (slice_set heads s to)) (above_at nodes) (above_at nodes) key to
+  led_head nodes heads key to s is few was none = record {
     depth = 0;
     u = 0;
     on = refl;
@@ -325,49 +367,86 @@ module _ {V : Type 0} where
       is = ap (λ i. slice_index_or (slice_set heads s to) i 0) (sym is) ∙ get_or-set_same heads s to 0 few;
       others = λ w j d. others_head nodes heads s to w j (λ e f. d e (f ∙ is));
     };
+    here = none;
+    others = λ v d. refl;
   }
 
-  others_on : (old new : List (Node V)) (heads : List ℕ) (first key from to : ℕ) (b : IsLedBelow old new first key from to) (w j : ℕ) → (w ≡ suc b.x → j ≡ bit_at key b.depth → ⊥) → out_at new heads w j ≡ out_at old heads w j
-  others_on old new heads first key from to b zero j d = refl
-  others_on old new heads first key from to b (suc y) j d = b.others y j (λ e f. d (ap (λ n. suc n) e) f)
+  others_on : (old new : List (Node V)) (heads : List ℕ) (first key to : ℕ) (b : IsLedBelow old new first key to) (w j : ℕ) → (w ≡ suc b.x → j ≡ bit_at key b.depth → ⊥) → out_at new heads w j ≡ out_at old heads w j
+  others_on old new heads first key to b zero j d = refl
+  others_on old new heads first key to b (suc y) j d = b.links y j (λ e f. d (ap (λ n. suc n) e) f)
 
-  pub led_on : (old new : List (Node V)) (heads : List ℕ) (key from to s : ℕ) → s ≡ slot key (length heads) → IsLedBelow old new (slice_index_or heads s 0) key from to
-      → IsLed (length heads) (out_at old heads) (out_at new heads) key from to
-  led_on old new heads key from to s is b' =
-      let b : IsLedBelow old new (head_at heads key) key from to = rw is at b' in
+  pub led_on : (old new : List (Node V)) (heads : List ℕ) (key to s : ℕ) → s ≡ slot key (length heads) → IsLedBelow old new (slice_index_or heads s 0) key to
+      → IsLed (length heads) (out_at old heads) (out_at new heads) (above_at old) (above_at new) key to
+  led_on old new heads key to s is b' =
+      let b : IsLedBelow old new (head_at heads key) key to = rw is at b' in
       record {
         depth = suc b.depth;
         u = suc b.x;
         on = (b.on, omega arith);
-        turned = record { was = b.was; is = b.is; others = λ w j d. others_on old new heads (head_at heads key) key from to b w j d };
+        turned = record { was = b.was; is = b.is; others = λ w j d. others_on old new heads (head_at heads key) key to b w j d };
+        here = b.here;
+        others = b.others;
       }
 
-  -- ---- the link that leads to a place, from the head on
+  -- ---- the link that leads to a place
 
-  module _ (nodes : List (Node V)) (heads : List ℕ) (place above side : ℕ) (hung : IsHung nodes heads place above side) where
-    pub cut_head : above ≡ 0 → IsTurned (out_at nodes heads) (out_at nodes (slice_set heads side 0)) above side (suc place) 0
-    cut_head z = record {
-      was = hung.leads;
-      is = ap (λ u. out_at nodes (slice_set heads side 0) u side) z ∙ get_or-set_same heads side 0 0 (hung.slot z);
-      others = λ w j d. others_head nodes heads side 0 w j (λ e f. d (e ∙ sym z) f);
+  module _ (nodes : List (Node V)) (heads : List ℕ) (place hole : ℕ) (within : place < length nodes) (present : suc place ≢ hole) (r : IsPlanted nodes heads (length nodes) hole) where
+    up_of : (u : ℕ) × (u ≤ length nodes) × (out_at nodes heads u (turn (length heads) (r.deep u) (key_at nodes (suc place))) ≡ suc place)
+    up_of = r.tree.up (suc place) (omega arith) within present
+
+    is_above : above_at nodes (suc place) ≡ up_of.0
+    is_above = r.above up_of.0 _ (suc place) up_of.1 up_of.2 (omega arith)
+
+    pub above_low : above_at nodes (suc place) ≤ length nodes
+    above_low = let e = is_above in let l = up_of.1 in omega arith
+
+    -- from a head
+    pub from_head : (key s : ℕ) → key_at nodes (suc place) ≡ key → s ≡ slot key (length heads) → above_at nodes (suc place) ≡ 0 → slice_index_or heads s 0 ≡ suc place
+    from_head key s own is top =
+        let z : up_of.0 ≡ 0 = sym is_above ∙ top in
+        let p = up_of.2 in
+        let q = rw (z, r.tree.top, own) at p in
+        ap (λ i. slice_index_or heads i 0) is ∙ q
+
+    -- from a node
+    pub from_node : (above : ℕ) → above_at nodes (suc place) ≡ above → 0 < above → (i : ℕ) × (i < 2) × (link_at nodes (above - 1) i ≡ suc place)
+    from_node above own some =
+        let up : up_of.0 ≡ suc (above - 1) = (let e = is_above in omega arith) in
+        let d : r.deep up_of.0 ≡ suc (r.deep up_of.0 - 1) = (let o : r.deep up_of.0 ≢ 0 = (λ e. let z = r.tree.root up_of.0 e in omega arith) in omega arith) in
+        let p = up_of.2 in
+        let q = rw (d, up) at p in
+        (bit_at (key_at nodes (suc place)) (r.deep (suc (above - 1)) - 1), bit_few (key_at nodes (suc place)) (r.deep (suc (above - 1)) - 1), q)
+
+    others_below : (nodes' : List (Node V)) (x from to : ℕ) (t : IsTurnedBelow nodes nodes' x from to) (w j : ℕ) → (w ≡ suc x → j ≡ t.side → ⊥) → out_at nodes' heads w j ≡ out_at nodes heads w j
+    others_below nodes' x from to t zero j d = refl
+    others_below nodes' x from to t (suc y) j d = t.others y j (λ e f. d (ap (λ n. suc n) e) f)
+
+    pub cut_head : (s to : ℕ) → s < length heads → slice_index_or heads s 0 ≡ suc place → above_at nodes (suc place) ≡ 0 → IsCut nodes nodes heads (slice_set heads s to) place to
+    cut_head s to few was top = record {
+      side = s;
+      inside = above_low;
+      turned = record {
+        was = ap (λ u. out_at nodes heads u s) top ∙ was;
+        is = ap (λ u. out_at nodes (slice_set heads s to) u s) top ∙ get_or-set_same heads s to 0 few;
+        others = λ w j d. others_head nodes heads s to w j (λ e f. d (e ∙ sym top) f);
+      };
+      entries = refl;
+      above = λ v. refl;
+      len = length-set heads s to;
     }
 
-    cut_others : (n m : Node V) → slice_get nodes (above - 1) ≡ Some n → ((i : ℕ) → i ≢ side → slice_index_or m.links i 0 ≡ slice_index_or n.links i 0)
-        → (w j : ℕ) → (w ≡ suc (above - 1) → j ≡ side → ⊥) → out_at (slice_set nodes (above - 1) m) heads w j ≡ out_at nodes heads w j
-    cut_others n m at others zero j d = refl
-    cut_others n m at others (suc y) j d = elim (equal_or_not y (above - 1)) [
-      | inl e ↦
-          ap (λ z. link_at (slice_set nodes (above - 1) m) z j) e ∙ turned_here nodes (above - 1) n m at j ∙ others j (λ f. d (ap (λ k. suc k) e) f)
-          ∙ sym (link_of_some nodes (above - 1) j n at) ∙ ap (λ z. link_at nodes z j) (sym e)
-      | inr o ↦ turned_other nodes (above - 1) n m at y j o
-    ]
-
-    pub cut_node : 0 < above → (n m : Node V) → slice_get nodes (above - 1) ≡ Some n → slice_index_or m.links side 0 ≡ 0 → ((i : ℕ) → i ≢ side → slice_index_or m.links i 0 ≡ slice_index_or n.links i 0)
-        → IsTurned (out_at nodes heads) (out_at (slice_set nodes (above - 1) m) heads) above side (suc place) 0
-    cut_node some n m at here others =
-        let up : above ≡ suc (above - 1) = omega arith in
+    pub cut_node : (nodes' : List (Node V)) (above to : ℕ) → above_at nodes (suc place) ≡ above → 0 < above → IsTurnedBelow nodes nodes' (above - 1) (suc place) to → IsCut nodes nodes' heads heads place to
+    cut_node nodes' above to own some t =
+        let up : above_at nodes (suc place) ≡ suc (above - 1) = omega arith in
         record {
-          was = hung.leads;
-          is = ap (λ u. out_at (slice_set nodes (above - 1) m) heads u side) up ∙ turned_here nodes (above - 1) n m at side ∙ here;
-          others = λ w j d. cut_others n m at others w j (λ e f. d (e ∙ sym up) f);
+          side = t.side;
+          inside = above_low;
+          turned = record {
+            was = ap (λ u. out_at nodes heads u t.side) up ∙ t.was;
+            is = ap (λ u. out_at nodes' heads u t.side) up ∙ t.is;
+            others = λ w j d. others_below nodes' (above - 1) (suc place) to t w j (λ e f. d (e ∙ sym up) f);
+          };
+          entries = t.entries;
+          above = t.above;
+          len = refl;
         }

@@ -99,7 +99,7 @@ module _ {V : Type 0} where
   module _ (nodes : List (Node V)) (heads : List ℕ) (capacity room : ℕ) (k : IsKept nodes heads capacity room) (key x : ℕ) (has : HasKey nodes key x)
       (n : Node V) (at : slice_get nodes x ≡ Some n) (value : V) where
     abbrev changed : List (Node V)
-    changed = slice_set nodes x (record { key = n.key; value = value; links = n.links })
+    changed = slice_set nodes x (record { key = n.key; value = value; links = n.links; above = n.above })
 
     inside : x < length nodes
     inside = slice_get_within nodes x n at
@@ -136,9 +136,9 @@ module _ {V : Type 0} where
     pub kept_changed : IsKept changed heads capacity room
     kept_changed = record {
       unique = unique_changed;
-      indexed = indexed_valued nodes heads x n _ at refl refl k.indexed;
-      fits = let f = k.fits in let l = length-set nodes x (let m : Node V = record { key = n.key; value = value; links = n.links } in m) in omega arith;
-      few = let f = k.few in let l = length-set nodes x (let m : Node V = record { key = n.key; value = value; links = n.links } in m) in omega arith;
+      indexed = indexed_valued nodes heads x n _ at refl refl refl k.indexed;
+      fits = let f = k.fits in let l = length-set nodes x (let m : Node V = record { key = n.key; value = value; links = n.links; above = n.above } in m) in omega arith;
+      few = let f = k.few in let l = length-set nodes x (let m : Node V = record { key = n.key; value = value; links = n.links; above = n.above } in m) in omega arith;
       ready = k.ready;
     }
 

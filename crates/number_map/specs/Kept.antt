@@ -1,5 +1,5 @@
 -- How a map from numbers is kept: its keys in a row, each in the tree of its hash. No public clause cites this module.
-use Rattle.std.specs.Prelude.{◌≡◌, ◌≢◌, ℕ, zero, suc, ◌+◌, ◌-◌, ◌*◌, ◌%◌, ◌^◌, ◌<◌, ◌≤◌, List, map, length, Option, Some, slice_get, slice_index_or, bit_and}
+use Rattle.std.specs.Prelude.{◌≡◌, ◌≢◌, ℕ, zero, suc, ◌+◌, ◌-◌, ◌*◌, ◌%◌, ◌^◌, ◌<◌, ◌≤◌, List, map, length, Option, Some, slice_get, slice_index_or, bit_and, cond, eqb}
 use Rattle.std.specs.Option.{option_map_or}
 use Rattle.std.specs.Int.{w64, rotate_right, bit_at}
 use Rattle.number_map.specs.declared.Node.{Node}
@@ -57,14 +57,24 @@ pub record IsTurned (out out' : ℕ → ℕ → ℕ) (u i from to : ℕ) : Type 
   pub is : out' u i ≡ to
   pub others : (w j : ℕ) → (w ≡ u → j ≡ i → ⊥) → out' w j ≡ out w j
 
--- One link on the way to a key leads elsewhere.
-pub record IsLed (slots : ℕ) (out out' : ℕ → ℕ → ℕ) (key from to : ℕ) : Type 0 where
+-- The link on the way to a key that leads nowhere leads to a node from now on, which knows it.
+pub record IsLed (slots : ℕ) (out out' : ℕ → ℕ → ℕ) (above above' : ℕ → ℕ) (key to : ℕ) : Type 0 where
   pub depth : ℕ
   pub u : ℕ
   pub on : IsOn (λ x i. out (suc x) i) (out 0 (turn slots 0 key)) key depth u
-  pub turned : IsTurned out out' u (turn slots depth key) from to
+  pub turned : IsTurned out out' u (turn slots depth key) 0 to
+  pub here : above' to ≡ u
+  pub others : (v : ℕ) → v ≢ to → above' v ≡ above v
+
+-- Each node knows the one whose link leads there.
+abbrev pub KnowAbove : (out : ℕ → ℕ → ℕ) (above : ℕ → ℕ) (places : ℕ) → Type 0
+KnowAbove out above places = (u i v : ℕ) → u ≤ places → out u i ≡ v → v ≢ 0 → above v ≡ u
 
 -- ---- in a row of nodes
+
+-- the second link of a node, where it leads somewhere, and else the first
+abbrev pub below : List ℕ → ℕ
+below links = cond (eqb (slice_index_or links 1 0) 0) (slice_index_or links 0 0) (slice_index_or links 1 0)
 
 -- the head of a key's tree
 abbrev pub head_at : List ℕ → ℕ → ℕ
@@ -77,6 +87,9 @@ module _ {V : Type 0} where
   abbrev pub link_in : ℕ → Option (Node V) → ℕ
   link_in i o = option_map_or (λ (n : Node V). slice_index_or n.links i 0) o 0
 
+  abbrev pub above_in : Option (Node V) → ℕ
+  above_in o = option_map_or (λ (n : Node V). n.above) o 0
+
   abbrev pub link_at : List (Node V) → ℕ → ℕ → ℕ
   link_at nodes x i = link_in i (slice_get nodes x)
 
@@ -84,6 +97,11 @@ module _ {V : Type 0} where
   abbrev pub key_at : List (Node V) → ℕ → ℕ
   key_at nodes zero = 0
   key_at nodes (suc x) = key_in (slice_get nodes x)
+
+  -- the node above, and the root above the first of a tree
+  abbrev pub above_at : List (Node V) → ℕ → ℕ
+  above_at nodes zero = 0
+  above_at nodes (suc x) = above_in (slice_get nodes x)
 
   -- a node's link; the root's are the heads
   abbrev pub out_at : List (Node V) → List ℕ → ℕ → ℕ → ℕ
@@ -100,6 +118,7 @@ module _ {V : Type 0} where
   pub record IsPlanted (nodes : List (Node V)) (heads : List ℕ) (places hole : ℕ) : Type 0 where
     pub deep : ℕ → ℕ
     pub tree : IsTree (length heads) (key_at nodes) (out_at nodes heads) deep places hole
+    pub above : KnowAbove (out_at nodes heads) (above_at nodes) places
     pub wide : 0 < length nodes → 0 < length heads
     -- keys have 64 bits
     pub short : (v : ℕ) → key_at nodes v < 2 ^ 64
@@ -119,34 +138,60 @@ module _ {V : Type 0} where
   abbrev pub SameEntries : List (Node V) → List (Node V) → Type 0
   SameEntries old new = entries_of new ≡ entries_of old
 
-  -- The way to a key from the first node of its tree comes to a link that leads here, and ends.
-  pub record IsWay (nodes : List (Node V)) (first key from : ℕ) : Type 0 where
-    pub depth : ℕ
-    pub is : walk (link_at nodes) first key depth ≡ from
+  -- Each node hangs where it hung.
+  abbrev pub SameAbove : List (Node V) → List (Node V) → Type 0
+  SameAbove old new = (v : ℕ) → above_at new v ≡ above_at old v
+
+  -- The way to a key from the first node of its tree stays in the row, and ends.
+  pub record IsWay (nodes : List (Node V)) (first key : ℕ) : Type 0 where
     pub inside : (d x : ℕ) → walk (link_at nodes) first key d ≡ suc x → x < length nodes
     pub ends : walk (link_at nodes) first key 65 ≡ 0
 
-  -- A link on the way, below the first node, leads elsewhere.
-  pub record IsLedBelow (old new : List (Node V)) (first key from to : ℕ) : Type 0 where
+  -- The link on the way that leads nowhere, below the first node, leads to a node from now on, which knows it.
+  pub record IsLedBelow (old new : List (Node V)) (first key to : ℕ) : Type 0 where
     pub depth : ℕ
     pub x : ℕ
     pub on : walk (link_at old) first key depth ≡ suc x
-    pub was : link_at old x (bit_at key depth) ≡ from
+    pub was : link_at old x (bit_at key depth) ≡ 0
     pub is : link_at new x (bit_at key depth) ≡ to
-    pub others : (w j : ℕ) → (w ≡ x → j ≡ bit_at key depth → ⊥) → link_at new w j ≡ link_at old w j
+    pub links : (w j : ℕ) → (w ≡ x → j ≡ bit_at key depth → ⊥) → link_at new w j ≡ link_at old w j
+    pub here : above_at new to ≡ suc x
+    pub others : (v : ℕ) → v ≢ to → above_at new v ≡ above_at old v
 
-  -- A link leads to the node at this place: one of the node above, or of the root, a head.
-  pub record IsHung (nodes : List (Node V)) (heads : List ℕ) (place above side : ℕ) : Type 0 where
-    pub inside : above ≤ length nodes
-    pub leads : out_at nodes heads above side ≡ suc place
-    pub few : above ≢ 0 → side < 2
-    pub slot : above ≡ 0 → side < length heads
+  -- One link of the node at a place leads elsewhere.
+  pub record IsTurnedBelow (old new : List (Node V)) (x from to : ℕ) : Type 0 where
+    pub side : ℕ
+    pub was : link_at old x side ≡ from
+    pub is : link_at new x side ≡ to
+    pub others : (w j : ℕ) → (w ≡ x → j ≡ side → ⊥) → link_at new w j ≡ link_at old w j
+    pub entries : SameEntries old new
+    pub above : SameAbove old new
 
-  -- A link leads to a leaf from this place down, whose key turns as the key there down to the place.
-  pub record IsAboveLeaf (nodes : List (Node V)) (place above side leaf : ℕ) : Type 0 where
-    pub inside : above < length nodes
-    pub few : side < 2
-    pub leads : link_at nodes above side ≡ suc leaf
+  -- The link that leads to a node leads elsewhere.
+  pub record IsCut (old new : List (Node V)) (heads heads' : List ℕ) (place to : ℕ) : Type 0 where
+    pub side : ℕ
+    pub inside : above_at old (suc place) ≤ length old
+    pub turned : IsTurned (out_at old heads) (out_at new heads') (above_at old (suc place)) side (suc place) to
+    pub entries : SameEntries old new
+    pub above : SameAbove old new
+    pub len : length heads' ≡ length heads
+
+  -- What a link leads to hangs on a node.
+  pub record IsHung (old new : List (Node V)) (link above : ℕ) : Type 0 where
+    pub here : link ≢ 0 → above_at new link ≡ above
+    pub others : (v : ℕ) → v ≢ link → above_at new v ≡ above_at old v
+    pub links : (x i : ℕ) → link_at new x i ≡ link_at old x i
+    pub entries : SameEntries old new
+
+  -- The nodes below a node hang on another.
+  pub record AreHung (old new : List (Node V)) (place above : ℕ) : Type 0 where
+    pub here : (v i : ℕ) → v ≢ 0 → i < 2 → link_at old place i ≡ v → above_at new v ≡ above
+    pub others : (v : ℕ) → ((i : ℕ) → i < 2 → link_at old place i ≢ v) → above_at new v ≡ above_at old v
+    pub links : (x i : ℕ) → link_at new x i ≡ link_at old x i
+    pub entries : SameEntries old new
+
+  -- A leaf at or below a place, whose key turns as the key there down to the place.
+  pub record IsLeafBelow (nodes : List (Node V)) (place leaf : ℕ) : Type 0 where
     pub low : leaf < length nodes
     pub bare : (i : ℕ) → link_at nodes leaf i ≡ 0
     pub alike : (heads : List ℕ) (r : IsIndexed nodes heads) → AreAlike (length heads) (r.deep (suc place)) (key_at nodes (suc place)) (key_at nodes (suc leaf))

@@ -2,25 +2,39 @@ use Rattle.std.proofs.Common.{◌≡◌, ◌<◌, ◌-◌, ◌∙◌, suc, refl,
 use Rattle.std.specs.FinMap as map
 use Rattle.std.specs.Ordering.{nat_cmp}
 use Rattle.number_map.specs.declared.Node.{Node}
-use Rattle.number_map.specs.Kept.{entries_of}
+use Rattle.number_map.specs.Kept.{entries_of, above_at}
 use Rattle.number_map.proofs.Entries.{lookup_is, map_is, room_is, same_view}
-use Rattle.number_map.proofs.Rows.{length_pushed, same_len, way_out, wrote}
+use Rattle.number_map.proofs.Rows.{length_pushed, got_last, same_len, way_out, wrote, above_of_some}
 use Rattle.number_map.proofs.Planted.{planted_pushed, pushed_joined, bare_pair, no_links}
 use Rattle.number_map.proofs.View.{kept_pushed, table_pushed, unique_joined}
 use Rattle.number_map.proofs.NumberMap.insert.Goals as goal
 
 pub lead-requires-clause-way : goal.lead-requires-clause-way
 lead-requires-clause-way g c =
-    let n : Node g.row.V.Denot = record { key = c.args.key; value = c.args.value; links = no_links } in
+    let n : Node g.row.V.Denot = record { key = c.args.key; value = c.args.value; links = no_links; above = 0 } in
     let some : 0 < c.self.inside.room = (let r = room_is (entries_of c.self.inside.nodes.items) c.self.inside.room c.args.self.now c.self.view_is in let s = c.requires.room in omega arith) in
     let items : c.push_reserved.new.self.items ≡ c.self.inside.nodes.items ++ n ∷ [] = rw c.of.ensures at c.push_reserved.ensures.items in
     rw (c.as_mut_slice.ensures.value, items, c.as_mut_slice-2.ensures.value) (way_out (c.self.inside.nodes.items ++ n ∷ []) c.self.inside.heads.items (length c.self.inside.nodes.items) 0
     (planted_pushed c.self.inside.nodes.items c.self.inside.heads.items n c.ranges.key.fits (c.self.invariant.ready some) c.self.invariant.indexed) c.args.key
     (let l = length_pushed c.self.inside.nodes.items n in omega arith))
 
+pub lead-requires-clause-to : goal.lead-requires-clause-to
+lead-requires-clause-to g c =
+    let n : Node g.row.V.Denot = record { key = c.args.key; value = c.args.value; links = no_links; above = 0 } in
+    let items : c.push_reserved.new.self.items ≡ c.self.inside.nodes.items ++ n ∷ [] = rw c.of.ensures at c.push_reserved.ensures.items in
+    let link : c.len-link.result ≡ suc (length c.self.inside.nodes.items) = (let p = c.push_reserved.ensures.len in let o = c.self.inside.nodes.ok.0 in omega (arith, c.len-link.ensures)) in
+    rw (c.as_mut_slice.ensures.value, items) (omega arith, let l = length_pushed c.self.inside.nodes.items n in omega arith)
+
+pub lead-requires-clause-above : goal.lead-requires-clause-above
+lead-requires-clause-above g c =
+    let n : Node g.row.V.Denot = record { key = c.args.key; value = c.args.value; links = no_links; above = 0 } in
+    let items : c.push_reserved.new.self.items ≡ c.self.inside.nodes.items ++ n ∷ [] = rw c.of.ensures at c.push_reserved.ensures.items in
+    let link : c.len-link.result ≡ suc (length c.self.inside.nodes.items) = (let p = c.push_reserved.ensures.len in let o = c.self.inside.nodes.ok.0 in omega (arith, c.len-link.ensures)) in
+    rw (c.as_mut_slice.ensures.value, items) (ap (above_at (c.self.inside.nodes.items ++ n ∷ [])) link ∙ above_of_some (c.self.inside.nodes.items ++ n ∷ []) (length c.self.inside.nodes.items) n (got_last c.self.inside.nodes.items n))
+
 pub invariant_of-self : goal.invariant_of-self
 invariant_of-self g c =
-    let n : Node g.row.V.Denot = record { key = c.args.key; value = c.args.value; links = no_links } in
+    let n : Node g.row.V.Denot = record { key = c.args.key; value = c.args.value; links = no_links; above = 0 } in
     let some : 0 < c.self.inside.room = (let r = room_is (entries_of c.self.inside.nodes.items) c.self.inside.room c.args.self.now c.self.view_is in let s = c.requires.room in omega arith) in
     let items : c.push_reserved.new.self.items ≡ c.self.inside.nodes.items ++ n ∷ [] = rw c.of.ensures at c.push_reserved.ensures.items in
     let same = rw (c.as_mut_slice.ensures.value, items) at c.lead.ensures.entries in
@@ -36,7 +50,7 @@ invariant_of-self g c =
 
 pub returns : goal.returns
 returns g c =
-    let n : Node g.row.V.Denot = record { key = c.args.key; value = c.args.value; links = no_links } in
+    let n : Node g.row.V.Denot = record { key = c.args.key; value = c.args.value; links = no_links; above = 0 } in
     let some : 0 < c.self.inside.room = (let r = room_is (entries_of c.self.inside.nodes.items) c.self.inside.room c.args.self.now c.self.view_is in let s = c.requires.room in omega arith) in
     let items : c.push_reserved.new.self.items ≡ c.self.inside.nodes.items ++ n ∷ [] = rw c.of.ensures at c.push_reserved.ensures.items in
     let same = rw (c.as_mut_slice.ensures.value, items) at c.lead.ensures.entries in
