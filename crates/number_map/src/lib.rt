@@ -33,6 +33,9 @@ const MANY_NODES: usize = 1024;
 // Memory for more than so many times the nodes that are wanted is given back, but for twice these.
 const MOST_TIMES: usize = 4;
 
+// A place that no node has.
+const NOWHERE: usize = usize::MAX;
+
 // How many numbers half a key can be.
 const HALF: u64 = 1 << 32;
 
@@ -95,7 +98,7 @@ pub struct NumberMap<V: Copy> {
     nodes: Vec<Node<V>>,
     // The first node of each tree lies at its head less 1, if its head is not 0.
     heads: Vec<u32>,
-    room: usize,
+    room: u32,
     // Where the key lies that was last put in, or found below the first node of its tree; no more than a guess.
     last: Cell<u32>,
 }
@@ -112,10 +115,17 @@ fn slot_of(key: u64, slots: usize) -> usize
     key.wrapping_mul(0x7A2A_1191).rotate_right(31) as usize & (slots - 1)
 }
 
-// Where the key lies. The first node of its tree is looked at, then the node at the place `last`, and then
-// the way down the tree: so a key that is asked for again is found at once, however deep it lies.
+// Where the key lies. The first node of its tree is looked at, then the node at the place `hint`, and then
+// the way down the tree. Where it is found there, `last` says so: so a key that is asked for again is found
+// at once, however deep it lies.
 #[inline(always)]
-fn find<V: Copy>(nodes: &[Node<V>], heads: &[u32], last: &Cell<u32>, key: u64) -> Option<usize>
+fn find<V: Copy>(
+    nodes: &[Node<V>],
+    heads: &[u32],
+    hint: usize,
+    last: &Cell<u32>,
+    key: u64,
+) -> Option<usize>
     requires { IsIndexed nodes.now heads.now }
     ensures found { (x : ℕ) → result ≡ Some x → HasKey nodes.now key x }
     ensures missing { result ≡ None → (x : ℕ) → HasKey nodes.now key x → ⊥ }
@@ -131,7 +141,6 @@ fn find<V: Copy>(nodes: &[Node<V>], heads: &[u32], last: &Cell<u32>, key: u64) -
     if root.key.number() == key {
         return Some(first - 1);
     }
-    let hint = last.get() as usize;
     if hint < nodes.len() && nodes[hint].key.number() == key {
         return Some(hint);
     }
@@ -566,14 +575,26 @@ impl<V: Copy> NumberMap<V> {
     pub fn room(&self) -> usize
         ensures { result ≡ self.now.room }
     {
-        self.room
+        self.room as usize
     }
 
     /// The value under the key, if it is there. Constant time: reads 66 nodes at most.
     pub fn get(&self, key: u64) -> Option<V>
         ensures { result ≡ map.get self.now.map key }
     {
-        let place = find(&self.nodes, &self.heads, &self.last, key)?;
+        let hint = self.last.get() as usize;
+        let place = find(&self.nodes, &self.heads, hint, &self.last, key)?;
+        Some(self.nodes[place].value)
+    }
+
+    /// As [`NumberMap::get`], for one of many keys that are each looked up once: it takes no place among
+    /// those that are found at once.
+    #[inline(always)]
+    pub fn get_once(&self, key: u64) -> Option<V>
+        ensures { result ≡ map.get self.now.map key }
+    {
+        let last = Cell::new(0);
+        let place = find(&self.nodes, &self.heads, NOWHERE, &last, key)?;
         Some(self.nodes[place].value)
     }
 
@@ -591,14 +612,14 @@ impl<V: Copy> NumberMap<V> {
         ensures err { OnErr result (self.new ≡ self.old) }
         ensures had_room { additional ≤ self.old.room → IsOk result }
     {
-        if additional > self.room {
+        if additional > self.room as usize {
             if additional > MOST_NODES - self.nodes.len() {
                 return Err(AllocError);
             }
             self.nodes.reserve(additional)?;
             let wanted = self.nodes.len() + additional;
             fit(&mut self.nodes, &mut self.heads, wanted)?;
-            self.room = additional;
+            self.room = additional as u32;
         }
         Ok(())
     }
@@ -635,6 +656,16 @@ impl<V: Copy> NumberMap<V> {
         self.nodes[place].value = value;
     }
 
+    /// The value under a key that is there. Constant time: reads 66 nodes at most.
+    #[inline(always)]
+    pub fn value(&self, key: u64) -> V
+        requires { map.contains_key self.now.map key ≡ true }
+        ensures { map.get self.now.map key ≡ Some result }
+    {
+        let place = find_there(&self.nodes, &self.heads, &self.last, key);
+        self.nodes[place].value
+    }
+
     /// The value under a key that is there, for writing. Takes no memory; constant time:
     /// reads 66 nodes at most.
     pub fn value_mut(&mut self, key: u64) -> &mut V
@@ -653,7 +684,8 @@ impl<V: Copy> NumberMap<V> {
         ensures value { result ≡ map.get self.old.map key }
         ensures after { self.new ≡ record self.old { map = map.remove self.old.map key } }
     {
-        let place = find(&self.nodes, &self.heads, &self.last, key)?;
+        let hint = self.last.get() as usize;
+        let place = find(&self.nodes, &self.heads, hint, &self.last, key)?;
         let value = self.nodes[place].value;
         take_out(&mut self.nodes, &mut self.heads, key, place);
         Some(value)

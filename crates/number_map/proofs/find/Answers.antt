@@ -36,7 +36,7 @@ returns-then-number-key-clause-found g c x e =
 
 pub returns-then-number-key-2-clause-found : goal.returns-then-number-key-2-clause-found
 returns-then-number-key-2-clause-found g c x e =
-    let read = node_read c.args.nodes.now c.get-hint.result _ c.if-hint-nodes.true c.index-nodes-hint.is in
+    let read = node_read c.args.nodes.now c.args.hint _ c.if-hint-nodes.true c.index-nodes-hint.is in
     (c.index-nodes-hint.result, ap (slice_get c.args.nodes.now) (sym (same_some _ x e)) ∙ read, rw c.index-nodes-hint.is (sym c.number-then-hint-nodes.ensures ∙ c.if-number-key-2.true))
 
 pub loop-link-init : goal.loop-link-init
