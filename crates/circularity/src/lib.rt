@@ -18,9 +18,8 @@ use port::{Holder, Message, Ports};
 fn carrier<M: Message>(ports: &Ports<M>, port: PortId) -> Option<PortId>
     ensures { MatchOption result ((queue : ℕ) → ¬ (IsHeldBy ports.now.bare port (QueueOf queue))) (λ queue. IsHeldBy ports.now.bare port (QueueOf queue)) }
 {
-    let attributes = ports.attributes(port)?;
-    match &attributes.holder {
-        Holder::QueueOf(queue) => Some(*queue),
+    match ports.holder(port)? {
+        Holder::QueueOf(queue) => Some(queue),
         Holder::Task(_) | Holder::Nobody | Holder::Doomed => None,
     }
 }

@@ -47,8 +47,9 @@ ports_code {M} m a = code_by
 -- the ports, and how many rights there are for each
 pub record CountedPorts (M : Type 0) : Type 0 where
   pub bare : PortsView M
+  -- of those ports alone
   pub counts : map.FinMap nat_cmp Counts
-  -- the place of each port, until a port comes or goes
+  -- where each port's record lies; of use only between a look-up that returns a place and a call that takes one
   pub places : map.FinMap nat_cmp ℕ
 
 abbrev pub counted_code : {M : Type 0} → Coded (PortsView M) → Coded Counts → Coded (CountedPorts M)

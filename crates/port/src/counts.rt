@@ -6,7 +6,7 @@ ghost use Rattle.rights.specs.Counts.{all_of, number_of, one_shifted, with_fewer
 ghost use Rattle.rights.specs.declared.RightKind.TheVariants.{Send};
 ghost use Rattle.port_base.specs.Attributes.{one_made, one_received};
 
-use crate::{Message, Ports, key_of};
+use crate::{Message, Ports, key_at, key_of};
 use mach_types::PortId;
 use port_base::by_key::{
     add_at, counts_at, make_send_at, push_counted_at, subtract_at, take_counted_at,
@@ -32,7 +32,7 @@ impl<M: Message> Ports<M> {
         requires fits { all_of (rights_for self.old port) + number < 2 ^ 32 }
         ensures { self.new ≡ with_rights self.old port (with_more kind number (rights_for self.old port)) }
     {
-        let key = key_of(&self.by_id, port).unwrap();
+        let key = key_at(&self.by_id, port);
         add_at(&mut self.records, key, kind, number);
     }
 
@@ -43,7 +43,7 @@ impl<M: Message> Ports<M> {
         requires some { number ≤ number_of kind (rights_for self.old port) }
         ensures { self.new ≡ with_rights self.old port (with_fewer kind number (rights_for self.old port)) }
     {
-        let key = key_of(&self.by_id, port).unwrap();
+        let key = key_at(&self.by_id, port);
         subtract_at(&mut self.records, key, kind, number);
     }
 
@@ -91,7 +91,7 @@ impl<M: Message> Ports<M> {
         ensures there { IsLive self.old.bare port }
         ensures counts { self.new.counts ≡ map.insert self.old.counts port (with_more Send 1 (rights_for self.old port)) }
     {
-        let key = key_of(&self.by_id, port).unwrap();
+        let key = key_at(&self.by_id, port);
         make_send_at(&mut self.records, key);
     }
 
@@ -108,7 +108,7 @@ impl<M: Message> Ports<M> {
             self.new.bare ≡ record (with_port self.old.bare port (record p { queue = p.queue ++ message ∷ [] })) { spare = self.old.bare.spare - 1 } }
         ensures counts { self.new.counts ≡ (if once then map.insert self.old.counts port (one_shifted (rights_for self.old port)) else self.old.counts) }
     {
-        let key = key_of(&self.by_id, port).unwrap();
+        let key = key_at(&self.by_id, port);
         let sets = push_counted_at(&mut self.records, key, &mut self.spare, message, once);
         ready(&mut self.sets, key, sets);
     }

@@ -108,6 +108,15 @@ fn key_of(by_id: &NumberMap<u32>, port: PortId) -> Option<usize>
     }
 }
 
+// The key of a port that is there.
+#[inline(always)]
+fn key_at(by_id: &NumberMap<u32>, port: PortId) -> usize
+    requires { map.contains_key by_id.now.map port ≡ true }
+    ensures { map.get by_id.now.map port ≡ Some result }
+{
+    by_id.value(port.number()) as usize
+}
+
 impl<M: Message> Ports<M> {
     ghost use Rattle.mach_types.specs.Numbers.{most_identities};
     ghost use Rattle.member_lists.specs.Lists.{without};
@@ -258,6 +267,16 @@ impl<M: Message> Ports<M> {
         Some(self.records[key].kept.attributes())
     }
 
+    /// Who holds a port's receive right, if the port is there. For a way that goes over many ports: this one
+    /// is not among those that are found at once from then on. Constant time.
+    #[inline(always)]
+    pub fn holder(&self, port: PortId) -> Option<Holder>
+        ensures { result ≡ option_map (λ p. p.attributes.holder) (map.get self.now.bare.ports port) }
+    {
+        let key = self.by_id.get_once(port.number())?;
+        Some(self.records[key as usize].kept.holder())
+    }
+
     /// Returns whether the port is there. Constant time.
     pub fn contains(&self, port: PortId) -> bool
         ensures { result ≡ is_some (map.get self.now.bare.ports port) }
@@ -273,7 +292,7 @@ impl<M: Message> Ports<M> {
         ensures after { (p : PortView M) → map.get self.old.bare.ports port ≡ Some p → self.new.bare ≡ with_port self.old.bare port (record p { attributes = attributes }) }
         ensures counts { self.new.counts ≡ self.old.counts }
     {
-        let key = key_of(&self.by_id, port).unwrap();
+        let key = key_at(&self.by_id, port);
         set_at(&mut self.records, key, &attributes);
     }
 
@@ -287,7 +306,7 @@ impl<M: Message> Ports<M> {
         ensures doomed { (p : PortView M) → map.get self.old.bare.ports port ≡ Some p → p.attributes.holder ≢ Holder.Doomed → without port self.old.bare.doomed ≡ self.old.bare.doomed }
         ensures counts { self.new.counts ≡ self.old.counts }
     {
-        let key = key_of(&self.by_id, port).unwrap();
+        let key = key_at(&self.by_id, port);
         let (was, now) = hold_at(&mut self.records, key, holder);
         rejoin_two(&mut self.waiting, key, was, now);
     }
@@ -433,7 +452,7 @@ impl<M: Message> Ports<M> {
             self.new.bare ≡ record (with_port self.old.bare port (record p { queue = p.queue ++ message ∷ [] })) { spare = self.old.bare.spare - 1 } }
         ensures counts { self.new.counts ≡ self.old.counts }
     {
-        let key = key_of(&self.by_id, port).unwrap();
+        let key = key_at(&self.by_id, port);
         let sets = push_at(&mut self.records, key, &mut self.spare, message);
         ready(&mut self.sets, key, sets);
     }

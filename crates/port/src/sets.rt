@@ -7,7 +7,7 @@ ghost use Rattle.port_base.specs.Turns.{turns_of};
 ghost use Rattle.port_base.specs.Memberships.{membership_in};
 ghost use Rattle.port_base.specs.declared.Membership.TheVariants.{Nowhere};
 
-use crate::{Message, Ports, key_of};
+use crate::{Message, Ports, key_at, key_of};
 use mach_types::{PortId, SetId};
 use port_base::Membership;
 use port_base::by_key::{has_messages, ids_of, member_at, place_at, restart_at};
@@ -147,7 +147,7 @@ impl<M: Message> Ports<M> {
         ensures after { (p : PortView M) → map.get self.old.bare.ports port ≡ Some p → self.new.bare ≡ with_port self.old.bare port (in_set p set) }
         ensures counts { self.new.counts ≡ self.old.counts }
     {
-        let key = key_of(&self.by_id, port).unwrap();
+        let key = key_at(&self.by_id, port);
         let was = member_at(&self.records, key);
         let is_ready = has_messages(&self.records, key);
         match set {
@@ -191,7 +191,7 @@ impl<M: Message> Ports<M> {
         ensures further { (p : PortView M) → map.get self.old.bare.ports port ≡ Some p → OnErr result (sets_in p ≢ []) }
         ensures counts { self.new.counts ≡ self.old.counts }
     {
-        let key = key_of(&self.by_id, port).unwrap();
+        let key = key_at(&self.by_id, port);
         let is_ready = has_messages(&self.records, key);
         match member_at(&self.records, key).first() {
             None => {
@@ -231,7 +231,7 @@ impl<M: Message> Ports<M> {
         ensures after { (p : PortView M) → map.get self.old.bare.ports port ≡ Some p → self.new.bare ≡ with_port self.old.bare port (with_sets p (without set (sets_in p))) }
         ensures counts { self.new.counts ≡ self.old.counts }
     {
-        let key = key_of(&self.by_id, port).unwrap();
+        let key = key_at(&self.by_id, port);
         let was = member_at(&self.records, key);
         let is_ready = has_messages(&self.records, key);
         let now = leave_one(&mut self.sets, key, was, set.number(), is_ready);

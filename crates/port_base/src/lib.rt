@@ -217,7 +217,8 @@ impl Kept {
         }
     }
 
-    fn holder(&self) -> Holder
+    /// Who holds the port's receive right.
+    pub fn holder(&self) -> Holder
         ensures { result ≡ self.now.attributes.holder }
     {
         match self.holder_kind {

@@ -9,54 +9,53 @@ use Rattle.port.proofs.Messages.{kept-queued, view-queued, readied_home, readied
 use Rattle.port.proofs.Sound.{bare_is, opened, record_at, live_at, counts_is, rights-set}
 use Rattle.port.proofs.Ports.enqueue.Goals as goal
 
-pub unwrap-key-requires : goal.unwrap-key-requires
-unwrap-key-requires g c =
-    ap is_some (c.key_of.ensures ∙ (live_at (opened c.self.invariant (bare_is c.self.view_is)) c.args.port c.requires.live).1)
+pub key_at-key-requires : goal.key_at-key-requires
+key_at-key-requires g c = ap is_some (live_at (opened c.self.invariant (bare_is c.self.view_is)) c.args.port c.requires.live).1
 
 pub push_at-sets-requires-clause-there : goal.push_at-sets-requires-clause-there
 push_at-sets-requires-clause-there g c =
     let o = opened c.self.invariant (bare_is c.self.view_is) in
-    let found : map.get c.self.inside.by_id.map c.args.port ≡ Some c.unwrap-key.result = sym c.key_of.ensures ∙ c.unwrap-key.ensures in
-    let there = record_at o c.args.port c.unwrap-key.result found in
+    let found : map.get c.self.inside.by_id.map c.args.port ≡ Some c.key_at-key.result = c.key_at-key.ensures in
+    let there = record_at o c.args.port c.key_at-key.result found in
     let r : Record g.row.M.Denot = there.0 in
     ap is_some there.1
 
 pub invariant_of-self : goal.invariant_of-self
 invariant_of-self g c =
     let o = opened c.self.invariant (bare_is c.self.view_is) in
-    let found : map.get c.self.inside.by_id.map c.args.port ≡ Some c.unwrap-key.result = sym c.key_of.ensures ∙ c.unwrap-key.ensures in
-    let there = record_at o c.args.port c.unwrap-key.result found in
+    let found : map.get c.self.inside.by_id.map c.args.port ≡ Some c.key_at-key.result = c.key_at-key.ensures in
+    let there = record_at o c.args.port c.key_at-key.result found in
     let r : Record g.row.M.Denot = there.0 in
-    kept-queued o c.args.port c.unwrap-key.result r found there.1 c.args.message r.counts c.ready.new.sets (c.ready.ensures ∙ ap (readied c.self.inside.sets c.unwrap-key.result) (c.push_at-sets.ensures.readied r there.1)) c.push_at-sets.new.records (c.push_at-sets.ensures.after r there.1) c.push_at-sets.new.spare c.push_at-sets.ensures.spare
+    kept-queued o c.args.port c.key_at-key.result r found there.1 c.args.message r.counts c.ready.new.sets (c.ready.ensures ∙ ap (readied c.self.inside.sets c.key_at-key.result) (c.push_at-sets.ensures.readied r there.1)) c.push_at-sets.new.records (c.push_at-sets.ensures.after r there.1) c.push_at-sets.new.spare c.push_at-sets.ensures.spare
 
 pub returns-clause-after : goal.returns-clause-after
 returns-clause-after g c p h =
     let o = opened c.self.invariant (bare_is c.self.view_is) in
-    let found : map.get c.self.inside.by_id.map c.args.port ≡ Some c.unwrap-key.result = sym c.key_of.ensures ∙ c.unwrap-key.ensures in
-    let there = record_at o c.args.port c.unwrap-key.result found in
+    let found : map.get c.self.inside.by_id.map c.args.port ≡ Some c.key_at-key.result = c.key_at-key.ensures in
+    let there = record_at o c.args.port c.key_at-key.result found in
     let r : Record g.row.M.Denot = there.0 in
-    view-queued o c.args.port c.unwrap-key.result r found there.1 c.args.message r.counts c.ready.new.sets (c.ready.ensures ∙ ap (readied c.self.inside.sets c.unwrap-key.result) (c.push_at-sets.ensures.readied r there.1)) c.push_at-sets.new.records (c.push_at-sets.ensures.after r there.1) c.push_at-sets.new.spare c.push_at-sets.ensures.spare p h
+    view-queued o c.args.port c.key_at-key.result r found there.1 c.args.message r.counts c.ready.new.sets (c.ready.ensures ∙ ap (readied c.self.inside.sets c.key_at-key.result) (c.push_at-sets.ensures.readied r there.1)) c.push_at-sets.new.records (c.push_at-sets.ensures.after r there.1) c.push_at-sets.new.spare c.push_at-sets.ensures.spare p h
 
 pub ready-requires-clause-home : goal.ready-requires-clause-home
 ready-requires-clause-home g c =
     let o = opened c.self.invariant (bare_is c.self.view_is) in
-    let found : map.get c.self.inside.by_id.map c.args.port ≡ Some c.unwrap-key.result = sym c.key_of.ensures ∙ c.unwrap-key.ensures in
-    let there = record_at o c.args.port c.unwrap-key.result found in
+    let found : map.get c.self.inside.by_id.map c.args.port ≡ Some c.key_at-key.result = c.key_at-key.ensures in
+    let there = record_at o c.args.port c.key_at-key.result found in
     let r : Record g.row.M.Denot = there.0 in
-    subst (λ (m : Membership). m ≢ Nowhere → IsHome c.self.inside.sets c.unwrap-key.result m) (sym (c.push_at-sets.ensures.readied r there.1)) (readied_home c.self.inside.sets c.unwrap-key.result r.kept.membership r.queue (c.self.invariant.membered.home c.unwrap-key.result r there.1))
+    subst (λ (m : Membership). m ≢ Nowhere → IsHome c.self.inside.sets c.key_at-key.result m) (sym (c.push_at-sets.ensures.readied r there.1)) (readied_home c.self.inside.sets c.key_at-key.result r.kept.membership r.queue (c.self.invariant.membered.home c.key_at-key.result r there.1))
 
 pub ready-requires-clause-unready : goal.ready-requires-clause-unready
 ready-requires-clause-unready g c =
     let o = opened c.self.invariant (bare_is c.self.view_is) in
-    let found : map.get c.self.inside.by_id.map c.args.port ≡ Some c.unwrap-key.result = sym c.key_of.ensures ∙ c.unwrap-key.ensures in
-    let there = record_at o c.args.port c.unwrap-key.result found in
+    let found : map.get c.self.inside.by_id.map c.args.port ≡ Some c.key_at-key.result = c.key_at-key.ensures in
+    let there = record_at o c.args.port c.key_at-key.result found in
     let r : Record g.row.M.Denot = there.0 in
-    subst (λ (m : Membership). m ≢ Nowhere → IsReady c.self.inside.sets c.unwrap-key.result false) (sym (c.push_at-sets.ensures.readied r there.1)) (readied_unready c.self.inside.sets c.unwrap-key.result r.kept.membership r.queue (c.self.invariant.membered.ready c.unwrap-key.result r there.1))
+    subst (λ (m : Membership). m ≢ Nowhere → IsReady c.self.inside.sets c.key_at-key.result false) (sym (c.push_at-sets.ensures.readied r there.1)) (readied_unready c.self.inside.sets c.key_at-key.result r.kept.membership r.queue (c.self.invariant.membered.ready c.key_at-key.result r there.1))
 
 pub returns-clause-counts : goal.returns-clause-counts
 returns-clause-counts g c =
     let o = opened c.self.invariant (bare_is c.self.view_is) in
-    let found : map.get c.self.inside.by_id.map c.args.port ≡ Some c.unwrap-key.result = sym c.key_of.ensures ∙ c.unwrap-key.ensures in
-    let there = record_at o c.args.port c.unwrap-key.result found in
+    let found : map.get c.self.inside.by_id.map c.args.port ≡ Some c.key_at-key.result = c.key_at-key.ensures in
+    let there = record_at o c.args.port c.key_at-key.result found in
     let r : Record g.row.M.Denot = there.0 in
-    rights-set c.self.inside.records c.unwrap-key.result r _ there.1 (c.push_at-sets.ensures.after r there.1) refl c.self.inside.by_id.map ∙ counts_is c.self.view_is
+    rights-set c.self.inside.records c.key_at-key.result r _ there.1 (c.push_at-sets.ensures.after r there.1) refl c.self.inside.by_id.map ∙ counts_is c.self.view_is

@@ -12,23 +12,22 @@ use Rattle.port.proofs.Sound.{bare_is, opened, record_at, live_at, is_port, coun
 use Rattle.port.proofs.Waiting.{waits_in_two}
 use Rattle.port.proofs.Ports.set_holder.Goals as goal
 
-pub unwrap-key-requires : goal.unwrap-key-requires
-unwrap-key-requires g c =
-    ap is_some (c.key_of.ensures ∙ (live_at (opened c.self.invariant (bare_is c.self.view_is)) c.args.port c.requires).1)
+pub key_at-key-requires : goal.key_at-key-requires
+key_at-key-requires g c = ap is_some (live_at (opened c.self.invariant (bare_is c.self.view_is)) c.args.port c.requires).1
 
 pub rejoin_two-requires-clause-was : goal.rejoin_two-requires-clause-was
 rejoin_two-requires-clause-was g c =
     let o = opened c.self.invariant (bare_is c.self.view_is) in
-    let found : map.get c.self.inside.by_id.map c.args.port ≡ Some c.unwrap-key.result = sym c.key_of.ensures ∙ c.unwrap-key.ensures in
-    let there = record_at o c.args.port c.unwrap-key.result found in
+    let found : map.get c.self.inside.by_id.map c.args.port ≡ Some c.key_at-key.result = c.key_at-key.ensures in
+    let there = record_at o c.args.port c.key_at-key.result found in
     let r : Record g.row.M.Denot = there.0 in
-    subst (λ o. StandsIn c.self.inside.waiting c.unwrap-key.result o) (sym (c.hold_at-was.ensures.was r there.1)) (c.self.invariant.awaited.stands c.unwrap-key.result r there.1)
+    subst (λ o. StandsIn c.self.inside.waiting c.key_at-key.result o) (sym (c.hold_at-was.ensures.was r there.1)) (c.self.invariant.awaited.stands c.key_at-key.result r there.1)
 
 pub rejoin_two-requires-clause-left : goal.rejoin_two-requires-clause-left
 rejoin_two-requires-clause-left g c l is =
     let o = opened c.self.invariant (bare_is c.self.view_is) in
-    let found : map.get c.self.inside.by_id.map c.args.port ≡ Some c.unwrap-key.result = sym c.key_of.ensures ∙ c.unwrap-key.ensures in
-    let there = record_at o c.args.port c.unwrap-key.result found in
+    let found : map.get c.self.inside.by_id.map c.args.port ≡ Some c.key_at-key.result = c.key_at-key.ensures in
+    let there = record_at o c.args.port c.key_at-key.result found in
     let r : Record g.row.M.Denot = there.0 in
     waits_in_two r.kept.attributes.holder l (sym (c.hold_at-was.ensures.was r there.1) ∙ is)
 
@@ -39,45 +38,45 @@ rejoin_two-requires-clause-joined g c l is =
 pub invariant_of-self : goal.invariant_of-self
 invariant_of-self g c =
     let o = opened c.self.invariant (bare_is c.self.view_is) in
-    let found : map.get c.self.inside.by_id.map c.args.port ≡ Some c.unwrap-key.result = sym c.key_of.ensures ∙ c.unwrap-key.ensures in
-    let there = record_at o c.args.port c.unwrap-key.result found in
+    let found : map.get c.self.inside.by_id.map c.args.port ≡ Some c.key_at-key.result = c.key_at-key.ensures in
+    let there = record_at o c.args.port c.key_at-key.result found in
     let r : Record g.row.M.Denot = there.0 in
-    let ch = change o c.args.port c.unwrap-key.result r (record r { kept = record r.kept { attributes = held_by r.kept.attributes c.args.holder } }) found there.1 refl (c.hold_at-was.ensures.after r there.1) in
-    let moved : IsMoved c.self.inside.waiting c.rejoin_two.new.lists c.unwrap-key.result (waits_in c.args.holder) = subst (λ o. IsMoved c.self.inside.waiting c.rejoin_two.new.lists c.unwrap-key.result o) c.hold_at-was.ensures.now c.rejoin_two.ensures.moved in
-    kept-held ch (c.self.invariant.membered.first c.unwrap-key.result r there.1) (still ch refl refl refl) refl refl c.args.holder refl c.rejoin_two.new.lists moved
+    let ch = change o c.args.port c.key_at-key.result r (record r { kept = record r.kept { attributes = held_by r.kept.attributes c.args.holder } }) found there.1 refl (c.hold_at-was.ensures.after r there.1) in
+    let moved : IsMoved c.self.inside.waiting c.rejoin_two.new.lists c.key_at-key.result (waits_in c.args.holder) = subst (λ o. IsMoved c.self.inside.waiting c.rejoin_two.new.lists c.key_at-key.result o) c.hold_at-was.ensures.now c.rejoin_two.ensures.moved in
+    kept-held ch (c.self.invariant.membered.first c.key_at-key.result r there.1) (still ch refl refl refl) refl refl c.args.holder refl c.rejoin_two.new.lists moved
 
 pub returns-clause-held : goal.returns-clause-held
 returns-clause-held g c p h =
     let o = opened c.self.invariant (bare_is c.self.view_is) in
-    let found : map.get c.self.inside.by_id.map c.args.port ≡ Some c.unwrap-key.result = sym c.key_of.ensures ∙ c.unwrap-key.ensures in
-    let there = record_at o c.args.port c.unwrap-key.result found in
+    let found : map.get c.self.inside.by_id.map c.args.port ≡ Some c.key_at-key.result = c.key_at-key.ensures in
+    let there = record_at o c.args.port c.key_at-key.result found in
     let r : Record g.row.M.Denot = there.0 in
-    let ch = change o c.args.port c.unwrap-key.result r (record r { kept = record r.kept { attributes = held_by r.kept.attributes c.args.holder } }) found there.1 refl (c.hold_at-was.ensures.after r there.1) in
-    let moved : IsMoved c.self.inside.waiting c.rejoin_two.new.lists c.unwrap-key.result (waits_in c.args.holder) = subst (λ o. IsMoved c.self.inside.waiting c.rejoin_two.new.lists c.unwrap-key.result o) c.hold_at-was.ensures.now c.rejoin_two.ensures.moved in
-    let joined : c.rejoin_two.new.lists ≡ at_end (out_of c.self.inside.waiting c.unwrap-key.result (waiting_list r)) c.unwrap-key.result (waits_in c.args.holder) =
-    c.rejoin_two.ensures.turned ∙ ap (λ o. at_end (out_of c.self.inside.waiting c.unwrap-key.result o) c.unwrap-key.result c.hold_at-was.result.1) (c.hold_at-was.ensures.was r there.1) ∙ ap (at_end (out_of c.self.inside.waiting c.unwrap-key.result (waiting_list r)) c.unwrap-key.result) c.hold_at-was.ensures.now in
-    view-held ch (c.self.invariant.membered.first c.unwrap-key.result r there.1) (still ch refl refl refl) refl refl c.args.holder refl c.rejoin_two.new.lists moved p (ap (λ (q : PortView g.row.M.Denot). let b : PortView g.row.M.Denot = held q c.args.holder in b) (sym (is_port o c.args.port c.unwrap-key.result r found there.1 p h))) joined
+    let ch = change o c.args.port c.key_at-key.result r (record r { kept = record r.kept { attributes = held_by r.kept.attributes c.args.holder } }) found there.1 refl (c.hold_at-was.ensures.after r there.1) in
+    let moved : IsMoved c.self.inside.waiting c.rejoin_two.new.lists c.key_at-key.result (waits_in c.args.holder) = subst (λ o. IsMoved c.self.inside.waiting c.rejoin_two.new.lists c.key_at-key.result o) c.hold_at-was.ensures.now c.rejoin_two.ensures.moved in
+    let joined : c.rejoin_two.new.lists ≡ at_end (out_of c.self.inside.waiting c.key_at-key.result (waiting_list r)) c.key_at-key.result (waits_in c.args.holder) =
+    c.rejoin_two.ensures.turned ∙ ap (λ o. at_end (out_of c.self.inside.waiting c.key_at-key.result o) c.key_at-key.result c.hold_at-was.result.1) (c.hold_at-was.ensures.was r there.1) ∙ ap (at_end (out_of c.self.inside.waiting c.key_at-key.result (waiting_list r)) c.key_at-key.result) c.hold_at-was.ensures.now in
+    view-held ch (c.self.invariant.membered.first c.key_at-key.result r there.1) (still ch refl refl refl) refl refl c.args.holder refl c.rejoin_two.new.lists moved p (ap (λ (q : PortView g.row.M.Denot). let b : PortView g.row.M.Denot = held q c.args.holder in b) (sym (is_port o c.args.port c.key_at-key.result r found there.1 p h))) joined
 
 pub returns-clause-lost : goal.returns-clause-lost
 returns-clause-lost g c p h not =
     let o = opened c.self.invariant (bare_is c.self.view_is) in
-    let found : map.get c.self.inside.by_id.map c.args.port ≡ Some c.unwrap-key.result = sym c.key_of.ensures ∙ c.unwrap-key.ensures in
-    let there = record_at o c.args.port c.unwrap-key.result found in
+    let found : map.get c.self.inside.by_id.map c.args.port ≡ Some c.key_at-key.result = c.key_at-key.ensures in
+    let there = record_at o c.args.port c.key_at-key.result found in
     let r : Record g.row.M.Denot = there.0 in
-    lost-apart o c.args.port c.unwrap-key.result r found there.1 (λ e. not (ap (λ (q : PortView g.row.M.Denot). q.attributes.holder) (is_port o c.args.port c.unwrap-key.result r found there.1 p h) ∙ e))
+    lost-apart o c.args.port c.key_at-key.result r found there.1 (λ e. not (ap (λ (q : PortView g.row.M.Denot). q.attributes.holder) (is_port o c.args.port c.key_at-key.result r found there.1 p h) ∙ e))
 
 pub returns-clause-doomed : goal.returns-clause-doomed
 returns-clause-doomed g c p h not =
     let o = opened c.self.invariant (bare_is c.self.view_is) in
-    let found : map.get c.self.inside.by_id.map c.args.port ≡ Some c.unwrap-key.result = sym c.key_of.ensures ∙ c.unwrap-key.ensures in
-    let there = record_at o c.args.port c.unwrap-key.result found in
+    let found : map.get c.self.inside.by_id.map c.args.port ≡ Some c.key_at-key.result = c.key_at-key.ensures in
+    let there = record_at o c.args.port c.key_at-key.result found in
     let r : Record g.row.M.Denot = there.0 in
-    doomed-apart o c.args.port c.unwrap-key.result r found there.1 (λ e. not (ap (λ (q : PortView g.row.M.Denot). q.attributes.holder) (is_port o c.args.port c.unwrap-key.result r found there.1 p h) ∙ e))
+    doomed-apart o c.args.port c.key_at-key.result r found there.1 (λ e. not (ap (λ (q : PortView g.row.M.Denot). q.attributes.holder) (is_port o c.args.port c.key_at-key.result r found there.1 p h) ∙ e))
 
 pub returns-clause-counts : goal.returns-clause-counts
 returns-clause-counts g c =
     let o = opened c.self.invariant (bare_is c.self.view_is) in
-    let found : map.get c.self.inside.by_id.map c.args.port ≡ Some c.unwrap-key.result = sym c.key_of.ensures ∙ c.unwrap-key.ensures in
-    let there = record_at o c.args.port c.unwrap-key.result found in
+    let found : map.get c.self.inside.by_id.map c.args.port ≡ Some c.key_at-key.result = c.key_at-key.ensures in
+    let there = record_at o c.args.port c.key_at-key.result found in
     let r : Record g.row.M.Denot = there.0 in
-    rights-set c.self.inside.records c.unwrap-key.result r _ there.1 (c.hold_at-was.ensures.after r there.1) refl c.self.inside.by_id.map ∙ counts_is c.self.view_is
+    rights-set c.self.inside.records c.key_at-key.result r _ there.1 (c.hold_at-was.ensures.after r there.1) refl c.self.inside.by_id.map ∙ counts_is c.self.view_is
