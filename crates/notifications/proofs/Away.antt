@@ -95,6 +95,13 @@ module _ (v : RequestTablesView) (task name : ℕ) (small : name < 2 ^ 32) where
   pub names_own : (names2 : RequestsView) → notify_of (record v { names = names2 }) on ≡ option_map (λ (r : NameRequest). r.notify) (map.get names2.requests (name_key task name))
   names_own names2 = let e : nat_lt name (2 ^ 32) ≡ true = lt-ltb name (2 ^ 32) small in rw e refl
 
+  none_under : notify_of v on ≡ None → map.get v.names.requests (name_key task name) ≡ None
+  none_under none = go (map.get v.names.requests (name_key task name)) (sym (names_own v.names) ∙ none)
+    where
+      go : (o : Option NameRequest) → option_map (λ (r : NameRequest). r.notify) o ≡ None → o ≡ None
+      go None e = refl
+      go (Some r) e = absurd (let f : Some r.notify ≡ None = e in cc)
+
   module _ (own : (r : NameRequest) → map.get v.names.requests (name_key task name) ≡ Some r → key_of r ≡ name_key task name) where
     taken_own : (o : Option NameRequest) → map.get v.names.requests (name_key task name) ≡ o → map.get (name_taken v.names o).requests (name_key task name) ≡ None
     taken_own None is = is
@@ -128,6 +135,13 @@ module _ (v : RequestTablesView) (task name : ℕ) (small : name < 2 ^ 32) where
     away_went (Senders p) = refl
     away_went (Live p) = grind arith
     away_went (Dead n) = grind arith
+
+  -- where none stands on the subject nothing goes
+  pub nothing_away : (subject : Subject) → notify_of v (request_of task name subject) ≡ None → taken_away v task name subject ≡ v
+  nothing_away (Receive p) none = ap (λ (o : Option ℕ). record v { port_destroyed = taken_at v.port_destroyed p o }) none
+  nothing_away (Senders p) none = ap (λ (o : Option ℕ). record v { no_senders = taken_at v.no_senders p o }) none
+  nothing_away (Live p) none = ap (λ (o : Option NameRequest). record v { names = name_taken v.names o }) (none_under none)
+  nothing_away (Dead n) none = ap (λ (o : Option NameRequest). record v { names = name_taken v.names o }) (none_under none)
 
   -- ---- a request comes
 

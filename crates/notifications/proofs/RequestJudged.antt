@@ -79,6 +79,7 @@ use Rattle.notifications.specs.declared.request.Subject.{Subject}
 use Rattle.notifications.specs.declared.request.Subject.TheVariants.{Receive, Senders, Live, Dead}
 use Rattle.notifications.specs.declared.request.Variant.{Variant}
 use Rattle.notifications.specs.Putting.{taken_away, mark_for, name_taken, IsNotKept, without, CanEnd, Ends, CanPut, Goes, CanRenew, KeepsNew, Puts, TellsDead, CarriesOut}
+use Rattle.notifications.proofs.Away.{nothing_away}
 use Rattle.notifications.proofs.RightBack.{Back, comes, none_noted, first_noted, full_noted, is_subject_live}
 use Rattle.notifications.proofs.RequestBegun.{Begun, begun_none, begun_some, ready_shows, ready_ledger, pays_ready, none_kept, dead_keeps, tokens_at, copied_at, total_at, held_at, is_legal, is_alive, Paid, paid_world, paid_then, can_copy, lives as paying_lives, requests_changed}
 use Rattle.notifications.specs.declared.request.Asked.{Asked}
@@ -261,7 +262,7 @@ module _ (w : WorldView) (s : State) (sh : Shows w s) (task name : ℕ) (subject
     lacks free None is h = absurd h
     lacks free (Some q) is h = (live_out q is h.0, h.1)
 
-    pub can_give : CanGive away task (record { given = MoveSendOnce; mark = mark_for previous } ∷ [])
+    can_give : CanGive away task (record { given = MoveSendOnce; mark = mark_for previous } ∷ [])
     can_give = record {
       space = b.space;
       there = b.there;
@@ -286,6 +287,9 @@ module _ (w : WorldView) (s : State) (sh : Shows w s) (task name : ℕ) (subject
       counted = λ p live. omega arith;
       none_lost = record { lost = b.sound.none_lost.lost; doomed = b.sound.none_lost.doomed; destroyed = b.sound.none_lost.destroyed };
     }
+
+    pub may_end : CanEnd mid task name subject previous
+    may_end = record { gives = can_give; nothing = λ none. ap (λ (v : RequestTablesView). record mid { requests = v }) (nothing_away mid.requests task name small subject (b.notify ∙ none)) }
 
     pub back : (word : ℕ) (out : WorldView) → GivesMark away task send_once (mark_for previous) word out → Back s t b.C b.X b.Y k task r away word out
     back word out g = comes s mid t b.agrees k b.keeps b.sound outside task name small subject b.unwent is_task previous b.notify stood (lay t.live_port same_live) b.C b.X b.Y b.rights b.more word out g
@@ -558,7 +562,7 @@ module _ (w : WorldView) (task name : ℕ) (asked : Asked) (subject : Subject) (
   begun s sh = begun_none w s sh task name subject previous may.stood ready below rdy
 
   pub can_end : Stands w → CanEnd ready task name subject previous
-  can_end stands = can_give w stands.state stands.shown task name subject previous may.stood below None ready (begun stands.state stands.shown) e.0 e.1 may.space
+  can_end stands = may_end w stands.state stands.shown task name subject previous may.stood below None ready (begun stands.state stands.shown) e.0 e.1 may.space
 
   pub end_done : (word : ℕ) (new : WorldView) → Ends ready task name subject previous word new → Completes w (event_of task name asked) (Reply.Previous word) new
   end_done word new ends = done_leaving w (event_of task name asked) (Reply.Previous word) new below record { allowed = λ s sh. (allowed w task name asked below may.good None may.pays).allowed s sh } (λ now s sh.
@@ -650,7 +654,7 @@ module _ (w : WorldView) (task name : ℕ) (asked : Asked) (g : Paying) (subject
       let sh = stands.shown in
       record {
         copies = can_copy ready s (shr s sh) task asked.disposition g may.pays.2 (pays_ready w s sh task name subject previous may.stood ready below g asked.disposition may.pays.2 may.pays.3 may.pays.4 rdy e_ready.0 e_ready.1) (few s sh);
-        ends = λ mid c. can_give w s sh task name subject previous may.stood below (Some g) mid (begun_ready s sh mid c) e_ready.0 e_ready.1 may.space;
+        ends = λ mid c. may_end w s sh task name subject previous may.stood below (Some g) mid (begun_ready s sh mid c) e_ready.0 e_ready.1 may.space;
         puts = λ mid c word out ends. can_put s sh mid c word out ends;
       }
 

@@ -106,9 +106,10 @@ Puts old task name sync (Senders p) notify new =
 abbrev pub without : WorldView → (task name : ℕ) → Subject → WorldView
 without w task name subject = record w { requests = taken_away w.requests task name subject }
 
--- The right of the request that stands there can be given once that was taken away.
-abbrev pub CanEnd : WorldView → (task name : ℕ) → Subject → (previous : Option ℕ) → Type 0
-CanEnd w task name subject previous = CanGive (without w task name subject) task (record { given = MoveSendOnce; mark = mark_for previous } ∷ [])
+-- The right of the request that stands there can be given once that was taken away. Where none stands, nothing is taken away.
+pub record CanEnd (w : WorldView) (task name : ℕ) (subject : Subject) (previous : Option ℕ) : Type 0 where
+  pub gives : CanGive (without w task name subject) task (record { given = MoveSendOnce; mark = mark_for previous } ∷ [])
+  pub nothing : previous ≡ None → without w task name subject ≡ w
 
 -- It comes out under this name.
 abbrev pub Ends : WorldView → (task name : ℕ) → Subject → (previous : Option ℕ) → (word : ℕ) → WorldView → Type 0

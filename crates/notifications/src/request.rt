@@ -23,7 +23,7 @@ ghost use Rattle.copyout.specs.Giving.{GivesMark};
 ghost use Rattle.copyout.specs.Ready.{CanGive};
 ghost use Rattle.copyin_base.specs.Losing.{CanPost};
 ghost use Rattle.notifications.specs.Wanted.{WantsToRequest, LeavesRequest, MakesSlotsFor};
-ghost use Rattle.notifications.specs.Putting.{mark_for, IsNotKept, KeepsNew, IsTold, TellsDead, CanPut, Puts, without, CanEnd, Ends, CanRenew, Renews, CanCarryOut, CarriesOut};
+ghost use Rattle.notifications.specs.Putting.{IsNotKept, KeepsNew, IsTold, TellsDead, CanPut, Puts, without, CanEnd, Ends, CanRenew, Renews, CanCarryOut, CarriesOut};
 ghost use Rattle.notifications.specs.Requesting.{IsMisasked, variant_number, CanPay, GoesNot, capability_guards, Pays, entry_left, names_left, IsSubject, subject_guards, previous_in, ComesOut, is_made_by, rights_then, LacksSpace, MayRequest};
 
 use copyin::copy_name;
@@ -533,23 +533,13 @@ fn end_request(world: &mut World, task: TaskId, name: Name, subject: Subject)
     }
 }
 
-/// What stands for the right of the request that was there.
-fn mark_of_port(previous: Option<PortId>) -> Mark
-    ensures { result ≡ mark_for previous }
+/// Gives the right of the request that was there under a fresh name, and returns the name: [`Name::dead`]
+/// where its port is gone.
+fn give_previous(world: &mut World, task: TaskId, notify: PortId) -> Name
+    requires { CanGive world.old task (record { given = disposition_of.MoveSendOnce; mark = mark_of.Port notify } ∷ []) }
+    ensures { GivesMark world.old task send_once (mark_of.Port notify) result world.new }
 {
-    match previous {
-        Some(port) => Mark::Port(port),
-        None => Mark::Null,
-    }
-}
-
-/// Gives the right of the request that was there under a fresh name, and returns the name: [`Name::null`]
-/// where there was none, and [`Name::dead`] where its port is gone.
-fn give_previous(world: &mut World, task: TaskId, previous: Option<PortId>) -> Name
-    requires { CanGive world.old task (record { given = disposition_of.MoveSendOnce; mark = mark_for previous } ∷ []) }
-    ensures { GivesMark world.old task send_once (mark_for previous) result world.new }
-{
-    let mark = mark_of_port(previous);
+    let mark = Mark::Port(notify);
     let given = Disposition::MoveSendOnce;
     give_right(world, task, &Carried { given, mark })
 }
@@ -622,7 +612,8 @@ fn put(world: &mut World, task: TaskId, name: Name, sync: u32, subject: Subject,
     }
 }
 
-/// Takes the request that stands there away, and gives its right.
+/// Takes the request that stands there away, and gives its right. Returns [`Name::null`] at once where none
+/// stands.
 fn end(
     world: &mut World,
     task: TaskId,
@@ -633,8 +624,11 @@ fn end(
     requires { CanEnd world.old task name subject.now previous }
     ensures { Ends world.old task name subject.now previous result world.new }
 {
+    let Some(notify) = previous else {
+        return Name::null();
+    };
     end_request(world, task, name, *subject);
-    give_previous(world, task, previous)
+    give_previous(world, task, notify)
 }
 
 /// Lets the right that pays go, gives that of the request that stood there, and keeps the new request or
