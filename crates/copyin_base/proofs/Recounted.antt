@@ -1,12 +1,9 @@
 -- The counts of rights in the tables: those of each port, and what there is in all.
 use Rattle.std.proofs.Common.{◌≡◌, if◌then◌else◌, Bool, false, slice_get, ℕ, ◌+◌, ◌-◌, ◌<◌, ◌≤◌, ◌∙◌, List, Option, Some, None, Ok, Err, OnErr, is_some, true, refl, ap, sym, subst, arith}
-use Rattle.std.specs.Prelude.{Result, MatchResult, OnOk}
+use Rattle.std.specs.Prelude.{Result}
 use Rattle.std.specs.Option.{unwrap_or, option_and_then}
 use Rattle.std.specs.FinMap as map
 use Rattle.std.specs.Ordering.{nat_cmp}
-use Rattle.mach_types.specs.Numbers.{most_rights}
-use Rattle.mach_types.specs.declared.codes.KernReturn.{KernReturn}
-use Rattle.mach_types.specs.declared.codes.KernReturn.TheVariants.{NoSpace}
 use Rattle.mach_types.specs.declared.profiles.Profile.{Profile}
 use Rattle.name_space.specs.Names.{SpaceView}
 use Rattle.port.specs.Ports.{PortView, CountedPorts, rights_for, with_rights}
@@ -65,10 +62,8 @@ gone_ledger m all p c found counts sums =
     ∙ ap (λ (k : Counts). let l : LedgerView = record { counts = map.remove m p; total = all.total - all_of k; unused = all.unused - k.send_once } in l) (ap (λ (o : Option Counts). unwrap_or o no_rights) (sym found))
 
 -- a send right was made, where there was room for one
-pub sent_ledger : (all : Ledger) (r : Result Unit KernReturn) (after : Ledger) → MatchResult r (λ _. all.total + 1 ≤ most_rights) (λ code. (code ≡ NoSpace) × (most_rights < all.total + 1)) → OnOk r (after ≡ record { total = all.total + 1; unused = all.unused + 0 }) → all.total + 1 ≤ most_rights →
-    after ≡ record { total = all.total + 1; unused = all.unused + 0 }
-sent_ledger all (Ok x) after refused ok room = ok
-sent_ledger all (Err code) after refused ok room = absurd (let full = refused.1 in omega (arith, full, room))
+pub sent_ledger : (all after : Ledger) → after ≡ record all { total = all.total + 1 } → after ≡ record { total = all.total + 1; unused = all.unused + 0 }
+sent_ledger all after is = let none : all.unused ≡ all.unused + 0 = omega arith in is ∙ ap (λ (unused : ℕ). record all { total = all.total + 1; unused = unused }) none
 
 -- a port with an unused send-once right is there
 pub once_entered : (m : map.FinMap nat_cmp Counts) (p : ℕ) → 0 < (unwrap_or (map.get m p) no_rights).send_once → map.contains_key m p ≡ true

@@ -72,7 +72,7 @@ impl World {
         ensures err { OnErr result (self.new ≡ self.old) }
     {
         let port = self.ports.allocate(task)?;
-        self.ledger.enter();
+        self.ledger.count_one();
         Ok(port)
     }
 }

@@ -44,7 +44,7 @@ impl World {
     }
 
     /// Loses the port's receive right, as [`World::lose_receive`] does, where the port is there; where it
-    /// is gone, nothing changes. Takes no memory and cannot fail. Constant time: one look-up finds the port.
+    /// is gone, nothing changes. Takes no memory and cannot fail. Constant time.
     #[inline(always)]
     pub fn lose_receive_if_there(&mut self, port: PortId)
         requires { is_some (port_at self.old port) ≡ true → CanLose self.old port }

@@ -69,8 +69,7 @@ impl World {
         ensures there { IsLive self.old.ports port }
         ensures after { (v : PortView Kept) → port_at self.old port ≡ Some v → self.new ≡ with_send_made self.old port v }
     {
-        // There is room.
-        let _ = self.ledger.make(RightKind::Send, 1);
+        self.ledger.count_one();
         self.ports.make_send(port);
     }
 

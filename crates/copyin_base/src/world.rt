@@ -20,8 +20,8 @@ use tables_base::{Queued, TaskNames};
 /// the requests for notices.
 ///
 /// A task's number is its place, also after its end. Contracts see its names as [`TaskNames`] are: what is
-/// kept, read with the ports that are there. What else ties the tables to one another is no part of this
-/// type: who holds a world keeps that it shows a state of the machine.
+/// kept, read with the ports that are there. The counts in all are the sums of the ports' own. What else
+/// ties the tables is no part of this type: who holds a world keeps that it shows a state of the machine.
 pub struct World {
     /// The names of each task; none where the task has ended.
     pub(crate) spaces: Vec<Option<Space>>,

@@ -144,8 +144,9 @@ impl Ledger {
         }
     }
 
-    /// Counts the receive right of a new port.
-    pub fn enter(&mut self)
+    /// Counts a right for which there is room, and which is no send-once right: a new port's receive right, or
+    /// a send right.
+    pub fn count_one(&mut self)
         requires { self.old.total < most_rights }
         ensures { self.new ≡ record self.old { total = self.old.total + 1 } }
     {

@@ -18,7 +18,7 @@ invariant_of-self-2 c =
     let came = counted-came i.ports.counts i.ledger.total i.ledger.unused c.self.invariant.1 i.ports.bare.made (with_more right.Receive 1 no_rights) unknown in
     let none : i.ledger.unused + 0 ≡ i.ledger.unused = omega arith in (
       made_given c.args.self.now i.spaces.items i.ports.bare (ledger_of i.ports.counts i.ledger) i.sets i.requests c.self.view_is c.self.invariant.0 (first_port c.args.task) c.allocate.new.self.bare c.in_ok-port.ensures.ok,
-      sums_are c.in_ok-port.ensures.counts c.enter.ensures (subst (λ (unused : ℕ). IsCounted (map.insert i.ports.counts i.ports.bare.made (with_more right.Receive 1 no_rights)) (i.ledger.total + 1) unused) none came),
+      sums_are c.in_ok-port.ensures.counts c.count_one.ensures (subst (λ (unused : ℕ). IsCounted (map.insert i.ports.counts i.ports.bare.made (with_more right.Receive 1 no_rights)) (i.ledger.total + 1) unused) none came),
     )
 
 pub returns-clause-ok : goal.returns-clause-ok
@@ -27,7 +27,7 @@ returns-clause-ok c =
     let old : WorldView = c.args.self.now in (
       c.in_ok-port.ensures.identity ∙ ap (λ (w : WorldView). w.ports.made) c.self.view_is,
       ap (λ (l : LedgerView). tables i.profile i.spaces.items c.allocate.new.self.bare l i.sets i.requests)
-          (ledgers_are c.in_ok-port.ensures.counts c.enter.ensures ∙ first-made (ledger_of i.ports.counts i.ledger) i.ports.bare.made ∙ ap (λ (w : WorldView). made (entered w.ledger w.ports.made) w.ports.made right.Receive 1) c.self.view_is)
+          (ledgers_are c.in_ok-port.ensures.counts c.count_one.ensures ∙ first-made (ledger_of i.ports.counts i.ledger) i.ports.bare.made ∙ ap (λ (w : WorldView). made (entered w.ledger w.ports.made) w.ports.made right.Receive 1) c.self.view_is)
           ∙ ap (λ (w : WorldView). record w { ledger = made (entered old.ledger old.ports.made) old.ports.made right.Receive 1 })
           (made_written old i.spaces.items i.ports.bare (ledger_of i.ports.counts i.ledger) i.sets i.requests c.self.view_is c.self.invariant.0 (first_port c.args.task) c.allocate.new.self.bare c.in_ok-port.ensures.ok),
     )

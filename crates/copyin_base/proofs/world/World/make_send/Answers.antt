@@ -3,7 +3,6 @@ use Rattle.std.specs.FinMap as map
 use Rattle.rights.specs.declared.RightKind.TheVariants.{Send}
 use Rattle.rights.specs.Ledger.{LedgerView, made}
 use Rattle.rights.proofs.Changing.{counted-more, more_fits}
-use Rattle.rights.proofs.Found.{unused-within}
 use Rattle.port.specs.Ports.{PortView}
 use Rattle.tables_base.specs.Kept.{Kept}
 use Rattle.copyin_base.specs.Worlds.{WorldView}
@@ -15,8 +14,12 @@ use Rattle.copyin_base.proofs.world.World.make_send.Goals as goal
 abbrev counted : PortView Kept → PortView Kept
 counted v = record v { attributes = record v.attributes { make_send = (v.attributes.make_send + 1) % 2 ^ 32 } }
 
-pub make-requires : goal.make-requires
-make-requires c = let i = c.self.inside in unused-within i.ports.counts i.ledger.total i.ledger.unused c.self.invariant.1
+pub count_one-requires : goal.count_one-requires
+count_one-requires c =
+    let i = c.self.inside in
+    let total = total_is c.args.self.now i.spaces.items i.ports i.ledger i.sets i.requests c.self.view_is c.args.port in
+    let room = c.requires.room in
+    omega (arith, total, room)
 
 pub make_send-requires-clause-there : goal.make_send-requires-clause-there
 make_send-requires-clause-there c = let i = c.self.inside in is_entered c.args.self.now i.spaces.items i.ports i.ledger i.sets i.requests c.self.view_is c.args.port c.requires.entered
@@ -33,11 +36,9 @@ invariant_of-self c =
     let i = c.self.inside in
     let found = port_got (map.get i.ports.bare.ports c.args.port) c.make_send.ensures.there in
     let there = sym (ap (λ (w : WorldView). map.get w.ports.ports c.args.port) c.self.view_is) ∙ found.1 in
-    let total = total_is c.args.self.now i.spaces.items i.ports i.ledger i.sets i.requests c.self.view_is c.args.port in
-    let room = c.requires.room in
     let more = counted-more i.ports.counts i.ledger.total i.ledger.unused c.self.invariant.1 c.args.port (is_entered c.args.self.now i.spaces.items i.ports i.ledger i.sets i.requests c.self.view_is c.args.port c.requires.entered) Send 1 in (
       port_given c.args.self.now i.spaces.items i.ports.bare (ledger_of i.ports.counts i.ledger) i.sets i.requests c.self.view_is c.args.port found.0 (counted found.0) c.make_send.new.self.bare there (c.make_send.ensures.after found.0) c.self.invariant.0,
-      sums_are c.make_send.ensures.counts (sent_ledger i.ledger c.make.result c.make.new.self c.make.ensures.refused c.make.ensures.ok (omega (arith, total, room))) more,
+      sums_are c.make_send.ensures.counts (sent_ledger i.ledger c.count_one.new.self c.count_one.ensures) more,
     )
 
 pub returns-clause-there : goal.returns-clause-there
@@ -46,9 +47,7 @@ returns-clause-there c = ap (λ (w : WorldView). map.contains_key w.ports.ports 
 pub returns-clause-after : goal.returns-clause-after
 returns-clause-after c = λ v there.
     let i = c.self.inside in
-    let total = total_is c.args.self.now i.spaces.items i.ports i.ledger i.sets i.requests c.self.view_is c.args.port in
-    let room = c.requires.room in
     ap (λ (l : LedgerView). record (tables i.profile i.spaces.items c.make_send.new.self.bare (ledger_of i.ports.counts i.ledger) i.sets i.requests) { ledger = l })
-    (ledgers_are c.make_send.ensures.counts (sent_ledger i.ledger c.make.result c.make.new.self c.make.ensures.refused c.make.ensures.ok (omega (arith, total, room))) ∙ ap (λ (w : WorldView). made w.ledger c.args.port Send 1) c.self.view_is)
+    (ledgers_are c.make_send.ensures.counts (sent_ledger i.ledger c.count_one.new.self c.count_one.ensures) ∙ ap (λ (w : WorldView). made w.ledger c.args.port Send 1) c.self.view_is)
     ∙ ap (λ (w : WorldView). record w { ledger = made c.args.self.now.ledger c.args.port Send 1 })
     (port_written c.args.self.now i.spaces.items i.ports.bare (ledger_of i.ports.counts i.ledger) i.sets i.requests c.self.view_is c.args.port v (counted v) c.make_send.new.self.bare there (c.make_send.ensures.after v))
