@@ -146,6 +146,7 @@ impl World {
     /// the place wasn't kept, and where the name that gives it up is in use, or as `Space::reserve_name`
     /// says of the new name.
     /// Constant time, but where memory is taken.
+    #[inline(always)]
     pub fn reserve_name(&mut self, task: TaskId, name: Name) -> Result<(), KernReturn>
         requires there { HasTask self.old task }
         requires usable { IsUsable name }

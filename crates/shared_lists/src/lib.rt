@@ -548,6 +548,7 @@ impl SharedLists {
     }
 
     /// The first item of a list. Constant time.
+    #[inline(always)]
     pub fn first(&self, list: u64) -> Option<usize>
         ensures { result ≡ slice_get (list_of self.now.all list) 0 }
     {
