@@ -527,7 +527,10 @@ fn serve(world: &mut World, alloc: Global, event: &Event, told: &mut Change) -> 
         Event::Deallocate(task, name) => lose_one(world, *task, *name, told),
         Event::Destroy(task, name) => lose_all(world, alloc, *task, *name, told),
         Event::ModRefs(task, name, right, delta) => {
-            *told = Change::by_references(world, alloc, *task, *name, *right);
+            // Of a send right or a dead name that changes nothing that anybody waits for.
+            if *right != 0 && *right != 4 {
+                *told = Change::by_references(world, alloc, *task, *name, *right);
+            }
             mod_refs(world, *task, *name, *right, *delta)
         }
         Event::GetRefs(task, name, right) => get_refs(world, *task, *name, *right),

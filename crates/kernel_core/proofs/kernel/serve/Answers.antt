@@ -27,8 +27,8 @@ returns-in-Deallocate-clause-performs c = rw c.in-Deallocate.is (lost _ _ _ _ c.
 pub returns-in-Destroy-clause-performs : goal.returns-in-Destroy-clause-performs
 returns-in-Destroy-clause-performs c = rw c.in-Destroy.is (lost _ _ _ _ c.lose_all.ensures.serves (takes_none _ _ _ c.requires.stands tt _ c.lose_all.ensures.serves) c.lose_all.ensures.spares (λ x. x) tt)
 
-pub returns-in-ModRefs-clause-performs : goal.returns-in-ModRefs-clause-performs
-returns-in-ModRefs-clause-performs c =
+pub returns-after-right-ne0-clause-performs : goal.returns-after-right-ne0-clause-performs
+returns-after-right-ne0-clause-performs c =
     let serves : Serves c.args.world.now (Event.ModRefs c.in-ModRefs.task c.in-ModRefs.name c.in-ModRefs.right c.in-ModRefs.delta) c.mod_refs.result c.mod_refs.new.world = search rules in
     rw c.in-ModRefs.is (lost _ _ _ _ serves (takes_none _ _ _ c.requires.stands tt _ serves) c.mod_refs.ensures.spares (λ x. x) tt)
 
@@ -115,9 +115,6 @@ returns-in-Deallocate-clause-tells c = rw c.in-Deallocate.is c.lose_one.ensures.
 
 pub returns-in-Destroy-clause-tells : goal.returns-in-Destroy-clause-tells
 returns-in-Destroy-clause-tells c = rw c.in-Destroy.is c.lose_all.ensures.tells
-
-pub returns-in-ModRefs-clause-tells : goal.returns-in-ModRefs-clause-tells
-returns-in-ModRefs-clause-tells c = rw c.in-ModRefs.is (on_ok _ (λ reply. c.by_references.ensures))
 
 pub returns-in-GetRefs-clause-tells : goal.returns-in-GetRefs-clause-tells
 returns-in-GetRefs-clause-tells c = rw c.in-GetRefs.is (on_ok _ (λ reply. c.requires.nothing))
