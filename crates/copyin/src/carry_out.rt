@@ -26,66 +26,6 @@ use message_codec::PortWord;
 use port::Holder;
 use rights::RightKind;
 
-// The receive right goes from its port, whose counts start again and which leaves all its sets. Its holder is
-// set where it is given, or where a message that carries it is queued.
-fn leave_port(world: &mut World, port: PortId)
-    ensures { world.new ≡ record world.old { ports = ports_copied disposition_of.MoveReceive (mark_of.Port port) world.old.ports } }
-{
-    world.restart_port(port);
-}
-
-// Sets what a right changes of its port when it goes.
-#[inline(always)]
-fn renew_port(world: &mut World, given: Disposition, mark: Mark)
-    ensures { world.new ≡ record world.old { ports = ports_copied given mark world.old.ports } }
-{
-    let Mark::Port(port) = &mark else {
-        return;
-    };
-    match given {
-        Disposition::MakeSend => world.count_make_send(*port),
-        Disposition::MoveReceive => leave_port(world, *port),
-        _ => {}
-    }
-}
-
-// Makes a send right from the port's receive right: the port changes, and the right is counted.
-#[inline(always)]
-fn make_send(world: &mut World, mark: Mark)
-    requires entered { (port : ℕ) → mark ≡ mark_of.Port port → IsEntered world.old.ledger port }
-    requires room { world.old.ledger.total + made_by_mark disposition_of.MakeSend mark ≤ most_rights }
-    ensures { world.new ≡ record world.old {
-      ports = ports_copied disposition_of.MakeSend mark world.old.ports;
-      ledger = ledger_copied disposition_of.MakeSend mark world.old.ledger;
-    } }
-{
-    let Mark::Port(port) = &mark else {
-        return;
-    };
-    world.make_send(*port);
-}
-
-// Counts the right that is made, if one is.
-#[inline(always)]
-fn count_right(world: &mut World, given: Disposition, mark: Mark)
-    requires entered { (port : ℕ) → mark ≡ mark_of.Port port → IsEntered world.old.ledger port }
-    requires room { world.old.ledger.total + made_by_mark given mark ≤ most_rights }
-    ensures { world.new ≡ record world.old { ledger = ledger_copied given mark world.old.ledger } }
-{
-    let Mark::Port(port) = &mark else {
-        return;
-    };
-    match given {
-        Disposition::CopySend | Disposition::MakeSend => {
-            world.make_rights(*port, RightKind::Send, 1).unwrap();
-        }
-        Disposition::MakeSendOnce => {
-            world.make_rights(*port, RightKind::SendOnce, 1).unwrap();
-        }
-        _ => {}
-    }
-}
-
 // Leaves what is left of the right under the name that it goes from, and tells what stands for the
 // right. Where nothing is left the name goes, and the request on it ends. One that is made from a right
 // that stays leaves just that: no name is looked up for it.
@@ -104,7 +44,9 @@ fn leave_name(world: &mut World, task: TaskId, name: Name, carried: Carried) -> 
     copied.mark
 }
 
-// The port changes as the right's disposition says, and the right is counted if it is made.
+// The port changes as the right's disposition says, and the right is counted if it is made. The receive right
+// goes from its port, whose counts start again and which leaves all its sets. Its holder is set where it is
+// given, or where a message that carries it is queued.
 #[inline(always)]
 fn count_copied(world: &mut World, carried: Carried)
     requires entered { (port : ℕ) → carried.mark ≡ mark_of.Port port → IsEntered world.old.ledger port }
@@ -114,12 +56,15 @@ fn count_copied(world: &mut World, carried: Carried)
       ledger = ledger_copied carried.given carried.mark world.old.ledger;
     } }
 {
+    let Mark::Port(port) = &carried.mark else {
+        return;
+    };
     match carried.given {
-        Disposition::MakeSend => make_send(world, carried.mark),
-        _ => {
-            count_right(world, carried.given, carried.mark);
-            renew_port(world, carried.given, carried.mark);
-        }
+        Disposition::MakeSend => world.make_send(*port),
+        Disposition::CopySend => world.make_rights(*port, RightKind::Send, 1).unwrap(),
+        Disposition::MakeSendOnce => world.make_rights(*port, RightKind::SendOnce, 1).unwrap(),
+        Disposition::MoveReceive => world.restart_port(*port),
+        _ => {}
     }
 }
 
