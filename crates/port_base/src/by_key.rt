@@ -164,14 +164,6 @@ pub fn destroy_at<M: Message>(
     move_first(&mut records[key].queue, destroyed);
 }
 
-/// Counts a send right made from the receive right of the port under the key.
-pub fn count_at<M: Message>(records: &mut Slab<Record<M>>, key: usize)
-    requires { IsSome (get records.old key) }
-    ensures { (r : AnyRecord M) → get records.old key ≡ Some r → records.new ≡ with_value records.old key (record r { kept = record r.kept { attributes = one_made r.kept.attributes } }) }
-{
-    records[key].kept.count_made();
-}
-
 /// How many rights there are for the port under the key.
 #[inline(always)]
 pub fn counts_at<M: Message>(records: &Slab<Record<M>>, key: usize) -> Counts
