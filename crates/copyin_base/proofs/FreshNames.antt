@@ -7,7 +7,7 @@ use Rattle.std.specs.Ordering.{nat_cmp}
 use Rattle.std.proofs.lemmas.Bool.Decides.{eqb_tells}
 use Rattle.mach_types.specs.declared.profiles.Profile.{Profile}
 use Rattle.mach_types.specs.declared.profiles.Profile.TheVariants.{One, Two, Three}
-use Rattle.mach_model.specs.State.{State, Target, at, given_with}
+use Rattle.mach_model.specs.State.{State, at, given_with}
 use Rattle.mach_model.specs.State as machine
 use Rattle.mach_model.proofs.Names.{at_same, at_other, at_own}
 use Rattle.tagged_names.specs.Names.{Given, count_of, counted}

@@ -15,7 +15,7 @@ use Rattle.port.specs.Records.{ports_of, turns_at, ids_in, made_of, rights_of, I
 use Rattle.port.proofs.Changed.{Change, change, still, kept-changed, same_view}
 use Rattle.port.proofs.Records.{Keyed, port_of, port_at, ports-changed, rights_at, rights-changed, live_rights}
 use Rattle.port.proofs.Sound.{IsOpen, rights-set, view_of, turns-put, all_are, places_are, counts_is, bare_is, opened}
-use Rattle.port.proofs.Turned.{turns-same, ids-set, ready_is}
+use Rattle.port.proofs.Turned.{turns-same, ids-set}
 use Rattle.port.proofs.Waiting.{ids-stay, insert-same, lost_now, doomed_now, noted_now}
 
 -- the ports as they are seen, with how many rights there are

@@ -10,8 +10,6 @@ use Rattle.port_base.specs.declared.Record.{Record}
 use Rattle.member_lists.specs.Lists.{ListsView}
 use Rattle.shared_lists.specs.Shared.{SharedView, more_of}
 use Rattle.port_base.specs.Records.{lost_list, doomed_list, noted_list}
-use Rattle.rights.specs.declared.Counts.{Counts}
-use Rattle.std.specs.Ordering.{nat_cmp}
 use Rattle.port.specs.Ports.{PortView, PortsView, CountedPorts}
 use Rattle.port.specs.Records.{ports_of, turns_at, ids_in, queued_in, rights_of, IsKept, made_of}
 use Rattle.port.proofs.Keys.{same_some, some_or_none}

@@ -10,7 +10,7 @@ use Rattle.rights.specs.declared.Counts.{Counts}
 use Rattle.rights.specs.Counts.{all_of, one_shifted}
 use Rattle.port.proofs.Keys.{same_some}
 use Rattle.port.proofs.Recounted.{rights_is, rights-shifted}
-use Rattle.port.proofs.Sound.{bare_is, opened, record_at, live_at, counts_is, rights-set}
+use Rattle.port.proofs.Sound.{bare_is, opened, record_at, live_at}
 use Rattle.port.proofs.Ports.enqueue_counted.Goals as goal
 
 pub key_at-key-requires : goal.key_at-key-requires

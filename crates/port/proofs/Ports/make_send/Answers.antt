@@ -1,7 +1,7 @@
-use Rattle.std.proofs.Common.{◌≡◌, ◌+◌, ◌<◌, ◌≤◌, ◌^◌, ℕ, Some, is_some, ap, sym, subst, ◌∙◌, refl}
+use Rattle.std.proofs.Common.{◌≡◌, ◌+◌, ◌<◌, ◌^◌, Some, is_some, ap, sym, subst, ◌∙◌, refl}
 use Rattle.std.specs.FinMap as map
 use Rattle.rights.specs.declared.Counts.{Counts}
-use Rattle.rights.specs.Counts.{all_of, number_of, one_shifted, with_fewer, with_more}
+use Rattle.rights.specs.Counts.{all_of, with_more}
 use Rattle.port_base.specs.declared.Record.{Record}
 use Rattle.rights.specs.declared.RightKind.TheVariants.{Send}
 use Rattle.port_base.specs.Attributes.{one_made}

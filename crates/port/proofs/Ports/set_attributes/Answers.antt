@@ -1,4 +1,4 @@
-use Rattle.std.proofs.Common.{◌≡◌, Some, is_some, ap, sym, ◌∙◌, refl}
+use Rattle.std.proofs.Common.{◌≡◌, Some, is_some, ap, ◌∙◌, refl}
 use Rattle.std.specs.FinMap as map
 use Rattle.port_base.specs.declared.Record.{Record}
 use Rattle.port_base.specs.Attributes.{counted_as}

@@ -1,4 +1,4 @@
-use Rattle.std.proofs.Common.{◌≡◌, ℕ, ◌≤◌, ◌<◌, ◌+◌, true, Option, Some, is_some, ap, sym, subst, ◌∙◌, refl, List, length, drop, slice_get, arith}
+use Rattle.std.proofs.Common.{◌≡◌, ℕ, ◌≤◌, ◌<◌, ◌+◌, Option, Some, is_some, ap, sym, subst, ◌∙◌, refl, List, length, drop, slice_get, arith}
 use Rattle.std.specs.Option.{option_and_then}
 use Rattle.std.specs.FinMap as map
 use Rattle.rights.specs.declared.Counts.{Counts}

@@ -1,7 +1,7 @@
-use Rattle.std.proofs.Common.{◌≡◌, ◌+◌, ◌<◌, ◌≤◌, ◌^◌, ℕ, Some, is_some, ap, sym, subst, ◌∙◌, refl}
+use Rattle.std.proofs.Common.{◌≡◌, ◌≤◌, Some, is_some, ap, sym, subst, ◌∙◌, refl}
 use Rattle.std.specs.FinMap as map
 use Rattle.rights.specs.declared.Counts.{Counts}
-use Rattle.rights.specs.Counts.{all_of, number_of, one_shifted, with_fewer, with_more}
+use Rattle.rights.specs.Counts.{number_of, with_fewer}
 use Rattle.port_base.specs.declared.Record.{Record}
 use Rattle.port.proofs.Keys.{same_some}
 use Rattle.port.proofs.Recounted.{key_of_rights, rights_is, kept-recounted, view-recounted}

@@ -1,4 +1,4 @@
-use Rattle.std.proofs.Common.{◌≡◌, subst}
+use Rattle.std.proofs.Common.{subst}
 use Rattle.copyin_base.specs.Changes.{NotesSenderless}
 use Rattle.copyin_base.specs.Worlds.{WorldView}
 use Rattle.copyin_base.proofs.world.World.lose_sends.Goals as goal
