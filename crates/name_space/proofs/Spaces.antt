@@ -22,9 +22,18 @@ over a b p q e f x = subst (λ n. AreLinked n q) (sym e) (subst (AreLinked a) (s
 pub put_none : (names : Names) (name k : ℕ) (e : Entry) → name ≢ k → map.get names k ≡ None → map.get (map.insert names name e) k ≡ None
 put_none names name k e d none = put_other names name e k (λ a. d (sym a)) ∙ none
 
+-- a port goes where it stood and the entry that comes is of none
+pub lost_of : (from o : Option ℕ) (port : ℕ) → lost from o ≡ Some port → (o ≡ None) × (from ≡ Some port)
+lost_of from None port h = (refl, h)
+lost_of from (Some other) port h = absurd (some_or_none port None h refl)
+
 module _ (t : SpaceView) (p : PortsView) (len : ℕ) (x : IsSound t p len) where
   pub links : AreLinked t.names p.names
   links = record { named = x.named; found = x.found }
+
+  -- the port of an entry is among those that have a name
+  pub port_there : (name port : ℕ) → port_at t.names name ≡ Some port → map.contains_key p.names port ≡ true
+  port_there name port is = ap is_some (x.found port name is)
 
   pub port_absent : (e : Entry) (port : ℕ) → HasNoOther t.names e → port_named e ≡ Some port → map.get p.names port ≡ None
   port_absent e port apart is = no_port t.names p.names links e port apart is
@@ -64,14 +73,10 @@ module _ (t : SpaceView) (p : PortsView) (len : ℕ) (x : IsSound t p len) where
 
       pub sound-lost : (q : PortsView) (port : ℕ) → lost (port_at t.names name) (port_named e) ≡ Some port → q ≡ record { names = map.remove p.names port; room = p.room; kept = p.kept } → IsSound u q len
       sound-lost q port goes out =
-          let both : (port_named e ≡ None) × (port_at t.names name ≡ Some port) = told (port_named e) goes in
+          let both = lost_of (port_at t.names name) (port_named e) port goes in
           renewed q
           (over _ _ _ _ refl (ap (λ (a : PortsView). a.names) out) (same_ports _ _ _ (linked-out t.names p.names links name port both.1) (ports_lost t.names name e both.0)))
           (ap (λ (a : PortsView). a.kept) out) (sym (ap (λ (a : PortsView). a.room) out))
-        where
-          told : (o : Option ℕ) → lost (port_at t.names name) o ≡ Some port → (o ≡ None) × (port_at t.names name ≡ Some port)
-          told None h = (refl, h)
-          told (Some other) h = absurd (some_or_none port None h refl)
 
     -- a name goes
     module _ (is : u ≡ record { names = map.remove t.names name; room = t.room; kept = t.kept; given = t.given }) (there : map.get t.names name ≡ Some e) where

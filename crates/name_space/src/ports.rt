@@ -1,5 +1,5 @@
 //! Names by their ports.
-ghost use Rattle.std.specs.Prelude.{◌≡◌, ◌≢◌, ◌⊎◌, ℕ, ◌+◌, ◌<◌, ◌≤◌, ◌↔◌, IsTrue, max, Some, None, IsOk, OnOk, OnErr};
+ghost use Rattle.std.specs.Prelude.{◌≡◌, ◌≢◌, ◌⊎◌, ℕ, ◌+◌, ◌<◌, ◌≤◌, ◌↔◌, true, IsTrue, max, Some, None, IsOk, OnOk, OnErr};
 ghost use Rattle.std.specs.FinMap as map;
 ghost use Rattle.name_space.specs.Ports.{with_port, without, IsApart, HasNoneKept};
 
@@ -136,14 +136,15 @@ impl Ports {
         }
     }
 
-    // Takes a port out, if it is there.
+    // Takes a port out that is there.
     pub(crate) fn remove(&mut self, port: PortId)
+        requires { map.contains_key self.old.names port ≡ true }
         ensures { self.new ≡ record self.old { names = map.remove self.old.names port } }
     {
         if is_kept(self.port, port) {
             self.port = None;
         } else {
-            self.others.remove(port.number());
+            self.others.remove_there(port.number());
         }
     }
 }

@@ -691,6 +691,17 @@ impl<V: Copy> NumberMap<V> {
         Some(value)
     }
 
+    /// Takes a key out that is there. The room for new keys stays as it was. Constant time: reads or
+    /// changes 70 nodes at most.
+    #[inline(always)]
+    pub fn remove_there(&mut self, key: u64)
+        requires { map.contains_key self.old.map key ≡ true }
+        ensures { self.new ≡ record self.old { map = map.remove self.old.map key } }
+    {
+        let place = find_there(&self.nodes, &self.heads, &self.last, key);
+        take_out(&mut self.nodes, &mut self.heads, key, place);
+    }
+
     /// Takes a key out that is there, and keeps its place as room for another. Constant time: reads or
     /// changes 70 nodes at most.
     #[inline(always)]

@@ -1,7 +1,9 @@
-use Rattle.std.proofs.Common.{◌≡◌, None, sym, ◌∙◌}
+use Rattle.std.proofs.Common.{◌≡◌, None, ap, sym, ◌∙◌}
+use Rattle.std.specs.Option.{option_and_then}
+use Rattle.name_space.specs.Entry.{port_named}
 use Rattle.std.specs.FinMap as map
 use Rattle.name_space.specs.Names.{SpaceView}
-use Rattle.name_space.proofs.Spaces.{inside, unused_after, not_full_after, absent_after, free_after, moved, moved_none}
+use Rattle.name_space.proofs.Spaces.{inside, port_there, unused_after, not_full_after, absent_after, free_after, moved, moved_none}
 use Rattle.name_space.proofs.Space.rename.Goals as goal
 
 pub insert-requires-clause-unused : goal.insert-requires-clause-unused
@@ -13,6 +15,11 @@ pub insert-requires-clause-not_full : goal.insert-requires-clause-not_full
 insert-requires-clause-not_full c =
     not_full_after c.self.inside.table c.self.inside.ports c.self.inside.len c.self.invariant c.remove.new.self c.args.from c.args.to c.unwrap-entry.result c.remove.ensures.after (sym c.remove.ensures.value ∙ c.unwrap-entry.ensures)
     (inside (λ (v : SpaceView). map.get v.names c.args.to ≡ None) c.self.inside.table c.args.self.now c.self.view_is c.requires.unused)
+
+pub remove-requires-in-Some : goal.remove-requires-in-Some
+remove-requires-in-Some c =
+    port_there c.self.inside.table c.self.inside.ports c.self.inside.len c.self.invariant c.args.from c.in-Some.port
+    (ap (option_and_then port_named) (sym c.remove.ensures.value ∙ c.unwrap-entry.ensures) ∙ (sym c.port.ensures ∙ c.in-Some.is))
 
 pub insert-requires-in-Some-clause-absent : goal.insert-requires-in-Some-clause-absent
 insert-requires-in-Some-clause-absent c =

@@ -2,8 +2,13 @@ use Rattle.std.proofs.Common.{◌≡◌, ℕ, Some, true, sym, ◌∙◌}
 use Rattle.std.specs.FinMap as map
 use Rattle.name_space.specs.Entry.{port_named}
 use Rattle.name_space.specs.Names.{SpaceView, port_at}
-use Rattle.name_space.proofs.Spaces.{sound-renewed, sound-lost, inside}
+use Rattle.name_space.proofs.Spaces.{sound-renewed, sound-lost, inside, lost_of, port_there}
 use Rattle.name_space.proofs.Space.replace.Goals as goal
+
+pub remove-requires : goal.remove-requires
+remove-requires c =
+    port_there c.self.inside.table c.self.inside.ports c.self.inside.len c.self.invariant c.args.name c.in-Some.port
+    (lost_of _ _ c.in-Some.port (sym c.port_lost-lost.ensures ∙ c.in-Some.is)).1
 
 pub invariant_of-self : goal.invariant_of-self
 invariant_of-self c =
