@@ -1,5 +1,5 @@
 -- How a map from numbers is kept: its keys in a row, each in the tree of its hash. No public clause cites this module.
-use Rattle.std.specs.Prelude.{◌≡◌, ◌≢◌, ℕ, zero, suc, ◌+◌, ◌-◌, ◌*◌, ◌%◌, ◌^◌, ◌<◌, ◌≤◌, List, map, length, Option, Some, slice_get, slice_index_or, bit_and, cond, eqb}
+use Rattle.std.specs.Prelude.{◌≡◌, ◌≢◌, ℕ, zero, suc, ◌+◌, ◌-◌, ◌*◌, ◌%◌, ◌^◌, ◌<◌, ◌≤◌, List, map, length, Option, Some, slice_get, slice_index_or, bit_and, cond, eqb, max}
 use Rattle.std.specs.Option.{option_map_or}
 use Rattle.std.specs.Int.{w64, rotate_right, bit_at}
 use Rattle.number_map.specs.declared.Node.{Node}
@@ -218,6 +218,19 @@ module _ {V : Type 0} where
     pub others : (x : ℕ) → x < length new → was x ≢ place
     pub once : (x y : ℕ) → x < length new → y < length new → was x ≡ was y → x ≡ y
     pub all : (z : ℕ) → z < length old → z ≢ place → (x : ℕ) × (x < length new) × (was x ≡ z)
+
+  -- Each key is there once, and found in its tree.
+  pub record IsPlanned (nodes : List (Node V)) (heads : List ℕ) : Type 0 where
+    pub unique : IsUnique (entries_of nodes)
+    pub indexed : IsIndexed nodes heads
+    pub few : length nodes < 2 ^ 32
+
+  -- The entries stay, and are found in their trees. There are at most so many trees, or as many as before.
+  pub record IsReplanted (old new : List (Node V)) (heads heads' : List ℕ) (most : ℕ) : Type 0 where
+    pub indexed : IsIndexed new heads'
+    pub entries : SameEntries old new
+    pub some : 0 < length heads → 0 < length heads'
+    pub few : length heads' ≤ max (length heads) most
 
   pub record IsKept (nodes : List (Node V)) (heads : List ℕ) (capacity room : ℕ) : Type 0 where
     pub unique : IsUnique (entries_of nodes)

@@ -17,7 +17,7 @@ ghost use Rattle.std.specs.Prelude.{◌≡◌, ◌≢◌, ℕ, suc, ◌+◌, ◌
 ghost use Rattle.std.specs.Borrow.{sem};
 ghost use Rattle.std.specs.FinMap as map;
 ghost use Rattle.std.specs.Vec.{vec_capacity};
-ghost use Rattle.number_map.specs.Kept.{slot as slot_for, below, key_at, link_at, above_at, out_at, head_at, IsWay, IsTurnedBelow, IsCut, IsLed, IsLedBelow, IsHung, AreHung, IsLeafBelow, IsPlanted, IsIndexed, HasKey, IsUnique, entries_of, SameEntries, IsRaised, IsMoved, IsTakenOut};
+ghost use Rattle.number_map.specs.Kept.{slot as slot_for, below, key_at, link_at, above_at, out_at, head_at, IsWay, IsTurnedBelow, IsCut, IsLed, IsLedBelow, IsHung, AreHung, IsLeafBelow, IsPlanted, IsIndexed, HasKey, IsUnique, entries_of, SameEntries, IsRaised, IsMoved, IsTakenOut, IsPlanned, IsReplanted};
 
 use std::alloc::{AllocError, Global};
 use std::cell::Cell;
@@ -32,6 +32,9 @@ const MANY_NODES: usize = 1024;
 
 // Memory for more than so many times the nodes that are wanted is given back, but for twice these.
 const MOST_TIMES: usize = 4;
+
+// Memory is asked for so many nodes at least.
+const LEAST_NODES: usize = 4;
 
 // A place that no node has.
 const NOWHERE: usize = usize::MAX;
@@ -467,6 +470,7 @@ fn make_slots(heads: &mut Vec<u32>, slots: usize) -> Result<(), AllocError>
 fn trees_for(capacity: usize) -> usize
     ensures some { 0 < capacity → 0 < result }
     ensures enough { capacity ≤ 2 * result + 1 }
+    ensures few { result ≤ capacity }
 {
     if capacity < MANY_NODES {
         return capacity;
@@ -474,62 +478,110 @@ fn trees_for(capacity: usize) -> usize
     capacity / 2
 }
 
-// Gives back the memory beyond that of so many nodes, and puts each node in one of fewer trees. Where
-// memory is refused, more is kept.
-fn narrow<V: Copy>(nodes: &mut Vec<Node<V>>, heads: &mut Vec<u32>, most: usize)
-    requires indexed { IsIndexed nodes.old.items heads.old.items }
-    requires few { length nodes.old.items < 2 ^ 32 }
-    requires unique { IsUnique (entries_of nodes.old.items) }
-    ensures indexed { IsIndexed nodes.new.items heads.new.items }
-    ensures some { 0 < length heads.old.items → 0 < length heads.new.items }
-    ensures entries { SameEntries nodes.old.items nodes.new.items }
-    ensures enough { min most (vec_capacity nodes.old) ≤ vec_capacity nodes.new }
+// Makes room for so many nodes, of which not all fit. Memory for twice the nodes that fit is asked for, or for
+// all that are wanted.
+#[inline(never)]
+fn enlarge<V: Copy>(nodes: &mut Vec<Node<V>>, wanted: usize) -> Result<(), AllocError>
+    requires more { vec_capacity nodes.old < wanted }
+    requires few { wanted < 2 ^ 32 }
+    ensures same { nodes.new.items ≡ nodes.old.items }
+    ensures fits { OnOk result (wanted ≤ vec_capacity nodes.new) }
+    ensures kept { vec_capacity nodes.old ≤ vec_capacity nodes.new }
+    ensures few { vec_capacity nodes.new ≤ max (vec_capacity nodes.old) (2 * wanted + 4) }
 {
-    nodes.shrink_to(most);
-    if nodes.capacity() > most || most == 0 {
-        return;
-    }
-    let Some(slots) = trees_for(most).checked_next_power_of_two() else {
-        return;
-    };
-    if make_slots(heads, slots).is_ok() {
-        link_all(nodes.as_mut_slice(), heads.as_mut_slice());
-    }
+    let most = wanted.max(nodes.capacity() * 2).max(LEAST_NODES);
+    nodes.reserve_exact(most - nodes.len())
 }
 
-// Makes as many trees as are enough for the nodes that fit, or more, where there are fewer, and puts
-// each node in its own. Gives back what is far more than the nodes that are wanted need.
-fn fit<V: Copy>(
+// Makes as many trees as are enough for the nodes that fit, and puts each node in its own.
+#[inline(never)]
+fn make_trees<V: Copy>(
+    nodes: &mut [Node<V>],
+    heads: &mut Vec<u32>,
+    trees: usize,
+) -> Result<(), AllocError>
+    requires planned { IsPlanned nodes.old heads.old.items }
+    requires some { 0 < trees }
+    ensures replanted { IsReplanted nodes.old nodes.new heads.old.items heads.new.items (2 * trees) }
+    ensures some { OnOk result (0 < length heads.new.items) }
+{
+    let slots = trees.checked_next_power_of_two().ok_or(AllocError)?;
+    make_slots(heads, slots)?;
+    link_all(nodes, heads.as_mut_slice());
+    Ok(())
+}
+
+// Gives back the memory beyond that of so many nodes, and puts each node in one of fewer trees. An error
+// means that memory was refused for fewer, and that more is kept.
+#[inline(never)]
+fn narrow<V: Copy>(
+    nodes: &mut Vec<Node<V>>,
+    heads: &mut Vec<u32>,
+    most: usize,
+) -> Result<(), AllocError>
+    requires planned { IsPlanned nodes.old.items heads.old.items }
+    requires some { 0 < most }
+    ensures replanted { IsReplanted nodes.old.items nodes.new.items heads.old.items heads.new.items (2 * most) }
+    ensures enough { min most (vec_capacity nodes.old) ≤ vec_capacity nodes.new }
+    ensures few { OnOk result (vec_capacity nodes.new ≤ most) }
+    ensures fewer { vec_capacity nodes.new ≤ vec_capacity nodes.old }
+{
+    nodes.shrink_to(most);
+    if nodes.capacity() > most {
+        return Err(AllocError);
+    }
+    make_trees(nodes.as_mut_slice(), heads, trees_for(most))
+}
+
+// Gives back what is far more than the nodes that are wanted need. An error means that memory was refused
+// for fewer, and that more is kept.
+#[inline(always)]
+fn give_back<V: Copy>(
     nodes: &mut Vec<Node<V>>,
     heads: &mut Vec<u32>,
     wanted: usize,
 ) -> Result<(), AllocError>
-    requires indexed { IsIndexed nodes.old.items heads.old.items }
-    requires few { length nodes.old.items < 2 ^ 32 }
-    requires unique { IsUnique (entries_of nodes.old.items) }
+    requires planned { IsPlanned nodes.old.items heads.old.items }
+    requires some { 0 < wanted }
     requires fits { wanted ≤ vec_capacity nodes.old }
-    ensures indexed { IsIndexed nodes.new.items heads.new.items }
-    ensures some { OnOk result (0 < vec_capacity nodes.old → 0 < length heads.new.items) }
-    ensures none { 0 < length heads.old.items → 0 < length heads.new.items }
-    ensures entries { SameEntries nodes.old.items nodes.new.items }
+    ensures replanted { IsReplanted nodes.old.items nodes.new.items heads.old.items heads.new.items (2 * vec_capacity nodes.new) }
     ensures fits { wanted ≤ vec_capacity nodes.new }
+    ensures few { OnOk result (vec_capacity nodes.new ≤ max 1024 (4 * wanted + 3)) }
+    ensures fewer { vec_capacity nodes.new ≤ vec_capacity nodes.old }
 {
     let capacity = nodes.capacity();
-    if capacity < MANY_NODES {
-        if heads.len() >= capacity {
-            return Ok(());
-        }
-    } else if heads.len() >= capacity / 2 {
-        let few = capacity / MOST_TIMES;
-        if nodes.len() < few && wanted < few {
-            narrow(nodes, heads, wanted * 2);
-        }
+    if capacity < MANY_NODES || wanted >= capacity / MOST_TIMES {
         return Ok(());
     }
-    let trees = trees_for(capacity);
-    let slots = trees.checked_next_power_of_two().ok_or(AllocError)?;
-    make_slots(heads, slots)?;
-    link_all(nodes.as_mut_slice(), heads.as_mut_slice());
+    narrow(nodes, heads, wanted * 2)
+}
+
+// Makes room for so many more nodes, and trees for those that fit. Memory for more than four times the
+// nodes with those that are wanted is given back, unless memory is refused for fewer.
+#[inline(always)]
+fn make_room<V: Copy>(
+    nodes: &mut Vec<Node<V>>,
+    heads: &mut Vec<u32>,
+    additional: usize,
+) -> Result<(), AllocError>
+    requires planned { IsPlanned nodes.old.items heads.old.items }
+    requires some { 0 < additional }
+    requires few { length nodes.old.items + additional < 2 ^ 32 }
+    ensures replanted { IsReplanted nodes.old.items nodes.new.items heads.old.items heads.new.items (2 * vec_capacity nodes.new) }
+    ensures some { OnOk result (0 < length heads.new.items) }
+    ensures fits { OnOk result (length nodes.old.items + additional ≤ vec_capacity nodes.new) }
+    ensures kept { min (length nodes.old.items + additional) (vec_capacity nodes.old) ≤ vec_capacity nodes.new }
+    ensures few { vec_capacity nodes.new ≤ max (vec_capacity nodes.old) (2 * (length nodes.old.items + additional) + 4) }
+{
+    let wanted = nodes.len() + additional;
+    if nodes.capacity() < wanted {
+        enlarge(nodes, wanted)?;
+    }
+    let trees = trees_for(nodes.capacity());
+    if heads.len() < trees {
+        return make_trees(nodes.as_mut_slice(), heads, trees);
+    }
+    let _given = give_back(nodes, heads, wanted);
     Ok(())
 }
 
@@ -616,9 +668,7 @@ impl<V: Copy> NumberMap<V> {
             if additional > MOST_NODES - self.nodes.len() {
                 return Err(AllocError);
             }
-            self.nodes.reserve(additional)?;
-            let wanted = self.nodes.len() + additional;
-            fit(&mut self.nodes, &mut self.heads, wanted)?;
+            make_room(&mut self.nodes, &mut self.heads, additional)?;
             self.room = additional as u32;
         }
         Ok(())
