@@ -1,5 +1,5 @@
 //! The entries of a history, where they are kept.
-ghost use Rattle.std.specs.Prelude.{◌≡◌, ◌<◌, [], ◌∷◌, ◌++◌, true, false, IfOk, IfErr, length};
+ghost use Rattle.std.specs.Prelude.{◌≡◌, ◌<◌, ◌≤◌, ◌+◌, ◌*◌, [], ◌∷◌, ◌++◌, true, false, IfOk, IfErr, OnOk, length, max};
 ghost use Rattle.std.specs.Vec.{vec_capacity};
 ghost use Rattle.mach_types.specs.declared.calls.Reply.{Reply};
 ghost use Rattle.kernel_core.specs.Bounds.{IsWithin};
@@ -10,6 +10,9 @@ use crate::entry::Entry;
 use kernel_record::Room;
 use mach_types::{Event, Reply};
 use std::alloc::{AllocError, Global};
+
+// Memory is asked for so many entries at least.
+const LEAST_ENTRIES: usize = 4;
 
 /// All entries, oldest first; where they aren't kept there is none, and no memory for one.
 #[derive(Drop)]
@@ -48,13 +51,14 @@ impl Entries {
         ensures kept { IfErr result (λ _. self.old.keeps ≡ true) }
         ensures unused { IfOk result IsUnused }
         ensures place { IfOk result (λ _. self.old.keeps ≡ true → length self.new.list.items < vec_capacity self.new.list) }
+        ensures few { vec_capacity self.new.list ≤ max (vec_capacity self.old.list) (2 * length self.old.list.items + 4) }
         ensures room { IfOk result (λ room. self.old.keeps ≡ true → (reply : Reply) → IsWithin event.now most reply → HasRoom room reply) }
     {
         if !self.keeps {
             return Ok(Room::none(alloc));
         }
         let room = Room::of(alloc, event, most)?;
-        self.list.reserve(1)?;
+        make_place(&mut self.list)?;
         Ok(room)
     }
 
@@ -85,4 +89,17 @@ impl Entries {
         }
         reply
     }
+}
+
+// A place for one entry more. Where there is none, memory for twice the entries is asked for.
+fn make_place(list: &mut Vec<Entry>) -> Result<(), AllocError>
+    ensures same { list.new.items ≡ list.old.items }
+    ensures place { OnOk result (length list.new.items < vec_capacity list.new) }
+    ensures few { vec_capacity list.new ≤ max (vec_capacity list.old) (2 * length list.old.items + 4) }
+{
+    let length = list.len();
+    if length < list.capacity() {
+        return Ok(());
+    }
+    list.reserve_exact(length.max(LEAST_ENTRIES))
 }

@@ -4,7 +4,7 @@ ghost use Rattle.std.specs.Prelude.{◌≡◌, ◌<◌, ◌≤◌, [], IfOk, OnE
 ghost use Rattle.std.specs.Vec.{vec_capacity};
 ghost use Rattle.mach_types.specs.declared.calls.Reply.{Reply};
 ghost use Rattle.kernel_core.specs.Bounds.{as_bytes, as_names, as_members, IsWithin};
-ghost use Rattle.kernel_record.specs.Room.{HasRoom, IsUnused};
+ghost use Rattle.kernel_record.specs.Room.{HasNoMore, HasRoom, IsUnused};
 
 use mach_types::{Bytes, Event, Name, NameList, NameTypes, Reply};
 use std::alloc::{AllocError, Global};
@@ -34,6 +34,7 @@ impl Room {
     pub fn of(alloc: Global, event: &Event, most: usize) -> Result<Room, AllocError>
         ensures unused { IfOk result IsUnused }
         ensures room { IfOk result (λ room. (reply : Reply) → IsWithin event.now most reply → HasRoom room reply) }
+        ensures few { IfOk result (λ room. HasNoMore room most) }
         ensures err { OnErr result (0 < most) }
     {
         Ok(Room {
@@ -94,7 +95,7 @@ impl Room {
 /// So many places; none take no memory.
 fn places<T>(alloc: Global, count: usize) -> Result<Vec<T>, AllocError>
     ensures items { IfOk result (λ v. v.items ≡ []) }
-    ensures places { IfOk result (λ v. count ≤ vec_capacity v) }
+    ensures places { IfOk result (λ v. vec_capacity v ≡ count) }
     ensures err { OnErr result (0 < count) }
 {
     if count == 0 {
