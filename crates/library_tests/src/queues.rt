@@ -124,7 +124,8 @@ fn are_taken(ports: &mut Ports<Note>) -> bool {
         && ports.standing(PortId::new(2)).is_none()
 }
 
-fn is_counted(ports: &mut Ports<Note>) -> bool {
+/// Returns whether the limit of a port is set, and its counts stay.
+fn is_limited(ports: &mut Ports<Note>) -> bool {
     let before = counts(ports, 1);
     set_limit(ports, 1, 16);
     before == Some([5, 0, 1]) && counts(ports, 1) == Some([16, 0, 1])
@@ -157,7 +158,7 @@ fn are_destroyed(ports: &mut Ports<Note>) -> bool {
 fn messages_come_out_in_order(rt: HostRuntime) {
     let mut ports = Ports::new(rt.alloc(), false);
     assert!(rt; are_posted(&mut ports) && are_taken(&mut ports) && ports.spare() == 2);
-    assert!(rt; is_counted(&mut ports) && is_gone(&mut ports) && are_destroyed(&mut ports));
+    assert!(rt; is_limited(&mut ports) && is_gone(&mut ports) && are_destroyed(&mut ports));
 }
 
 fn is_ready(ports: &mut Ports<Note>) -> bool {
