@@ -219,15 +219,15 @@ module _ {V : Type 0} where
     pub once : (x y : ℕ) → x < length new → y < length new → was x ≡ was y → x ≡ y
     pub all : (z : ℕ) → z < length old → z ≢ place → (x : ℕ) × (x < length new) × (was x ≡ z)
 
-  -- Each key is there once, and found in its tree.
-  pub record IsPlanned (nodes : List (Node V)) (heads : List ℕ) : Type 0 where
+  -- Each key is there once and found in its tree, and there are so few nodes that links of 32 bits lead to all.
+  pub record IsWhole (nodes : List (Node V)) (heads : List ℕ) : Type 0 where
     pub unique : IsUnique (entries_of nodes)
     pub indexed : IsIndexed nodes heads
     pub few : length nodes < 2 ^ 32
 
-  -- The entries stay, and are found in their trees. There are at most so many trees, or as many as before.
+  -- The entries stay, each found in its tree. There are trees still, at most so many or as many as before.
   pub record IsReplanted (old new : List (Node V)) (heads heads' : List ℕ) (most : ℕ) : Type 0 where
-    pub indexed : IsIndexed new heads'
+    pub whole : IsWhole new heads'
     pub entries : SameEntries old new
     pub some : 0 < length heads → 0 < length heads'
     pub few : length heads' ≤ max (length heads) most

@@ -17,7 +17,7 @@ ghost use Rattle.std.specs.Prelude.{◌≡◌, ◌≢◌, ℕ, suc, ◌+◌, ◌
 ghost use Rattle.std.specs.Borrow.{sem};
 ghost use Rattle.std.specs.FinMap as map;
 ghost use Rattle.std.specs.Vec.{vec_capacity};
-ghost use Rattle.number_map.specs.Kept.{slot as slot_for, below, key_at, link_at, above_at, out_at, head_at, IsWay, IsTurnedBelow, IsCut, IsLed, IsLedBelow, IsHung, AreHung, IsLeafBelow, IsPlanted, IsIndexed, HasKey, IsUnique, entries_of, SameEntries, IsRaised, IsMoved, IsTakenOut, IsPlanned, IsReplanted};
+ghost use Rattle.number_map.specs.Kept.{slot as slot_for, below, key_at, link_at, above_at, out_at, head_at, IsWay, IsTurnedBelow, IsCut, IsLed, IsLedBelow, IsHung, AreHung, IsLeafBelow, IsPlanted, IsIndexed, HasKey, IsUnique, entries_of, SameEntries, IsRaised, IsMoved, IsTakenOut, IsWhole, IsReplanted};
 
 use std::alloc::{AllocError, Global};
 use std::cell::Cell;
@@ -478,32 +478,34 @@ fn trees_for(capacity: usize) -> usize
     capacity / 2
 }
 
-// Makes room for so many nodes, of which not all fit. Memory for twice the nodes that fit is asked for, or for
-// all that are wanted.
+// Makes room for so many nodes, of which not all fit: for twice the nodes that fit, where that is enough, and for
+// four at least.
 #[inline(never)]
 fn enlarge<V: Copy>(nodes: &mut Vec<Node<V>>, wanted: usize) -> Result<(), AllocError>
     requires more { vec_capacity nodes.old < wanted }
     requires few { wanted < 2 ^ 32 }
     ensures same { nodes.new.items ≡ nodes.old.items }
     ensures fits { OnOk result (wanted ≤ vec_capacity nodes.new) }
+    ensures twice { OnOk result (2 * vec_capacity nodes.old ≤ vec_capacity nodes.new) }
     ensures kept { vec_capacity nodes.old ≤ vec_capacity nodes.new }
-    ensures few { vec_capacity nodes.new ≤ max (vec_capacity nodes.old) (2 * wanted + 4) }
+    ensures few { vec_capacity nodes.new ≤ max 4 (2 * wanted) }
 {
     let most = wanted.max(nodes.capacity() * 2).max(LEAST_NODES);
     nodes.reserve_exact(most - nodes.len())
 }
 
-// Makes as many trees as are enough for the nodes that fit, and puts each node in its own.
+// Makes so many trees or some more, and puts each node in its own.
 #[inline(never)]
 fn make_trees<V: Copy>(
     nodes: &mut [Node<V>],
     heads: &mut Vec<u32>,
     trees: usize,
 ) -> Result<(), AllocError>
-    requires planned { IsPlanned nodes.old heads.old.items }
+    requires whole { IsWhole nodes.old heads.old.items }
     requires some { 0 < trees }
     ensures replanted { IsReplanted nodes.old nodes.new heads.old.items heads.new.items (2 * trees) }
-    ensures some { OnOk result (0 < length heads.new.items) }
+    ensures enough { OnOk result (trees ≤ length heads.new.items) }
+    ensures few { OnOk result (length heads.new.items ≤ 2 * trees) }
 {
     let slots = trees.checked_next_power_of_two().ok_or(AllocError)?;
     make_slots(heads, slots)?;
@@ -511,37 +513,39 @@ fn make_trees<V: Copy>(
     Ok(())
 }
 
-// Gives back the memory beyond that of so many nodes, and puts each node in one of fewer trees. An error
-// means that memory was refused for fewer, and that more is kept.
+// Makes trees for so many nodes, and gives back the memory beyond that of these. An error means that memory was
+// refused for them: what is kept then is seen to be too much again.
 #[inline(never)]
 fn narrow<V: Copy>(
     nodes: &mut Vec<Node<V>>,
     heads: &mut Vec<u32>,
     most: usize,
 ) -> Result<(), AllocError>
-    requires planned { IsPlanned nodes.old.items heads.old.items }
+    requires whole { IsWhole nodes.old.items heads.old.items }
     requires some { 0 < most }
     ensures replanted { IsReplanted nodes.old.items nodes.new.items heads.old.items heads.new.items (2 * most) }
     ensures enough { min most (vec_capacity nodes.old) ≤ vec_capacity nodes.new }
     ensures few { OnOk result (vec_capacity nodes.new ≤ most) }
+    ensures trees { OnOk result (length heads.new.items ≤ 2 * most) }
     ensures fewer { vec_capacity nodes.new ≤ vec_capacity nodes.old }
 {
+    make_trees(nodes.as_mut_slice(), heads, trees_for(most))?;
     nodes.shrink_to(most);
     if nodes.capacity() > most {
         return Err(AllocError);
     }
-    make_trees(nodes.as_mut_slice(), heads, trees_for(most))
+    Ok(())
 }
 
 // Gives back what is far more than the nodes that are wanted need. An error means that memory was refused
-// for fewer, and that more is kept.
+// for fewer.
 #[inline(always)]
 fn give_back<V: Copy>(
     nodes: &mut Vec<Node<V>>,
     heads: &mut Vec<u32>,
     wanted: usize,
 ) -> Result<(), AllocError>
-    requires planned { IsPlanned nodes.old.items heads.old.items }
+    requires whole { IsWhole nodes.old.items heads.old.items }
     requires some { 0 < wanted }
     requires fits { wanted ≤ vec_capacity nodes.old }
     ensures replanted { IsReplanted nodes.old.items nodes.new.items heads.old.items heads.new.items (2 * vec_capacity nodes.new) }
@@ -556,32 +560,52 @@ fn give_back<V: Copy>(
     narrow(nodes, heads, wanted * 2)
 }
 
-// Makes room for so many more nodes, and trees for those that fit. Memory for more than four times the
-// nodes with those that are wanted is given back, unless memory is refused for fewer.
+// Makes room for so many nodes, or gives back what is far more.
+#[inline(always)]
+fn resize<V: Copy>(
+    nodes: &mut Vec<Node<V>>,
+    heads: &mut Vec<u32>,
+    wanted: usize,
+) -> Result<(), AllocError>
+    requires whole { IsWhole nodes.old.items heads.old.items }
+    requires some { 0 < wanted }
+    requires few { wanted < 2 ^ 32 }
+    ensures replanted { IsReplanted nodes.old.items nodes.new.items heads.old.items heads.new.items (2 * vec_capacity nodes.new) }
+    ensures fits { OnOk result (wanted ≤ vec_capacity nodes.new) }
+    ensures kept { min wanted (vec_capacity nodes.old) ≤ vec_capacity nodes.new }
+    ensures few { OnOk result (vec_capacity nodes.new ≤ max 1024 (4 * wanted + 3)) }
+    ensures grows { vec_capacity nodes.new ≤ max (vec_capacity nodes.old) (max 4 (2 * wanted)) }
+{
+    if nodes.capacity() < wanted {
+        return enlarge(nodes, wanted);
+    }
+    give_back(nodes, heads, wanted)
+}
+
+// Makes room for so many more nodes, and trees enough for those that fit. Gives back what is far more than
+// the nodes with these need.
 #[inline(always)]
 fn make_room<V: Copy>(
     nodes: &mut Vec<Node<V>>,
     heads: &mut Vec<u32>,
     additional: usize,
 ) -> Result<(), AllocError>
-    requires planned { IsPlanned nodes.old.items heads.old.items }
+    requires whole { IsWhole nodes.old.items heads.old.items }
     requires some { 0 < additional }
     requires few { length nodes.old.items + additional < 2 ^ 32 }
     ensures replanted { IsReplanted nodes.old.items nodes.new.items heads.old.items heads.new.items (2 * vec_capacity nodes.new) }
-    ensures some { OnOk result (0 < length heads.new.items) }
     ensures fits { OnOk result (length nodes.old.items + additional ≤ vec_capacity nodes.new) }
     ensures kept { min (length nodes.old.items + additional) (vec_capacity nodes.old) ≤ vec_capacity nodes.new }
-    ensures few { vec_capacity nodes.new ≤ max (vec_capacity nodes.old) (2 * (length nodes.old.items + additional) + 4) }
+    ensures few { OnOk result (vec_capacity nodes.new ≤ max 1024 (4 * (length nodes.old.items + additional) + 3)) }
+    ensures grows { vec_capacity nodes.new ≤ max (vec_capacity nodes.old) (max 4 (2 * (length nodes.old.items + additional))) }
+    ensures enough { OnOk result (vec_capacity nodes.new ≤ 2 * length heads.new.items + 1) }
+    ensures some { OnOk result (0 < length heads.new.items) }
 {
-    let wanted = nodes.len() + additional;
-    if nodes.capacity() < wanted {
-        enlarge(nodes, wanted)?;
-    }
+    resize(nodes, heads, nodes.len() + additional)?;
     let trees = trees_for(nodes.capacity());
     if heads.len() < trees {
         return make_trees(nodes.as_mut_slice(), heads, trees);
     }
-    let _given = give_back(nodes, heads, wanted);
     Ok(())
 }
 
@@ -655,10 +679,11 @@ impl<V: Copy> NumberMap<V> {
     /// most.
     ///
     /// Where there is memory for 1,024 keys or more, and for more than four times the keys with that room,
-    /// what is beyond twice these is given back. Where memory is refused for the move, it stays.
+    /// what is beyond twice these is given back.
     ///
-    /// An error means that memory was refused, or that there would be more than 4,294,967,295 keys; all is
-    /// then as before. It never comes where there is room already. Nothing else here takes memory.
+    /// An error means that memory was refused, for more keys or for the smaller table, or that there would be
+    /// more than 4,294,967,295 keys; all is then as before. It never comes where there is room already. Nothing
+    /// else here takes memory.
     pub fn reserve(&mut self, additional: usize) -> Result<(), AllocError>
         ensures ok { OnOk result (self.new ≡ record self.old { room = max self.old.room additional }) }
         ensures err { OnErr result (self.new ≡ self.old) }
