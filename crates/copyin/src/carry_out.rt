@@ -23,7 +23,7 @@ use copyin_base::{Carried, Mark, Message, World};
 use dispositions::copy_right;
 use mach_types::{Disposition, Name, PortId, TaskId};
 use message_codec::PortWord;
-use port::Holder;
+use port::{Found, Holder, NOWHERE};
 use rights::RightKind;
 
 // Leaves what is left of the right under the name that it goes from, and tells what stands for the
@@ -46,9 +46,9 @@ fn leave_name(world: &mut World, task: TaskId, name: Name, carried: Carried) -> 
 
 // The port changes as the right's disposition says, and the right is counted if it is made. The receive right
 // goes from its port, whose counts start again and which leaves all its sets. Its holder is set where it is
-// given, or where a message that carries it is queued.
+// given, or where a message that carries it is queued. The port's record may lie at the place.
 #[inline(always)]
-fn count_copied(world: &mut World, carried: Carried)
+fn count_copied(world: &mut World, carried: Carried, place: usize)
     requires entered { (port : ℕ) → carried.mark ≡ mark_of.Port port → IsEntered world.old.ledger port }
     requires room { world.old.ledger.total + made_by carried ≤ most_rights }
     ensures { world.new ≡ record world.old {
@@ -60,7 +60,10 @@ fn count_copied(world: &mut World, carried: Carried)
         return;
     };
     match carried.given {
-        Disposition::MakeSend => world.make_send(*port),
+        Disposition::MakeSend => {
+            let port = *port;
+            world.make_send(Found { port, place });
+        }
         Disposition::CopySend => world.make_rights(*port, RightKind::Send, 1).unwrap(),
         Disposition::MakeSendOnce => world.make_rights(*port, RightKind::SendOnce, 1).unwrap(),
         Disposition::MoveReceive => world.restart_port(*port),
@@ -80,64 +83,64 @@ pub fn copy_name(world: &mut World, task: TaskId, name: Name, carried: Carried)
     requires { CanCopy world.old task name carried }
     ensures { CopiesRight world.old task carried.given name carried.mark world.new }
 {
-    copy_kept(world, task, name, &carried);
+    copy_kept(world, task, name, &carried, NOWHERE);
 }
 
 // Sends the right, whether it moves or is made.
 #[inline(always)]
-fn copy_either(world: &mut World, task: TaskId, name: Name, carried: &Carried)
+fn copy_either(world: &mut World, task: TaskId, name: Name, carried: &Carried, place: usize)
     requires { CanCopy world.old task name carried.now }
     ensures { CopiesRight world.old task carried.now.given name carried.now.mark world.new }
 {
     let given = carried.given;
     let mark = leave_name(world, task, name, *carried);
-    count_copied(world, Carried { given, mark });
+    count_copied(world, Carried { given, mark }, place);
 }
 
 // Sends a right that moves. It is apart, so that one that is made wants no frame.
 #[inline(never)]
-fn copy_moved(world: &mut World, task: TaskId, name: Name, carried: &Carried)
+fn copy_moved(world: &mut World, task: TaskId, name: Name, carried: &Carried, place: usize)
     requires { CanCopy world.old task name carried.now }
     ensures { CopiesRight world.old task carried.now.given name carried.now.mark world.new }
 {
-    copy_either(world, task, name, carried);
+    copy_either(world, task, name, carried, place);
 }
 
 // As [`copy_name`], of a right that stays where it is kept: those of a message aren't copied once more.
 #[inline(never)]
-fn copy_kept(world: &mut World, task: TaskId, name: Name, carried: &Carried)
+fn copy_kept(world: &mut World, task: TaskId, name: Name, carried: &Carried, place: usize)
     requires { CanCopy world.old task name carried.now }
     ensures { CopiesRight world.old task carried.now.given name carried.now.mark world.new }
 {
     if carried.given.makes_right() {
-        copy_either(world, task, name, carried);
+        copy_either(world, task, name, carried, place);
     } else {
-        copy_moved(world, task, name, carried);
+        copy_moved(world, task, name, carried, place);
     }
 }
 
 // The message joins the end of its port's queue, in a spare slot, and the right that it goes by is
 // unused no more.
 #[inline(always)]
-fn queue_message(world: &mut World, port: PortId, message: Message)
-    requires live { IsLive world.old.ports port }
+fn queue_message(world: &mut World, found: Found, message: Message)
+    requires live { IsLive world.old.ports found.port }
     requires spare { 0 < world.old.ports.spare }
-    requires unused { message.by_once ≡ true → 0 < (counts_of world.old.ledger port).send_once }
-    ensures { (v : PortView Kept) → port_at world.old port ≡ Some v → world.new ≡ record world.old {
-      ports = record (with_port world.old.ports port (record v { queue = v.queue ++ message ∷ [] })) { spare = world.old.ports.spare - 1 };
-      ledger = ledger_queued message.by_once port world.old.ledger;
+    requires unused { message.by_once ≡ true → 0 < (counts_of world.old.ledger found.port).send_once }
+    ensures { (v : PortView Kept) → port_at world.old found.port ≡ Some v → world.new ≡ record world.old {
+      ports = record (with_port world.old.ports found.port (record v { queue = v.queue ++ message ∷ [] })) { spare = world.old.ports.spare - 1 };
+      ledger = ledger_queued message.by_once found.port world.old.ledger;
     } }
 {
-    world.enqueue_counted(port, message);
+    world.enqueue_counted(found, message);
 }
 
 // A word's right goes, if the word is a name.
-fn copy_word(world: &mut World, task: TaskId, word: PortWord, carried: &Carried)
+fn copy_word(world: &mut World, task: TaskId, word: PortWord, carried: &Carried, place: usize)
     requires { CanGo world.old task (word ∷ []) (carried.now ∷ []) }
     ensures { ChangesWord world.old task word carried.now world.new }
 {
     if word.name.is_usable() {
-        copy_kept(world, task, word.name, carried);
+        copy_kept(world, task, word.name, carried, place);
     }
 }
 
@@ -150,7 +153,7 @@ fn copy_words(world: &mut World, task: TaskId, words: &[PortWord], rights: &[Car
     let mut left = rights;
     for word in words {
         let (carried, rest) = left.split_first().unwrap();
-        copy_word(world, task, *word, carried);
+        copy_word(world, task, *word, carried, NOWHERE);
         left = rest;
     }
 }
@@ -162,7 +165,7 @@ fn copy_reply(world: &mut World, task: TaskId, word: Option<PortWord>, reply: Op
     ensures { ChangesWords world.old task (option_to_list word) (option_to_list reply) world.new }
 {
     if let (Some(word), Some(carried)) = (word, reply) {
-        copy_word(world, task, word, &carried);
+        copy_word(world, task, word, &carried, NOWHERE);
     }
 }
 
@@ -206,12 +209,13 @@ pub fn commit(world: &mut World, plan: Plan)
         words,
         destination,
         port,
+        place,
         message,
     } = plan;
-    copy_word(world, task, words.destination, &destination);
+    copy_word(world, task, words.destination, &destination, place);
     copy_reply(world, task, words.reply, message.reply());
     let rights = message.rights();
     copy_words(world, task, words.body.as_slice(), rights.as_slice());
     hold_rights(world, port, rights.as_slice());
-    queue_message(world, port, message);
+    queue_message(world, Found { port, place }, message);
 }

@@ -29,12 +29,13 @@ ghost use Rattle.copyin_base.specs.Worlds.{put, HasTask};
 
 use crate::loops::makes_loop;
 use crate::touched::{Touch, Touched, standing_after};
-use copyin_base::{Carried, CarriedRights, Envelope, Mark, Message, TaskNames, World};
+use copyin_base::{Carried, CarriedRights, Envelope, Mark, Message, Placed, TaskNames, World};
 use dispositions::copy_right;
 use mach_types::limits::MOST_RIGHTS;
 use mach_types::{Disposition, MsgReturn, Name, PortId, TaskId};
 use message_codec::{INLINE_WORDS, Parsed, PortWord, port_words};
 use name_space::Entry;
+use port::Found;
 use smallvec::SmallVec;
 use std::alloc::{AllocError, Global};
 use std::boxed::Box;
@@ -62,6 +63,8 @@ pub struct Plan {
     pub destination: Carried,
     /// The port whose queue the message joins.
     pub port: PortId,
+    /// The place where its record lay when it was judged.
+    pub place: usize,
     /// The message, with its other rights.
     pub message: Message,
 }
@@ -260,6 +263,8 @@ pub(crate) struct Destination {
     pub(crate) carried: Carried,
     /// The port for which it is.
     pub(crate) port: PortId,
+    /// The place of its record.
+    pub(crate) place: usize,
     /// What it leaves under its name.
     pub(crate) left: Option<Entry>,
 }
@@ -274,13 +279,17 @@ pub(crate) fn judge_destination(
     ensures ok { IfOk result (λ d. StartsAt space.now.names word d) }
     ensures err { IfErr result (λ code. (code ≡ SendInvalidDest) × LeadsNowhere space.now.names word) }
 {
-    let Some(Going { carried, left }) = going_from(space.lookup(word.name), word) else {
+    let Some(Placed { entry, place }) = space.find(word.name) else {
+        return Err(MsgReturn::SendInvalidDest);
+    };
+    let Some(Going { carried, left }) = going_from(Some(entry), word) else {
         return Err(MsgReturn::SendInvalidDest);
     };
     match marked_port(&carried) {
         Some(port) => Ok(Destination {
             carried,
             port,
+            place,
             left,
         }),
         None => Err(MsgReturn::SendInvalidDest),
@@ -292,6 +301,8 @@ pub(crate) fn judge_destination(
 pub(crate) struct Rights {
     pub(crate) destination: Carried,
     pub(crate) port: PortId,
+    /// The place of its record.
+    pub(crate) place: usize,
     pub(crate) reply: Option<Carried>,
 }
 
@@ -330,6 +341,7 @@ fn judge_bare(space: &TaskNames<'_>, words: &Words) -> Result<Rights, MsgReturn>
     let Destination {
         carried,
         port,
+        place,
         left,
     } = judge_destination(space, words.destination)?;
     let first = Touch {
@@ -343,6 +355,7 @@ fn judge_bare(space: &TaskNames<'_>, words: &Words) -> Result<Rights, MsgReturn>
     Ok(Rights {
         destination: carried,
         port,
+        place,
         reply,
     })
 }
@@ -364,12 +377,14 @@ fn judge_all(
     let Destination {
         carried,
         port,
+        place,
         left,
     } = judge_destination(space, words.destination)?;
     let reply = judge_others(alloc, space, words, left, body)?;
     Ok(Rights {
         destination: carried,
         port,
+        place,
         reply,
     })
 }
@@ -398,12 +413,12 @@ fn judge_others(
 
 // Whether the port's queue takes a message under this destination right.
 #[inline(always)]
-fn has_slot(world: &World, port: PortId, destination: Carried) -> bool
-    requires live { IsLive world.now.ports port }
+fn has_slot(world: &World, found: Found, destination: Carried) -> bool
+    requires live { IsLive world.now.ports found.port }
     requires sends { kind_sent destination.given ≢ receive }
-    ensures { MatchBool result (HasSlot world.now port destination) (HasNoSlot world.now port destination) }
+    ensures { MatchBool result (HasSlot world.now found.port destination) (HasNoSlot world.now found.port destination) }
 {
-    destination.given.is_send_once() || world.has_room(port)
+    destination.given.is_send_once() || world.has_room(found)
 }
 
 // How many rights are made by this one: one, or none.
@@ -469,7 +484,8 @@ pub(crate) fn admit(
     ensures err { IfErr result (λ code. MayNotGo world.now rights.now body.now code) }
 {
     judge_loop(world, alloc, rights.port, body)?;
-    if !has_slot(world, rights.port, rights.destination) {
+    let Rights { port, place, .. } = *rights;
+    if !has_slot(world, Found { port, place }, rights.destination) {
         return Err(MsgReturn::SendTimedOut);
     }
     if !has_room(world, rights, body) {
@@ -560,13 +576,14 @@ fn message_of(
 /// The plan by which a message with these rights is sent.
 #[inline(always)]
 pub(crate) fn plan_of(task: TaskId, words: Words, rights: &Rights, message: Message) -> Plan
-    ensures { result ≡ record { task = task; words = words; destination = rights.now.destination; port = rights.now.port; message = message } }
+    ensures { result ≡ record { task = task; words = words; destination = rights.now.destination; port = rights.now.port; place = rights.now.place; message = message } }
 {
     Plan {
         task,
         words,
         destination: rights.destination,
         port: rights.port,
+        place: rights.place,
         message,
     }
 }

@@ -75,6 +75,7 @@ fn judge_lone(
     let Destination {
         carried,
         port,
+        place,
         left,
     } = judge_destination(space, words.destination)?;
     let first = Touch {
@@ -85,6 +86,7 @@ fn judge_lone(
     let rights = Rights {
         destination: carried,
         port,
+        place,
         reply: None,
     };
     Ok((rights, right))

@@ -12,6 +12,7 @@ use Rattle.name_space.specs.Names.{SpaceView}
 use Rattle.port.specs.Ports.{PortView, PortsView, IsLive, sets_in, with_port}
 use Rattle.port_set.specs.Sets.{SetsView, IsDisbanded}
 use Rattle.rights.specs.Ledger.{LedgerView}
+use Rattle.tables_base.specs.declared.task_names.Placed.{Placed}
 use Rattle.tables_base.specs.Kept.{Kept}
 use Rattle.copyin_base.specs.Changes.{IsForLive}
 use Rattle.request_table.specs.Tables.{RequestTablesView}
@@ -95,6 +96,11 @@ module _ (old : WorldView) {profile : Profile} (spaces : List (Option SpaceView)
       lives : (x : Option Entry) → IfSome (option_map (reading (live_in ports)) x) Lives
       lives (Some e) = λ p for. (read_lives (live_in ports) e p for).1
       lives None = tt
+
+  -- The same of what is found with its port's place.
+  pub placed_is_live : (lent read : SpaceView) (name : ℕ) (o : Option Placed) → read ≡ read_space (live_in ports) lent → IfSome o (λ p. map.get read.names name ≡ Some p.entry) → IfSome o (λ p. IsForLive old p.entry)
+  placed_is_live lent read name (Some p) same is = read_is_live lent read name (Some p.entry) same (sym is)
+  placed_is_live lent read name None same is = tt
 
 -- ---- ports
 

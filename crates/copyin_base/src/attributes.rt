@@ -40,8 +40,6 @@ impl World {
         requires none_lost { NoneLost self.old }
         ensures { SetsHolder self.old port holder self.new }
     {
-        // So it is seen that the port isn't doomed.
-        let _ = self.ports.first_doomed();
         self.ports.hold(port, holder);
     }
 }

@@ -21,6 +21,7 @@ mod tasks;
 mod world;
 
 pub use tables_base::{
-    BodyRights, Carried, CarriedRights, Envelope, Mark, Message, Notice, Queued, Slot, TaskNames,
+    BodyRights, Carried, CarriedRights, Envelope, Mark, Message, Notice, Placed, Queued, Slot,
+    TaskNames,
 };
 pub use world::World;

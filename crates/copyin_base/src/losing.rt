@@ -12,6 +12,7 @@ ghost use Rattle.copyin_base.specs.Worlds.{HasTask, port_at, space_at};
 use crate::world::World;
 use mach_types::{PortId, SetId, TaskId};
 use name_space::Space;
+use port::Found;
 use port_set::disband;
 use rights::RightKind;
 use tables_base::{Notice, Queued};
@@ -27,7 +28,8 @@ impl World {
         ensures slots { SlotsSuffice self.new }
     {
         self.ledger.shift();
-        self.ports.enqueue_counted(port, Queued::told(notice), true);
+        self.ports
+            .enqueue_counted(Found::of(port), Queued::told(notice), true);
     }
 
     /// Loses the port's receive right. The end of the step judges whether the port dies or is sent away.

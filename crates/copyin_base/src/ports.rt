@@ -15,7 +15,7 @@ ghost use Rattle.copyin_base.specs.Worlds.{port_at};
 
 use crate::world::World;
 use mach_types::{PortId, SetId};
-use port::{Attributes, Membership, PortSets, Standing};
+use port::{Attributes, Found, Membership, PortSets, Standing};
 use std::alloc::{AllocError, Global};
 use std::collections::LinkedList;
 use tables_base::Queued;
@@ -65,11 +65,11 @@ impl World {
 
     /// Returns whether the port is there and has fewer messages than its limit. Constant time.
     #[inline(always)]
-    pub fn has_room(&self, port: PortId) -> bool
-        ensures live { (p : PortView Kept) → port_at self.now port ≡ Some p → (IsTrue result ↔ (length p.queue < p.attributes.limit)) }
-        ensures gone { port_at self.now port ≡ None → result ≡ false }
+    pub fn has_room(&self, found: Found) -> bool
+        ensures live { (p : PortView Kept) → port_at self.now found.port ≡ Some p → (IsTrue result ↔ (length p.queue < p.attributes.limit)) }
+        ensures gone { port_at self.now found.port ≡ None → result ≡ false }
     {
-        self.ports.has_room(port)
+        self.ports.has_room(found)
     }
 
     /// How many messages a port has, 0 where it is gone. Constant time.
@@ -100,22 +100,22 @@ impl World {
     /// The message at the front of a port's queue, and the sequence number that it is received with, if the
     /// port is there and has one. Constant time.
     #[inline(always)]
-    pub fn numbered_front(&self, port: PortId) -> Option<(&Queued, u32)>
-        ensures some { IfSome result (λ front. IsNumberedFront self.now.ports port front.0.now front.1) }
-        ensures none { IfNone result (NoneQueued self.now.ports port) }
+    pub fn numbered_front(&self, found: Found) -> Option<(&Queued, u32)>
+        ensures some { IfSome result (λ front. IsNumberedFront self.now.ports found.port front.0.now front.1) }
+        ensures none { IfNone result (NoneQueued self.now.ports found.port) }
     {
-        self.ports.numbered_front(port)
+        self.ports.numbered_front(found)
     }
 
     /// Whether a port is in a set, and how many messages it has, if it is there. Constant time.
     #[inline(always)]
-    pub fn standing(&self, port: PortId) -> Option<Standing>
-        ensures some { IfSome result (λ s. (p : PortView Kept) → port_at self.now port ≡ Some p → (s.is_member ≡ is_some p.attributes.set) × (s.queued ≡ length p.queue)) }
-        ensures none { IfNone result (port_at self.now port ≡ None) }
-        ensures there { IfSome result (λ _. is_some (port_at self.now port) ≡ true) }
-        ensures nowhere { (p : PortView Kept) → port_at self.now port ≡ Some p → p.attributes.set ≡ None → p.more ≡ [] }
+    pub fn standing(&self, found: Found) -> Option<Standing>
+        ensures some { IfSome result (λ s. (p : PortView Kept) → port_at self.now found.port ≡ Some p → (s.is_member ≡ is_some p.attributes.set) × (s.queued ≡ length p.queue)) }
+        ensures none { IfNone result (port_at self.now found.port ≡ None) }
+        ensures there { IfSome result (λ _. is_some (port_at self.now found.port) ≡ true) }
+        ensures nowhere { (p : PortView Kept) → port_at self.now found.port ≡ Some p → p.attributes.set ≡ None → p.more ≡ [] }
     {
-        self.ports.standing(port)
+        self.ports.standing(found)
     }
 
     /// The member of the set that has a message and whose turn it is, if there is one (IPC Interface,

@@ -1,5 +1,5 @@
 //! The kernel's tables.
-ghost use Rattle.std.specs.Prelude.{◌≡◌, ◌↔◌, ◌+◌, IfSome, IsTrue, max, OnOk, OnErr, Some};
+ghost use Rattle.std.specs.Prelude.{◌≡◌, ◌↔◌, ◌+◌, IfNone, IfSome, IsTrue, max, None, OnOk, OnErr, Some};
 ghost use Rattle.rights.specs.Unused.{IsUnusedOfAll};
 ghost use Rattle.copyin_base.specs.Changes.{IsForLive, with_slots};
 ghost use Rattle.copyin_base.specs.Shows.{SlotsSuffice};
@@ -14,7 +14,7 @@ use request_table::RequestTables;
 use rights::Ledger;
 use std::alloc::{AllocError, Global};
 use std::marker::Model;
-use tables_base::{Queued, TaskNames};
+use tables_base::{Placed, Queued, TaskNames};
 
 /// The tasks' names, the ports with their queues, the counts of all rights, the port sets, and
 /// the requests for notices.
@@ -134,10 +134,7 @@ impl World {
         requires { HasTask self.now task }
         ensures { space_at self.now task ≡ Some result }
     {
-        let Some(space) = self.find_space(task) else {
-            unreachable!()
-        };
-        space
+        self.find_space(task).unwrap()
     }
 
     /// The task's names, if the task lives. Constant time.
@@ -155,8 +152,18 @@ impl World {
         ensures value { result ≡ entry_at self.now task name }
         ensures lives { IfSome result (λ entry. IsForLive self.now entry) }
     {
+        Some(self.find_placed(task, name)?.entry)
+    }
+
+    /// What is under the task's name, if anything is, with the place of its port's record. As [`World::lookup`].
+    #[inline(always)]
+    pub fn find_placed(&self, task: TaskId, name: Name) -> Option<Placed>
+        ensures some { IfSome result (λ placed. entry_at self.now task name ≡ Some placed.entry) }
+        ensures lives { IfSome result (λ placed. IsForLive self.now placed.entry) }
+        ensures none { IfNone result (entry_at self.now task name ≡ None) }
+    {
         let kept = self.spaces.get(task.number() as usize)?.as_ref()?;
-        TaskNames::of(kept, &self.ports).lookup(name)
+        TaskNames::of(kept, &self.ports).find(name)
     }
 
     /// Makes message slots, so that one is spare for each unused send-once right, and so many more. Where

@@ -27,6 +27,7 @@ use copyin_base::{Carried, Message, Queued, Slot, TaskNames, World};
 use mach_types::limits::MOST_NAMES;
 use mach_types::{Bytes, Name, PortId, TaskId};
 use message_codec::{Header, Span};
+use port::Found;
 
 /// What is known of a message that was sent and carries one right at most, beside that of its destination.
 #[derive(Clone, Copy)]
@@ -187,18 +188,19 @@ fn spell_only(message: Message, bare: &Bare, name: Name, local: Name) -> Bytes
 fn take_bare(
     world: &mut World,
     task: TaskId,
-    port: PortId,
+    found: Found,
     local: Name,
     bare: &Bare,
     own: Option<PortId>,
 ) -> Bytes
-    requires ready { (capacity : ℕ) × ReadyFor world.old task port capacity }
-    requires bare { (m : Kept) → HasFront world.old port m → IsBare m bare.now }
+    requires ready { (capacity : ℕ) × ReadyFor world.old task found.port capacity }
+    requires bare { (m : Kept) → HasFront world.old found.port m → IsBare m bare.now }
     requires own { TellsOwn world.old task bare.now.right own }
-    requires numbered { IsNumbered world.old port bare.now.sequence }
-    ensures { (taken : WorldView) × (t : TakesMessage world.old task port local result taken) × NotesFront taken port t.takes.front world.new }
+    requires numbered { IsNumbered world.old found.port bare.now.sequence }
+    ensures { (taken : WorldView) × (t : TakesMessage world.old task found.port local result taken) × NotesFront taken found.port t.takes.front world.new }
 {
-    let message = into_sent(take_front(world, port));
+    let Found { port, place } = found;
+    let message = into_sent(take_front(world, Found { port, place }));
     let name = give_only(world, task, &bare.right, own);
     note_front(world, port, message.by_once());
     spell_only(message, bare, name, local)
@@ -210,24 +212,24 @@ fn take_bare(
 pub(crate) fn receive_bare(
     world: &mut World,
     task: TaskId,
-    port: PortId,
+    found: Found,
     local: Name,
     bare: &Bare,
     room: u32,
 ) -> Result<Bytes, Refusal>
     requires there { HasTask world.old task }
-    requires waits { Waits world.old port }
-    requires bare { (m : Kept) × HasFront world.old port m × IsBare m bare.now }
-    requires numbered { IsNumbered world.old port bare.now.sequence }
-    ensures ok { IfOk result (λ bytes. (needed : ℕ) × (start : WorldView) × (taken : WorldView) × MakesRoom world.old task needed start × (t : TakesMessage start task port local bytes taken)
-        × (length t.takes.front.bytes ≤ min room most_bytes) × NotesFront taken port t.takes.front world.new) }
+    requires waits { Waits world.old found.port }
+    requires bare { (m : Kept) × HasFront world.old found.port m × IsBare m bare.now }
+    requires numbered { IsNumbered world.old found.port bare.now.sequence }
+    ensures ok { IfOk result (λ bytes. (needed : ℕ) × (start : WorldView) × (taken : WorldView) × MakesRoom world.old task needed start × (t : TakesMessage start task found.port local bytes taken)
+        × (length t.takes.front.bytes ≤ min room most_bytes) × NotesFront taken found.port t.takes.front world.new) }
     ensures kept { OnOk result (ReturnsSlot world.old world.new) }
-    ensures err { IfErr result (λ refusal. (world.new ≡ world.old) × (m : Kept) × HasFront world.old port m × IsRefusedBy world.old task m room refusal) }
-    ensures wanted { IfErr result (λ refusal. refusal ≡ refused.Memory → WantsToReceive world.old task port) }
+    ensures err { IfErr result (λ refusal. (world.new ≡ world.old) × (m : Kept) × HasFront world.old found.port m × IsRefusedBy world.old task m room refusal) }
+    ensures wanted { IfErr result (λ refusal. refusal ≡ refused.Memory → WantsToReceive world.old task found.port) }
 {
     let own = judge_bare(world, task, bare, room)?;
     match make_room(world, task, count_own(&own)) {
-        Ok(()) => Ok(take_bare(world, task, port, local, bare, own)),
+        Ok(()) => Ok(take_bare(world, task, found, local, bare, own)),
         Err(_) => Err(Refusal::Memory),
     }
 }

@@ -14,8 +14,9 @@ ghost use Rattle.copyout.specs.declared.receipt.Refusal.TheVariants as refused;
 
 use crate::receipt::{Refusal, header_bits, note_front, spell, take_front};
 use copyin_base::{Carried, Message, Queued, Slot, World};
-use mach_types::{Bytes, Name, PortId};
+use mach_types::{Bytes, Name};
 use message_codec::Header;
+use port::Found;
 
 /// What is known of a message that was sent and carries nothing beside its bytes.
 #[derive(Clone, Copy)]
@@ -94,13 +95,14 @@ pub(crate) fn spell_bare(
 // Takes the port's front message, which is such a one, and notes the port where it came by the last send
 // right. No right is given, so that no memory is taken.
 #[inline(always)]
-fn take_plain(world: &mut World, port: PortId, local: Name, sequence: u32) -> Bytes
-    requires waits { Waits world.old port }
-    requires plain { (m : Kept) × HasFront world.old port m × IsPlain m }
-    requires numbered { IsNumbered world.old port sequence }
-    ensures { (task : ℕ) → (taken : WorldView) × (t : TakesMessage world.old task port local result taken) × NotesFront taken port t.takes.front world.new }
+fn take_plain(world: &mut World, found: Found, local: Name, sequence: u32) -> Bytes
+    requires waits { Waits world.old found.port }
+    requires plain { (m : Kept) × HasFront world.old found.port m × IsPlain m }
+    requires numbered { IsNumbered world.old found.port sequence }
+    ensures { (task : ℕ) → (taken : WorldView) × (t : TakesMessage world.old task found.port local result taken) × NotesFront taken found.port t.takes.front world.new }
 {
-    let message = into_sent(take_front(world, port));
+    let Found { port, place } = found;
+    let message = into_sent(take_front(world, Found { port, place }));
     note_front(world, port, message.by_once());
     spell_bare(message, &None, Name::null(), local, sequence)
 }
@@ -110,21 +112,21 @@ fn take_plain(world: &mut World, port: PortId, local: Name, sequence: u32) -> By
 #[inline(always)]
 pub(crate) fn receive_plain(
     world: &mut World,
-    port: PortId,
+    found: Found,
     local: Name,
     plain: &Plain,
     room: u32,
 ) -> Result<Bytes, Refusal>
-    requires waits { Waits world.old port }
-    requires plain { (m : Kept) × HasFront world.old port m × IsPlain m × (plain.now.size ≡ length m.bytes) }
-    requires numbered { IsNumbered world.old port plain.now.sequence }
+    requires waits { Waits world.old found.port }
+    requires plain { (m : Kept) × HasFront world.old found.port m × IsPlain m × (plain.now.size ≡ length m.bytes) }
+    requires numbered { IsNumbered world.old found.port plain.now.sequence }
     ensures ok { IfOk result (λ bytes. (plain.now.size ≤ min room most_bytes)
-        × ((task : ℕ) → (taken : WorldView) × (t : TakesMessage world.old task port local bytes taken) × NotesFront taken port t.takes.front world.new)) }
+        × ((task : ℕ) → (taken : WorldView) × (t : TakesMessage world.old task found.port local bytes taken) × NotesFront taken found.port t.takes.front world.new)) }
     ensures err { IfErr result (λ refusal. (world.new ≡ world.old) × (refusal ≡ refused.TooLarge plain.now.size) × (min room most_bytes < plain.now.size)) }
 {
     let size = plain.size;
     if size > room as usize {
         return Err(Refusal::TooLarge(size as u32));
     }
-    Ok(take_plain(world, port, local, plain.sequence))
+    Ok(take_plain(world, found, local, plain.sequence))
 }

@@ -28,6 +28,7 @@ use mach_types::bits::COMPLEX;
 use mach_types::limits::{MOST_BYTES, MOST_NAMES};
 use mach_types::{Bytes, KernReturn, Name, PortId, TaskId};
 use message_codec::{Header, Span, put_received};
+use port::{Found, NOWHERE};
 use smallvec::SmallVec;
 use std::alloc::{AllocError, Global};
 use std::boxed::Box;
@@ -69,11 +70,11 @@ pub(crate) fn header_bits(reply: &Option<Carried>, by_once: bool, is_complex: bo
 ///
 /// Takes no memory and cannot fail. Constant time.
 #[inline(always)]
-pub fn take_front(world: &mut World, port: PortId) -> Queued
-    requires { Waits world.old port }
-    ensures { (t : TakesFront world.old port world.new) × (result ≡ t.front) }
+pub fn take_front(world: &mut World, found: Found) -> Queued
+    requires { Waits world.old found.port }
+    ensures { (t : TakesFront world.old found.port world.new) × (result ≡ t.front) }
 {
-    world.receive_front(port)
+    world.receive_front(found)
 }
 
 /// Gives the task the reply right, if there is one, and returns its name.
@@ -197,22 +198,23 @@ pub fn note_front(world: &mut World, port: PortId, by_once: bool)
 fn take_message(
     world: &mut World,
     task: TaskId,
-    port: PortId,
+    found: Found,
     local: Name,
     prepared: Prepared,
 ) -> Bytes
-    requires ready { ReadyFor world.old task port prepared.names.capacity }
+    requires ready { ReadyFor world.old task found.port prepared.names.capacity }
     requires none { prepared.names.items ≡ [] }
-    requires made { (m : Kept) → HasFront world.old port m → Makes m prepared.made }
-    requires numbered { IsNumbered world.old port prepared.sequence }
-    ensures { (taken : WorldView) × (t : TakesMessage world.old task port local result taken) × NotesFront taken port t.takes.front world.new }
+    requires made { (m : Kept) → HasFront world.old found.port m → Makes m prepared.made }
+    requires numbered { IsNumbered world.old found.port prepared.sequence }
+    ensures { (taken : WorldView) × (t : TakesMessage world.old task found.port local result taken) × NotesFront taken found.port t.takes.front world.new }
 {
+    let Found { port, place } = found;
     let Prepared {
         names,
         made,
         sequence,
     } = prepared;
-    let queued = take_front(world, port);
+    let queued = take_front(world, Found { port, place });
     let by_once = queued.by_once();
     let bytes = deliver(
         world,
@@ -227,12 +229,12 @@ fn take_message(
 }
 
 // The port's front message, and the sequence number that it is received with.
-fn front(world: &World, port: PortId) -> (&Queued, u32)
-    requires { (m : Kept) × HasFront world.now port m }
-    ensures front { HasFront world.now port result.0.now }
-    ensures numbered { IsNumbered world.now port result.1 }
+fn front(world: &World, found: Found) -> (&Queued, u32)
+    requires { (m : Kept) × HasFront world.now found.port m }
+    ensures front { HasFront world.now found.port result.0.now }
+    ensures numbered { IsNumbered world.now found.port result.1 }
 {
-    match world.numbered_front(port) {
+    match world.numbered_front(found) {
         Some(front) => front,
         None => unreachable!(),
     }
@@ -285,16 +287,16 @@ fn judge(
     world: &World,
     alloc: Global,
     task: TaskId,
-    port: PortId,
+    found: Found,
     room: u32,
 ) -> Result<(usize, Prepared), Refusal>
     requires there { HasTask world.now task }
-    requires waits { (m : Kept) × HasFront world.now port m × (length m.bytes ≤ most_bytes) }
-    ensures ok { IfOk result (λ r. (may : MayReceive world.now task port room r.0) × IsPrepared may.front r.1 × IsNumbered world.now port r.1.sequence) }
-    ensures err { IfErr result (λ refusal. (m : Kept) × HasFront world.now port m × IsRefusedBy world.now task m room refusal) }
-    ensures wanted { IfErr result (λ refusal. refusal ≡ refused.Memory → WantsToReceive world.now task port) }
+    requires waits { (m : Kept) × HasFront world.now found.port m × (length m.bytes ≤ most_bytes) }
+    ensures ok { IfOk result (λ r. (may : MayReceive world.now task found.port room r.0) × IsPrepared may.front r.1 × IsNumbered world.now found.port r.1.sequence) }
+    ensures err { IfErr result (λ refusal. (m : Kept) × HasFront world.now found.port m × IsRefusedBy world.now task m room refusal) }
+    ensures wanted { IfErr result (λ refusal. refusal ≡ refused.Memory → WantsToReceive world.now task found.port) }
 {
-    let (queued, sequence) = front(world, port);
+    let (queued, sequence) = front(world, found);
     let needed = judge_names(world, task, queued, room)?;
     match prepare(alloc, queued, sequence) {
         Ok(prepared) => Ok((needed, prepared)),
@@ -311,7 +313,8 @@ pub fn is_receivable(world: &World, task: TaskId, port: PortId, room: u32) -> bo
     requires waits { Waits world.now port }
     ensures { (m : Kept) → HasFront world.now port m → MatchBool result (IsRefusedBy world.now task m room refused.Memory) (¬ (IsRefusedBy world.now task m room refused.Memory)) }
 {
-    let (queued, _) = front(world, port);
+    let place = NOWHERE;
+    let (queued, _) = front(world, Found { port, place });
     judge_names(world, task, queued, room).is_ok()
 }
 
@@ -334,21 +337,22 @@ fn receive_any(
     world: &mut World,
     alloc: Global,
     task: TaskId,
-    port: PortId,
+    found: Found,
     local: Name,
     room: u32,
 ) -> Result<Bytes, Refusal>
     requires there { HasTask world.old task }
-    requires waits { Waits world.old port }
-    ensures ok { IfOk result (λ bytes. (needed : ℕ) × (start : WorldView) × (taken : WorldView) × MakesRoom world.old task needed start × (t : TakesMessage start task port local bytes taken)
-        × (length t.takes.front.bytes ≤ min room most_bytes) × NotesFront taken port t.takes.front world.new) }
+    requires waits { Waits world.old found.port }
+    ensures ok { IfOk result (λ bytes. (needed : ℕ) × (start : WorldView) × (taken : WorldView) × MakesRoom world.old task needed start × (t : TakesMessage start task found.port local bytes taken)
+        × (length t.takes.front.bytes ≤ min room most_bytes) × NotesFront taken found.port t.takes.front world.new) }
     ensures kept { OnOk result (ReturnsSlot world.old world.new) }
-    ensures err { IfErr result (λ refusal. (world.new ≡ world.old) × (m : Kept) × HasFront world.old port m × IsRefusedBy world.old task m room refusal) }
-    ensures wanted { IfErr result (λ refusal. refusal ≡ refused.Memory → WantsToReceive world.old task port) }
+    ensures err { IfErr result (λ refusal. (world.new ≡ world.old) × (m : Kept) × HasFront world.old found.port m × IsRefusedBy world.old task m room refusal) }
+    ensures wanted { IfErr result (λ refusal. refusal ≡ refused.Memory → WantsToReceive world.old task found.port) }
 {
-    let (needed, prepared) = judge(world, alloc, task, port, room)?;
+    let Found { port, place } = found;
+    let (needed, prepared) = judge(world, alloc, task, Found { port, place }, room)?;
     match make_room(world, task, needed) {
-        Ok(()) => Ok(take_message(world, task, port, local, prepared)),
+        Ok(()) => Ok(take_message(world, task, Found { port, place }, local, prepared)),
         Err(_) => Err(Refusal::Memory),
     }
 }
@@ -379,25 +383,26 @@ pub fn receive(
     world: &mut World,
     alloc: Global,
     task: TaskId,
-    port: PortId,
+    found: Found,
     local: Name,
     room: u32,
 ) -> Result<Bytes, Refusal>
     requires there { HasTask world.old task }
-    requires waits { Waits world.old port }
-    ensures ok { IfOk result (λ bytes. (needed : ℕ) × (start : WorldView) × (taken : WorldView) × MakesRoom world.old task needed start × (t : TakesMessage start task port local bytes taken)
-        × (length t.takes.front.bytes ≤ min room most_bytes) × NotesFront taken port t.takes.front world.new) }
+    requires waits { Waits world.old found.port }
+    ensures ok { IfOk result (λ bytes. (needed : ℕ) × (start : WorldView) × (taken : WorldView) × MakesRoom world.old task needed start × (t : TakesMessage start task found.port local bytes taken)
+        × (length t.takes.front.bytes ≤ min room most_bytes) × NotesFront taken found.port t.takes.front world.new) }
     ensures kept { OnOk result (ReturnsSlot world.old world.new) }
-    ensures err { IfErr result (λ refusal. (world.new ≡ world.old) × (m : Kept) × HasFront world.old port m × IsRefusedBy world.old task m room refusal) }
-    ensures wanted { IfErr result (λ refusal. refusal ≡ refused.Memory → WantsToReceive world.old task port) }
+    ensures err { IfErr result (λ refusal. (world.new ≡ world.old) × (m : Kept) × HasFront world.old found.port m × IsRefusedBy world.old task m room refusal) }
+    ensures wanted { IfErr result (λ refusal. refusal ≡ refused.Memory → WantsToReceive world.old task found.port) }
 {
+    let Found { port, place } = found;
     // Most messages carry nothing beside their bytes, or one right, and go a short way.
-    let (queued, sequence) = front(world, port);
+    let (queued, sequence) = front(world, Found { port, place });
     if let Some(plain) = plain_of(queued, sequence) {
-        return receive_plain(world, port, local, &plain, room);
+        return receive_plain(world, Found { port, place }, local, &plain, room);
     }
     match bare_of(queued, sequence) {
-        Some(bare) => receive_bare(world, task, port, local, &bare, room),
-        None => receive_any(world, alloc, task, port, local, room),
+        Some(bare) => receive_bare(world, task, Found { port, place }, local, &bare, room),
+        None => receive_any(world, alloc, task, Found { port, place }, local, room),
     }
 }

@@ -18,11 +18,12 @@ ghost use Rattle.kernel_core.specs.Telling.{by_length, with_message};
 ghost use Rattle.kernel_core.specs.Wanted.{WantsToTake, WantsMemory, LeavesSpares};
 ghost use Rattle.notifications.specs.Destroying.{CanDestroy, DestroysMessage};
 
-use copyin_base::World;
+use copyin_base::{Placed, World};
 use copyout::Refusal;
 use kernel_change::Change;
 use mach_types::{Code, MsgReturn, Name, PortId, Reply, SetId, TaskId, Waited};
 use notifications::lose_message;
+use port::{Found, NOWHERE};
 use std::alloc::Global;
 
 /// Where a received message goes.
@@ -68,7 +69,11 @@ pub(crate) fn receive(
     ensures turns { KeepsTurns world.old (AnyEvent.Receive task name buffer.room buffer.large) (told_by result) world.new }
     ensures takes { IfOk result (λ reply. CompletesInTurn world.old (AnyEvent.Receive task name buffer.room buffer.large) reply world.new) }
 {
-    let Source { waited, ready } = find_source(world, task, name)?;
+    let Source {
+        waited,
+        ready,
+        place,
+    } = find_source(world, task, name)?;
     // A set has its own copy of what follows: a receive by a port then keeps nothing of what it waits for until its
     // message is taken.
     let Waited::Port(port) = waited else {
@@ -77,6 +82,7 @@ pub(crate) fn receive(
             waited,
             name,
             ready,
+            place,
         };
         return receive_from(world, alloc, task, origin, buffer, told);
     };
@@ -84,6 +90,7 @@ pub(crate) fn receive(
         waited: Waited::Port(port),
         name: Some(name),
         ready,
+        place,
     };
     let reply = take(world, alloc, task, origin, buffer, told)?;
     tell_message(task, &reply, told);
@@ -124,6 +131,7 @@ pub(crate) fn receive_again(
         waited,
         name,
         ready,
+        place: NOWHERE,
     };
     receive_from(world, alloc, task, origin, buffer, told)
 }
@@ -139,6 +147,8 @@ struct Origin {
     name: Option<Name>,
     /// The port that it takes its message from, if one has any.
     ready: Option<PortId>,
+    /// The place of that port's record, where it was found by its name.
+    place: usize,
 }
 
 /// What a name stands for that a task may receive by.
@@ -148,6 +158,8 @@ pub(crate) struct Source {
     pub(crate) waited: Waited,
     /// The port that it takes its message from, if one has any.
     pub(crate) ready: Option<PortId>,
+    /// The place of that port's record, where it was found by its name.
+    pub(crate) place: usize,
 }
 
 /// What a receive by the name takes from: a port that is in no set, whose receive right is under it, or
@@ -161,29 +173,34 @@ pub(crate) fn find_source(world: &World, task: TaskId, name: Name) -> Result<Sou
     ensures first { IfOk result (λ source. IsFirst world.now source.waited source.ready) }
     ensures err { IfErr result (λ code. IsRefused world.now (λ s. named_guards s task name) (msg_number code)) }
 {
-    let Some(entry) = world.lookup(task, name) else {
+    let Some(Placed { entry, place }) = world.find_placed(task, name) else {
         return Err(MsgReturn::ReceiveInvalidName);
     };
     if let Some(set) = entry.set() {
         let waited = Waited::Set(set);
         let ready = ready(world, &waited);
-        return Ok(Source { waited, ready });
+        return Ok(Source {
+            waited,
+            ready,
+            place: NOWHERE,
+        });
     }
     let Some(port) = entry.receive_port() else {
         return Err(MsgReturn::ReceiveInvalidName);
     };
-    port_source(world, port)
+    port_source(world, Found { port, place })
 }
 
 /// The port as what a receive takes from, if it is in no set. One look-up tells that, and whether it has a
 /// message.
 #[inline(always)]
-fn port_source(world: &World, port: PortId) -> Result<Source, MsgReturn>
-    requires { is_some (port_at world.now port) ≡ true }
-    ensures ok { IfOk result (λ source. (source.waited ≡ AnyWaited.Port port) × IsAlone world.now port × MatchOption source.ready (NoneWaits world.now (AnyWaited.Port port)) (HasMessage world.now (AnyWaited.Port port))) }
-    ensures err { IfErr result (λ code. (code ≡ msg.ReceiveInSet) × IsMember world.now port) }
+fn port_source(world: &World, found: Found) -> Result<Source, MsgReturn>
+    requires { is_some (port_at world.now found.port) ≡ true }
+    ensures ok { IfOk result (λ source. (source.waited ≡ AnyWaited.Port found.port) × IsAlone world.now found.port × MatchOption source.ready (NoneWaits world.now (AnyWaited.Port found.port)) (HasMessage world.now (AnyWaited.Port found.port))) }
+    ensures err { IfErr result (λ code. (code ≡ msg.ReceiveInSet) × IsMember world.now found.port) }
 {
-    let Some(standing) = world.standing(port) else {
+    let Found { port, place } = found;
+    let Some(standing) = world.standing(found) else {
         unreachable!()
     };
     if standing.is_member {
@@ -196,6 +213,7 @@ fn port_source(world: &World, port: PortId) -> Result<Source, MsgReturn>
         } else {
             None
         },
+        place,
     })
 }
 
@@ -296,7 +314,11 @@ fn take(
         return Ok(Reply::Empty(origin.waited));
     };
     let name = name_of(world, task, port, origin.name);
-    match copyout::receive(world, alloc, task, port, name, buffer.room) {
+    let found = Found {
+        port,
+        place: origin.place,
+    };
+    match copyout::receive(world, alloc, task, found, name, buffer.room) {
         Ok(bytes) => {
             pass_turn(world, origin.waited, port);
             Ok(Reply::Message(bytes))

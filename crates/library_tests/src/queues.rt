@@ -1,6 +1,6 @@
 //! Ports by number: their queues, destroyed messages, and the members of sets that are ready.
 use mach_types::{PortId, SetId, TaskId};
-use port::{Membership, Message, Ports};
+use port::{Found, Membership, Message, Ports};
 use port_set::{disband, move_member, ready_member};
 use std::alloc::Global;
 
@@ -35,7 +35,7 @@ fn remove(ports: &mut Ports<Note>, port: u64) -> bool {
 /// Queues a note, if the port has room and a slot is spare.
 fn post(ports: &mut Ports<Note>, port: u64, says: u32) -> bool {
     let port = PortId::new(port);
-    let is_room = ports.has_room(port) && ports.spare() > 0;
+    let is_room = ports.has_room(Found::of(port)) && ports.spare() > 0;
     if is_room {
         ports.enqueue(port, Note(says));
     }
@@ -99,10 +99,10 @@ fn are_posted(ports: &mut Ports<Note>) -> bool {
 /// Returns whether the port has so many notes and is in no set, and this note is the first, with this number.
 fn is_first(ports: &Ports<Note>, port: u64, queued: usize, says: u32, number: u32) -> bool {
     let port = PortId::new(port);
-    let Some(standing) = ports.standing(port) else {
+    let Some(standing) = ports.standing(Found::of(port)) else {
         return false;
     };
-    let Some((note, sequence)) = ports.numbered_front(port) else {
+    let Some((note, sequence)) = ports.numbered_front(Found::of(port)) else {
         return false;
     };
     !standing.is_member && standing.queued == queued && note.0 == says && sequence == number
@@ -120,8 +120,8 @@ fn are_taken(ports: &mut Ports<Note>) -> bool {
         && is_first(ports, 1, 1, 9, 0)
         && take(ports, 1) == Some(9)
         && take(ports, 1).is_none()
-        && ports.numbered_front(PortId::new(1)).is_none()
-        && ports.standing(PortId::new(2)).is_none()
+        && ports.numbered_front(Found::of(PortId::new(1))).is_none()
+        && ports.standing(Found::of(PortId::new(2))).is_none()
 }
 
 /// Returns whether the limit of a port is set, and its counts stay.
@@ -131,9 +131,22 @@ fn is_limited(ports: &mut Ports<Note>) -> bool {
     before == Some([5, 0, 1]) && counts(ports, 1) == Some([16, 0, 1])
 }
 
+/// Returns whether the port is found where its record lies, and also where another place is told.
+fn is_found(ports: &Ports<Note>, port: u64) -> bool {
+    let Some(Found { port, place }) = ports.find(PortId::new(port)) else {
+        return false;
+    };
+    let there = ports.standing(Found { port, place });
+    let place = place ^ 1;
+    there.is_some() && ports.standing(Found { port, place }) == there
+}
+
 fn is_gone(ports: &mut Ports<Note>) -> bool {
-    remove(ports, 0)
-        && !ports.has_room(PortId::new(0))
+    is_found(ports, 0)
+        && is_found(ports, 1)
+        && remove(ports, 0)
+        && ports.find(PortId::new(0)).is_none()
+        && !ports.has_room(Found::of(PortId::new(0)))
         && counts(ports, 0).is_none()
         && ports.len() == 1
         && allocate(ports) == Some(2)

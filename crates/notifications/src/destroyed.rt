@@ -7,6 +7,7 @@ ghost use Rattle.notifications.specs.Destroying.{LosesRight, LosesMark, LosesAll
 use copyin_base::{Carried, Mark, Notice, Queued, World};
 use copyout::{note_front, take_front};
 use mach_types::{Disposition, PortId, Right};
+use port::{Found, NOWHERE};
 
 // A right of this kind for a port that is there is lost.
 fn lose_kind(world: &mut World, given: Disposition, port: PortId)
@@ -74,7 +75,8 @@ pub fn lose_message(world: &mut World, port: PortId)
     requires { CanDestroy world.old port }
     ensures { DestroysMessage world.old port world.new }
 {
-    let queued = take_front(world, port);
+    let place = NOWHERE;
+    let queued = take_front(world, Found { port, place });
     note_front(world, port, queued.by_once());
     lose_reply(world, queued.reply());
     lose_body(world, &queued);

@@ -1,6 +1,7 @@
 -- Who holds a port's receive right, and which ports nobody holds.
 use Rattle.std.specs.Prelude.{◌≡◌, ◌≢◌, ℕ, Some}
 use Rattle.std.specs.FinMap as map
+use Rattle.std.specs.List.{Contains}
 use Rattle.port_base.specs.Attributes.{held_by}
 use Rattle.port_base.specs.declared.Attributes.{Attributes}
 use Rattle.port_base.specs.declared.Holder.{Holder}
@@ -36,3 +37,7 @@ module _ {M : Type 0} where
   -- no port there has this holder
   abbrev pub NoneHeldBy : PortsView M → Holder → Type 0
   NoneHeldBy v holder = (port : ℕ) (p : PortView M) → map.get v.ports port ≡ Some p → p.attributes.holder ≢ holder
+
+  -- this port isn't doomed: its holder isn't `Doomed`, or it isn't among the doomed ones
+  abbrev pub IsNotDoomed : PortsView M → (port : ℕ) → PortView M → Type 0
+  IsNotDoomed v port p = p.attributes.holder ≡ Doomed → Contains v.doomed port → ⊥

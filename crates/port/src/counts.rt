@@ -6,7 +6,8 @@ ghost use Rattle.rights.specs.Counts.{all_of, number_of, one_shifted, with_fewer
 ghost use Rattle.rights.specs.declared.RightKind.TheVariants.{Send};
 ghost use Rattle.port_base.specs.Attributes.{one_made, one_received};
 
-use crate::{Message, Ports, key_at, key_of};
+use crate::found::{key_near, key_there};
+use crate::{Found, Message, Ports, key_at, key_of};
 use mach_types::PortId;
 use port_base::by_key::{
     add_at, counts_at, make_send_at, push_counted_at, subtract_at, take_counted_at,
@@ -50,12 +51,12 @@ impl<M: Message> Ports<M> {
     /// The message at the front of a port's queue, and the port's place, if the port is there and has one. Constant
     /// time.
     #[inline(always)]
-    pub fn placed_front(&self, port: PortId) -> Option<(&M, usize)>
-        ensures some { IfSome result (λ front. option_and_then (λ p. slice_get p.queue 0) (map.get self.now.bare.ports port) ≡ Some front.0.now) }
-        ensures place { IfSome result (λ front. map.get self.now.places port ≡ Some front.1) }
-        ensures none { IfNone result (NoneQueued self.now.bare port) }
+    pub fn placed_front(&self, found: Found) -> Option<(&M, usize)>
+        ensures some { IfSome result (λ front. option_and_then (λ p. slice_get p.queue 0) (map.get self.now.bare.ports found.port) ≡ Some front.0.now) }
+        ensures place { IfSome result (λ front. map.get self.now.places found.port ≡ Some front.1) }
+        ensures none { IfNone result (NoneQueued self.now.bare found.port) }
     {
-        let key = key_of(&self.by_id, port)?;
+        let key = key_near(&self.records, &self.by_id, found)?;
         let message = self.records[key].queue.front()?;
         Some((message, key))
     }
@@ -84,14 +85,14 @@ impl<M: Message> Ports<M> {
     /// Counts a send right made from a port's receive right, modulo 2^32, and among the port's rights. Takes no
     /// memory. Constant time.
     #[inline(always)]
-    pub fn make_send(&mut self, port: PortId)
-        requires there { HasRights self.old port }
-        requires fits { all_of (rights_for self.old port) + 1 < 2 ^ 32 }
-        ensures after { (p : PortView M) → map.get self.old.bare.ports port ≡ Some p → self.new.bare ≡ with_port self.old.bare port (record p { attributes = one_made p.attributes }) }
-        ensures there { IsLive self.old.bare port }
-        ensures counts { self.new.counts ≡ map.insert self.old.counts port (with_more Send 1 (rights_for self.old port)) }
+    pub fn make_send(&mut self, found: Found)
+        requires there { HasRights self.old found.port }
+        requires fits { all_of (rights_for self.old found.port) + 1 < 2 ^ 32 }
+        ensures after { (p : PortView M) → map.get self.old.bare.ports found.port ≡ Some p → self.new.bare ≡ with_port self.old.bare found.port (record p { attributes = one_made p.attributes }) }
+        ensures there { IsLive self.old.bare found.port }
+        ensures counts { self.new.counts ≡ map.insert self.old.counts found.port (with_more Send 1 (rights_for self.old found.port)) }
     {
-        let key = key_at(&self.by_id, port);
+        let key = key_there(&self.records, &self.by_id, found);
         make_send_at(&mut self.records, key);
     }
 
@@ -99,16 +100,16 @@ impl<M: Message> Ports<M> {
     /// as the one that the message was sent to, if it was one. Takes no memory. Constant time, and for a port's first
     /// message linear in its sets.
     #[inline(always)]
-    pub fn enqueue_counted(&mut self, port: PortId, message: M, once: bool)
-        requires live { IsLive self.old.bare port }
+    pub fn enqueue_counted(&mut self, found: Found, message: M, once: bool)
+        requires live { IsLive self.old.bare found.port }
         requires spare { 0 < self.old.bare.spare }
-        requires some { once ≡ true → 0 < (rights_for self.old port).send_once }
-        requires fits { all_of (rights_for self.old port) < 2 ^ 32 }
-        ensures after { (p : PortView M) → map.get self.old.bare.ports port ≡ Some p →
-            self.new.bare ≡ record (with_port self.old.bare port (record p { queue = p.queue ++ message ∷ [] })) { spare = self.old.bare.spare - 1 } }
-        ensures counts { self.new.counts ≡ (if once then map.insert self.old.counts port (one_shifted (rights_for self.old port)) else self.old.counts) }
+        requires some { once ≡ true → 0 < (rights_for self.old found.port).send_once }
+        requires fits { all_of (rights_for self.old found.port) < 2 ^ 32 }
+        ensures after { (p : PortView M) → map.get self.old.bare.ports found.port ≡ Some p →
+            self.new.bare ≡ record (with_port self.old.bare found.port (record p { queue = p.queue ++ message ∷ [] })) { spare = self.old.bare.spare - 1 } }
+        ensures counts { self.new.counts ≡ (if once then map.insert self.old.counts found.port (one_shifted (rights_for self.old found.port)) else self.old.counts) }
     {
-        let key = key_at(&self.by_id, port);
+        let key = key_there(&self.records, &self.by_id, found);
         let sets = push_counted_at(&mut self.records, key, &mut self.spare, message, once);
         ready(&mut self.sets, key, sets);
     }

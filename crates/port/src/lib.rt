@@ -14,15 +14,18 @@ ghost use Rattle.number_map.specs.Maps.{MapView};
 ghost use Rattle.slab.specs.Slab.{get, with_value, HasRoomFor};
 ghost use Rattle.port_base.specs.declared.Record.{Record as AnyRecord};
 ghost use Rattle.port_base.specs.Ready.{StandsIn, IsMoved, out_of, at_end};
-ghost use Rattle.port_base.specs.Attributes.{held_by, one_made, one_received};
+ghost use Rattle.port_base.specs.Attributes.{one_received};
 ghost use Rattle.port.specs.Idle.{IsIdle};
 ghost use Rattle.port_base.specs.Records.{ids_at};
 
 mod counts;
 mod dying;
+mod found;
 mod looks;
 mod sets;
 
+use found::record_near;
+pub use found::{Found, NOWHERE};
 pub use looks::Standing;
 use mach_types::{PortId, TaskId};
 use member_lists::TwoLists;
@@ -120,7 +123,7 @@ fn key_at(by_id: &NumberMap<u32>, port: PortId) -> usize
 impl<M: Message> Ports<M> {
     ghost use Rattle.mach_types.specs.Numbers.{most_identities};
     ghost use Rattle.member_lists.specs.Lists.{without};
-    ghost use Rattle.port.specs.Holding.{CanHold, held, KeepsHolder, KeepsSet, IsHeldBy, NoneHeldBy};
+    ghost use Rattle.port.specs.Holding.{CanHold, held, KeepsHolder, KeepsSet, IsHeldBy, IsNotDoomed, NoneHeldBy};
     ghost use Rattle.port_base.specs.Attributes.{first_attributes};
     ghost use Rattle.port.specs.Ports.{PortView, IsLive, with_port, DestroysFirst, NoneQueued};
     ghost use Rattle.port.specs.Records.{with_holder};
@@ -277,6 +280,16 @@ impl<M: Message> Ports<M> {
         Some(self.records[key as usize].kept.holder())
     }
 
+    /// The port with its place, if it is there. Constant time.
+    #[inline(always)]
+    pub fn find(&self, port: PortId) -> Option<Found>
+        ensures some { IfSome result (λ found. (found.port ≡ port) × IsLive self.now.bare port) }
+        ensures none { IfNone result (map.get self.now.bare.ports port ≡ None) }
+    {
+        let place = key_of(&self.by_id, port)?;
+        Some(Found { port, place })
+    }
+
     /// Returns whether the port is there. Constant time.
     pub fn contains(&self, port: PortId) -> bool
         ensures { result ≡ is_some (map.get self.now.bare.ports port) }
@@ -303,7 +316,7 @@ impl<M: Message> Ports<M> {
         requires { IsLive self.old.bare port }
         ensures held { (p : PortView M) → map.get self.old.bare.ports port ≡ Some p → self.new.bare ≡ with_holder self.old.bare port p holder }
         ensures lost { (p : PortView M) → map.get self.old.bare.ports port ≡ Some p → p.attributes.holder ≢ Holder.Nobody → without port self.old.bare.lost ≡ self.old.bare.lost }
-        ensures doomed { (p : PortView M) → map.get self.old.bare.ports port ≡ Some p → p.attributes.holder ≢ Holder.Doomed → without port self.old.bare.doomed ≡ self.old.bare.doomed }
+        ensures doomed { (p : PortView M) → map.get self.old.bare.ports port ≡ Some p → IsNotDoomed self.old.bare port p → without port self.old.bare.doomed ≡ self.old.bare.doomed }
         ensures counts { self.new.counts ≡ self.old.counts }
     {
         let key = key_at(&self.by_id, port);
@@ -329,7 +342,7 @@ impl<M: Message> Ports<M> {
     pub fn hold(&mut self, port: PortId, holder: Holder)
         requires live { IsLive self.old.bare port }
         requires holder { CanHold holder }
-        requires stays { (p : PortView M) → map.get self.old.bare.ports port ≡ Some p → p.attributes.holder ≢ Holder.Doomed }
+        requires stays { (p : PortView M) → map.get self.old.bare.ports port ≡ Some p → IsNotDoomed self.old.bare port p }
         ensures after { (p : PortView M) → map.get self.old.bare.ports port ≡ Some p →
             self.new.bare ≡ record (with_port self.old.bare port (held p holder)) { lost = without port self.old.bare.lost } }
         ensures counts { self.new.counts ≡ self.old.counts }
@@ -404,15 +417,13 @@ impl<M: Message> Ports<M> {
     }
 
     /// Returns whether the port is there and has fewer messages than its limit. Constant time.
-    pub fn has_room(&self, port: PortId) -> bool
-        ensures live { (p : PortView M) → map.get self.now.bare.ports port ≡ Some p → (IsTrue result ↔ (length p.queue < p.attributes.limit)) }
-        ensures gone { map.get self.now.bare.ports port ≡ None → result ≡ false }
+    #[inline(always)]
+    pub fn has_room(&self, found: Found) -> bool
+        ensures live { (p : PortView M) → map.get self.now.bare.ports found.port ≡ Some p → (IsTrue result ↔ (length p.queue < p.attributes.limit)) }
+        ensures gone { map.get self.now.bare.ports found.port ≡ None → result ≡ false }
     {
-        match key_of(&self.by_id, port) {
-            Some(key) => {
-                let record = &self.records[key];
-                record.queue.len() < record.kept.limit() as usize
-            }
+        match record_near(&self.records, &self.by_id, found) {
+            Some(record) => { record.queue.len() < record.kept.limit() as usize }
             None => false,
         }
     }

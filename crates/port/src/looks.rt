@@ -3,7 +3,8 @@ ghost use Rattle.std.specs.Prelude.{◌≡◌, [], true, Some, None, is_some, le
 ghost use Rattle.std.specs.Option.{option_and_then};
 ghost use Rattle.std.specs.FinMap as map;
 
-use crate::{Message, Ports, key_of};
+use crate::found::record_near;
+use crate::{Found, Message, Ports, key_of};
 use mach_types::PortId;
 use std::collections::LinkedList;
 
@@ -38,26 +39,24 @@ impl<M: Message> Ports<M> {
     /// The message at the front of a port's queue, and the sequence number that it is received with, if the
     /// port is there and has one. Constant time.
     #[inline(always)]
-    pub fn numbered_front(&self, port: PortId) -> Option<(&M, u32)>
-        ensures some { IfSome result (λ front. IsNumberedFront self.now.bare port front.0.now front.1) }
-        ensures none { IfNone result (NoneQueued self.now.bare port) }
+    pub fn numbered_front(&self, found: Found) -> Option<(&M, u32)>
+        ensures some { IfSome result (λ front. IsNumberedFront self.now.bare found.port front.0.now front.1) }
+        ensures none { IfNone result (NoneQueued self.now.bare found.port) }
     {
-        let key = key_of(&self.by_id, port)?;
-        let record = &self.records[key];
+        let record = record_near(&self.records, &self.by_id, found)?;
         let message = record.queue.front()?;
         Some((message, record.kept.sequence()))
     }
 
     /// Whether a port is in a set, and how many messages it has, if it is there. Constant time.
     #[inline(always)]
-    pub fn standing(&self, port: PortId) -> Option<Standing>
-        ensures some { IfSome result (λ s. (p : PortView M) → map.get self.now.bare.ports port ≡ Some p → (s.is_member ≡ is_some p.attributes.set) × (s.queued ≡ length p.queue)) }
-        ensures none { IfNone result (map.get self.now.bare.ports port ≡ None) }
-        ensures there { IfSome result (λ _. is_some (map.get self.now.bare.ports port) ≡ true) }
-        ensures alone { (p : PortView M) → map.get self.now.bare.ports port ≡ Some p → p.attributes.set ≡ None → p.more ≡ [] }
+    pub fn standing(&self, found: Found) -> Option<Standing>
+        ensures some { IfSome result (λ s. (p : PortView M) → map.get self.now.bare.ports found.port ≡ Some p → (s.is_member ≡ is_some p.attributes.set) × (s.queued ≡ length p.queue)) }
+        ensures none { IfNone result (map.get self.now.bare.ports found.port ≡ None) }
+        ensures there { IfSome result (λ _. is_some (map.get self.now.bare.ports found.port) ≡ true) }
+        ensures alone { (p : PortView M) → map.get self.now.bare.ports found.port ≡ Some p → p.attributes.set ≡ None → p.more ≡ [] }
     {
-        let key = key_of(&self.by_id, port)?;
-        let record = &self.records[key];
+        let record = record_near(&self.records, &self.by_id, found)?;
         Some(Standing {
             is_member: record.kept.is_member(),
             queued: record.queue.len(),

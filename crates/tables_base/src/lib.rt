@@ -14,4 +14,4 @@ pub use envelope::Envelope;
 pub use message::{BodyRights, Carried, CarriedRights, Mark, Message};
 pub use notice::Notice;
 pub use queued::{Queued, Slot};
-pub use task_names::TaskNames;
+pub use task_names::{Placed, TaskNames};

@@ -9,7 +9,7 @@ ghost use Rattle.tables_base.specs.Reading.{live_in, read_space, reading};
 use crate::Queued;
 use mach_types::{Name, PortId};
 use name_space::{Entry, Space};
-use port::Ports;
+use port::{NOWHERE, Ports};
 use std::alloc::{AllocError, Global};
 use std::marker::Model;
 use user_refs::UserRefs;
@@ -47,13 +47,34 @@ fn dead_name(kept: Entry) -> Entry
     }
 }
 
+/// What is under a name.
+#[derive(Clone, Copy)]
+pub struct Placed {
+    /// What is there.
+    pub entry: Entry,
+    /// The place of its port's record, if it is a right for a port ([`port::Found`]).
+    pub place: usize,
+}
+
 // What stands under a name that keeps this.
-fn read(ports: &Ports<Queued>, kept: Entry) -> Entry
-    ensures { result ≡ reading (live_in ports.now.bare) kept }
+fn read(ports: &Ports<Queued>, kept: Entry) -> Placed
+    ensures { result.entry ≡ reading (live_in ports.now.bare) kept }
 {
-    match kept.right_port() {
-        Some(port) if !ports.contains(port) => dead_name(kept),
-        _ => kept,
+    let Some(port) = kept.right_port() else {
+        return Placed {
+            entry: kept,
+            place: NOWHERE,
+        };
+    };
+    match ports.find(port) {
+        Some(found) => Placed {
+            entry: kept,
+            place: found.place,
+        },
+        None => Placed {
+            entry: dead_name(kept),
+            place: NOWHERE,
+        },
     }
 }
 
@@ -91,6 +112,16 @@ impl<'a> TaskNames<'a> {
     #[inline(always)]
     pub fn lookup(&self, name: Name) -> Option<Entry>
         ensures { result ≡ map.get self.now.names name }
+    {
+        let placed = self.find(name)?;
+        Some(placed.entry)
+    }
+
+    /// What is under the name, if anything is, with the place of its port's record. As [`TaskNames::lookup`].
+    #[inline(always)]
+    pub fn find(&self, name: Name) -> Option<Placed>
+        ensures some { IfSome result (λ placed. map.get self.now.names name ≡ Some placed.entry) }
+        ensures none { IfNone result (map.get self.now.names name ≡ None) }
     {
         let kept = self.kept.lookup(name)?;
         Some(read(self.ports, kept))

@@ -13,24 +13,24 @@ pub judge_bare-requires-clause-few : goal.judge_bare-requires-clause-few
 judge_bare-requires-clause-few c =
     let b = c.requires.bare in
     let size = b.2.size in
-    let same = ap (λ (k : Kept). length k.bytes) (same_front c.args.world.now c.args.port c.requires.waits b.0 b.1) in
+    let same = ap (λ (k : Kept). length k.bytes) (same_front c.args.world.now c.args.found.port c.requires.waits b.0 b.1) in
     let few = c.requires.waits.few in
     omega (arith, size, same, few)
 
 pub take_bare-requires-clause-ready : goal.take_bare-requires-clause-ready
 take_bare-requires-clause-ready c =
     let b = c.requires.bare in
-    let may : MayReceive c.args.world.now c.args.task c.args.port c.args.room c.count_own.result =
+    let may : MayReceive c.args.world.now c.args.task c.args.found.port c.args.room c.count_own.result =
     record { front = b.0; waits = b.1; may = subst (λ (n : ℕ). MayHave c.args.world.now c.args.task b.0 c.args.room n) (sym c.count_own.ensures) (c.in_ok-own.ensures.ok.1 b.0 b.2) } in (
       length b.0.rights,
-      ready_after c.args.world.now c.make_room.new.world c.args.task c.args.port c.args.room (length b.0.rights) c.count_own.result c.requires.waits may c.in-Ok.ensures.ok (omega arith),
+      ready_after c.args.world.now c.make_room.new.world c.args.task c.args.found.port c.args.room (length b.0.rights) c.count_own.result c.requires.waits may c.in-Ok.ensures.ok (omega arith),
     )
 
 pub take_bare-requires-clause-bare : goal.take_bare-requires-clause-bare
 take_bare-requires-clause-bare c =
     let b = c.requires.bare in
     λ now f. subst (λ (k : Kept). IsBare k c.args.bare.now)
-    (front_after c.args.world.now c.make_room.new.world c.args.task c.args.port c.count_own.result b.0 now b.1 c.in-Ok.ensures.ok f) b.2
+    (front_after c.args.world.now c.make_room.new.world c.args.task c.args.found.port c.count_own.result b.0 now b.1 c.in-Ok.ensures.ok f) b.2
 
 pub take_bare-requires-clause-own : goal.take_bare-requires-clause-own
 take_bare-requires-clause-own c =
@@ -38,7 +38,7 @@ take_bare-requires-clause-own c =
 
 pub take_bare-requires-clause-numbered : goal.take_bare-requires-clause-numbered
 take_bare-requires-clause-numbered c =
-    roomier_number c.args.world.now c.make_room.new.world c.args.task c.count_own.result c.args.port c.args.bare.now.sequence c.in-Ok.ensures.ok c.requires.numbered
+    roomier_number c.args.world.now c.make_room.new.world c.args.task c.count_own.result c.args.found.port c.args.bare.now.sequence c.in-Ok.ensures.ok c.requires.numbered
 
 pub returns-in-Ok-clause-ok : goal.returns-in-Ok-clause-ok
 returns-in-Ok-clause-ok c =
@@ -47,17 +47,17 @@ returns-in-Ok-clause-ok c =
     let r = c.in-Ok.ensures.ok in
     let x = c.take_bare.ensures in
     let t = x.1 in
-    let front = judged_front c.args.world.now c.make_room.new.world c.args.task c.args.port c.count_own.result b.0 b.1 r t.mid t.takes in
+    let front = judged_front c.args.world.now c.make_room.new.world c.args.task c.args.found.port c.count_own.result b.0 b.1 r t.mid t.takes in
     (c.count_own.result, c.make_room.new.world, x.0, r, t, subst (λ (k : Kept). length k.bytes ≤ min c.args.room most_bytes) front may.fits, x.2)
 
 pub returns-in-Ok-clause-kept : goal.returns-in-Ok-clause-kept
 returns-in-Ok-clause-kept c =
     let b = c.requires.bare in
     let x = c.take_bare.ensures in
-    let may : MayReceive c.args.world.now c.args.task c.args.port c.args.room c.count_own.result =
+    let may : MayReceive c.args.world.now c.args.task c.args.found.port c.args.room c.count_own.result =
     record { front = b.0; waits = b.1; may = subst (λ (n : ℕ). MayHave c.args.world.now c.args.task b.0 c.args.room n) (sym c.count_own.ensures) (c.in_ok-own.ensures.ok.1 b.0 b.2) } in
-    note_returns c.args.world.now x.0 c.take_bare.new.world c.args.port x.1.takes.front
-    (returns_slot c.args.world.now c.make_room.new.world x.0 c.args.task c.args.port c.args.room c.count_own.result c.args.local c.take_bare.result may c.in-Ok.ensures.ok x.1)
+    note_returns c.args.world.now x.0 c.take_bare.new.world c.args.found.port x.1.takes.front
+    (returns_slot c.args.world.now c.make_room.new.world x.0 c.args.task c.args.found.port c.args.room c.count_own.result c.args.local c.take_bare.result may c.in-Ok.ensures.ok x.1)
     x.2
 
 pub returns-in-Err-clause-err : goal.returns-in-Err-clause-err
@@ -69,6 +69,6 @@ returns-in-Err-clause-err c =
 pub returns-in-Err-clause-wanted : goal.returns-in-Err-clause-wanted
 returns-in-Err-clause-wanted c =
     let b = c.requires.bare in
-    let may : MayReceive c.args.world.now c.args.task c.args.port c.args.room c.count_own.result =
+    let may : MayReceive c.args.world.now c.args.task c.args.found.port c.args.room c.count_own.result =
     record { front = b.0; waits = b.1; may = subst (λ (n : ℕ). MayHave c.args.world.now c.args.task b.0 c.args.room n) (sym c.count_own.ensures) (c.in_ok-own.ensures.ok.1 b.0 b.2) } in
-    λ is. wants_room c.args.world.now c.args.task c.args.port c.args.room c.count_own.result may c.in-Err.ensures.lacks
+    λ is. wants_room c.args.world.now c.args.task c.args.found.port c.args.room c.count_own.result may c.in-Err.ensures.lacks

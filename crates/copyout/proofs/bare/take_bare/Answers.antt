@@ -22,10 +22,10 @@ give_only-name-requires-clause-can c =
     let b = c.requires.bare t.0.front (record { v = t.0.v; there = t.0.there; behind = t.0.behind; queue = t.0.queue }) in
     let mid = c.take_front.new.world in
     let ready = c.requires.ready in
-    subst (λ (cs : List Carried). CanGive mid c.args.task cs) (carries_right t.0.front c.args.bare.now b) (can_deliver c.args.world.now mid c.args.task c.args.port ready.0 ready.1 t.0)
+    subst (λ (cs : List Carried). CanGive mid c.args.task cs) (carries_right t.0.front c.args.bare.now b) (can_deliver c.args.world.now mid c.args.task c.args.found.port ready.0 ready.1 t.0)
 
 pub give_only-name-requires-clause-own : goal.give_only-name-requires-clause-own
-give_only-name-requires-clause-own c = let t = c.take_front.ensures in taken_own c.args.world.now c.take_front.new.world c.args.task c.args.port c.args.bare.now.right c.args.own t.0 c.requires.own
+give_only-name-requires-clause-own c = let t = c.take_front.ensures in taken_own c.args.world.now c.take_front.new.world c.args.task c.args.found.port c.args.bare.now.right c.args.own t.0 c.requires.own
 
 pub spell_only-requires-clause-bare : goal.spell_only-requires-clause-bare
 spell_only-requires-clause-bare c =
@@ -42,8 +42,8 @@ returns c =
     let new = c.note_front.new.world in
     let is : m ≡ t.0.front = c.into_sent-message.ensures ∙ t.1 in
     let g = c.give_only-name.ensures in
-    takes_message c.args.world.now mid taken new c.args.task c.args.port c.args.local c.args.bare.now.sequence m c.spell_only.result t.0
+    takes_message c.args.world.now mid taken new c.args.task c.args.found.port c.args.local c.args.bare.now.sequence m c.spell_only.result t.0
     (subst (λ (k : Kept). IsMessageOf k m) is refl)
     (sym (c.requires.numbered t.0.v t.0.there))
     (c.spell_only.ensures mid taken c.args.task g.0 g.1 g.2)
-    (subst (λ (b : Bool). MatchBool b (new ≡ taken) (NotesSenderless taken c.args.port new)) (c.by_once.ensures ∙ ap (λ (k : Kept). k.by_once) is) c.note_front.ensures)
+    (subst (λ (b : Bool). MatchBool b (new ≡ taken) (NotesSenderless taken c.args.found.port new)) (c.by_once.ensures ∙ ap (λ (k : Kept). k.by_once) is) c.note_front.ensures)

@@ -16,7 +16,7 @@ into_sent-message-requires c =
     let t = c.take_front.ensures in
     let p = c.requires.plain in
     let is : IsPlain c.take_front.result =
-    subst IsPlain (same_front_as c.args.world.now c.args.port p.0 t.0.front p.1 (record { v = t.0.v; there = t.0.there; behind = t.0.behind; queue = t.0.queue }) ∙ sym t.1) p.2 in
+    subst IsPlain (same_front_as c.args.world.now c.args.found.port p.0 t.0.front p.1 (record { v = t.0.v; there = t.0.there; behind = t.0.behind; queue = t.0.queue }) ∙ sym t.1) p.2 in
     is.sent
 
 pub returns : goal.returns
@@ -27,10 +27,10 @@ returns c =
     let is : m ≡ t.0.front = c.into_sent-message.ensures ∙ t.1 in
     let p = c.requires.plain in
     let plain : IsPlain m =
-    subst IsPlain (same_front_as c.args.world.now c.args.port p.0 t.0.front p.1 (record { v = t.0.v; there = t.0.there; behind = t.0.behind; queue = t.0.queue }) ∙ sym is) p.2 in
-    λ task. takes_message c.args.world.now mid mid c.note_front.new.world task c.args.port c.args.local c.args.sequence m c.spell_bare.result t.0
+    subst IsPlain (same_front_as c.args.world.now c.args.found.port p.0 t.0.front p.1 (record { v = t.0.v; there = t.0.there; behind = t.0.behind; queue = t.0.queue }) ∙ sym is) p.2 in
+    λ task. takes_message c.args.world.now mid mid c.note_front.new.world task c.args.found.port c.args.local c.args.sequence m c.spell_bare.result t.0
     (subst (λ (k : Kept). IsMessageOf k m) is refl)
     (sym (c.requires.numbered t.0.v t.0.there))
     (c.spell_bare.ensures mid mid task [] (subst (λ (o : Option Carried). GivesAll mid task (option_to_list o) [] mid) (sym plain.no_reply) refl)
     (c.null.ensures ∙ ap (λ (o : Option Carried). reply_word o []) (sym plain.no_reply)))
-    (subst (λ (b : Bool). MatchBool b (c.note_front.new.world ≡ mid) (NotesSenderless mid c.args.port c.note_front.new.world)) (c.by_once.ensures ∙ ap (λ (k : Kept). k.by_once) is) c.note_front.ensures)
+    (subst (λ (b : Bool). MatchBool b (c.note_front.new.world ≡ mid) (NotesSenderless mid c.args.found.port c.note_front.new.world)) (c.by_once.ensures ∙ ap (λ (k : Kept). k.by_once) is) c.note_front.ensures)

@@ -17,21 +17,21 @@ pub receive_front-requires-clause-waits : goal.receive_front-requires-clause-wai
 receive_front-requires-clause-waits c = ap (λ o. is_some (option_and_then front_of o)) c.requires.there ∙ ap (λ (l : List Kept). is_some (slice_get l 0)) c.requires.queue
 
 pub receive_front-requires-clause-entered : goal.receive_front-requires-clause-entered
-receive_front-requires-clause-entered c = c.requires.entered c.args.port (ap is_some c.requires.there)
+receive_front-requires-clause-entered c = c.requires.entered c.args.found.port (ap is_some c.requires.there)
 
 pub receive_front-requires-clause-counted : goal.receive_front-requires-clause-counted
 receive_front-requires-clause-counted c = λ m is.
     let r = c.requires in
     let w : WorldView = c.args.world.now in
-    let same : m ≡ r.front = is_front w.ports c.args.port r.v r.front m r.behind r.there r.queue (sym is) in
-    subst (λ (x : Kept). 0 < number_of (destination_right x) (counts_of w.ledger c.args.port)) (sym same) r.destination
+    let same : m ≡ r.front = is_front w.ports c.args.found.port r.v r.front m r.behind r.there r.queue (sym is) in
+    subst (λ (x : Kept). 0 < number_of (destination_right x) (counts_of w.ledger c.args.found.port)) (sym same) r.destination
 
 pub returns : goal.returns
 returns c =
     let r = c.requires in
     let w : WorldView = c.args.world.now in
-    let found : c.receive_front.result ≡ r.front = is_front w.ports c.args.port r.v r.front c.receive_front.result r.behind r.there r.queue c.receive_front.ensures.front in
-    let after : List Kept → PortsView Kept = λ l. record (with_port w.ports c.args.port (record r.v { queue = l; attributes = record r.v.attributes { sequence = (r.v.attributes.sequence + 1) % 2 ^ 32 } })) { spare = w.ports.spare + 1 } in (
+    let found : c.receive_front.result ≡ r.front = is_front w.ports c.args.found.port r.v r.front c.receive_front.result r.behind r.there r.queue c.receive_front.ensures.front in
+    let after : List Kept → PortsView Kept = λ l. record (with_port w.ports c.args.found.port (record r.v { queue = l; attributes = record r.v.attributes { sequence = (r.v.attributes.sequence + 1) % 2 ^ 32 } })) { spare = w.ports.spare + 1 } in (
       record {
         v = r.v;
         there = r.there;
@@ -39,8 +39,8 @@ returns c =
         behind = r.behind;
         queue = r.queue;
         rest = c.receive_front.ensures.taken r.v r.there
-            ∙ ap (λ (l : List Kept). record w { ports = after (drop 1 l); ledger = taken w.ledger c.args.port (destination_right c.receive_front.result) 1 }) r.queue
-            ∙ ap (λ (m : Kept). record w { ports = after r.behind; ledger = taken w.ledger c.args.port (destination_right m) 1 }) found;
+            ∙ ap (λ (l : List Kept). record w { ports = after (drop 1 l); ledger = taken w.ledger c.args.found.port (destination_right c.receive_front.result) 1 }) r.queue
+            ∙ ap (λ (m : Kept). record w { ports = after r.behind; ledger = taken w.ledger c.args.found.port (destination_right m) 1 }) found;
       },
       found,
     )

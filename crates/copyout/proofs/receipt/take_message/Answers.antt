@@ -17,13 +17,13 @@ deliver-bytes-requires-clause-can c =
     let t = c.take_front-queued.ensures in
     let is : IsMessageOf t.0.front c.into_message.result = subst (λ (k : Kept). IsMessageOf k c.into_message.result) t.1 c.into_message.ensures in
     subst (λ (m : Kept). CanGive c.take_front-queued.new.world c.args.task (carried_by m)) (sym is)
-    (can_deliver c.args.world.now c.take_front-queued.new.world c.args.task c.args.port (c.args.prepared.names.capacity) c.requires.ready t.0)
+    (can_deliver c.args.world.now c.take_front-queued.new.world c.args.task c.args.found.port (c.args.prepared.names.capacity) c.requires.ready t.0)
 
 pub returns : goal.returns
 returns c =
     let t = c.take_front-queued.ensures in
     let is : IsMessageOf t.0.front c.into_message.result = subst (λ (k : Kept). IsMessageOf k c.into_message.result) t.1 c.into_message.ensures in
     let once = c.by_once-by_once.ensures ∙ ap (λ (k : Kept). k.by_once) t.1 in
-    takes_message c.args.world.now c.take_front-queued.new.world c.deliver-bytes.new.world c.note_front.new.world c.args.task c.args.port c.args.local c.args.prepared.sequence
+    takes_message c.args.world.now c.take_front-queued.new.world c.deliver-bytes.new.world c.note_front.new.world c.args.task c.args.found.port c.args.local c.args.prepared.sequence
     c.into_message.result c.deliver-bytes.result t.0 is (sym (c.requires.numbered t.0.v t.0.there)) c.deliver-bytes.ensures
-    (subst (λ (b : Bool). MatchBool b (c.note_front.new.world ≡ c.deliver-bytes.new.world) (NotesSenderless c.deliver-bytes.new.world c.args.port c.note_front.new.world)) once c.note_front.ensures)
+    (subst (λ (b : Bool). MatchBool b (c.note_front.new.world ≡ c.deliver-bytes.new.world) (NotesSenderless c.deliver-bytes.new.world c.args.found.port c.note_front.new.world)) once c.note_front.ensures)

@@ -3,13 +3,14 @@ use Rattle.std.specs.FinMap as map
 use Rattle.port_base.specs.declared.Record.{Record}
 use Rattle.port_base.specs.Attributes.{held_by}
 use Rattle.port_base.specs.Ready.{StandsIn, IsMoved, out_of, at_end}
-use Rattle.port_base.specs.Records.{waits_in, waiting_list}
+use Rattle.port_base.specs.declared.Holder.TheVariants as Holder
+use Rattle.port_base.specs.Records.{waits_in, waiting_list, doomed_list}
 use Rattle.port.specs.Ports.{PortView}
 use Rattle.port.specs.Holding.{held}
 use Rattle.port.proofs.Changed.{change, still, kept-held, view-held}
 use Rattle.port.proofs.Held.{lost-apart, doomed-apart}
 use Rattle.port.proofs.Sound.{bare_is, opened, record_at, live_at, is_port, counts_is, rights-set}
-use Rattle.port.proofs.Waiting.{waits_in_two}
+use Rattle.port.proofs.Waiting.{waits_in_two, waits_doomed, doomed_now, held_told}
 use Rattle.port.proofs.Ports.set_holder.Goals as goal
 
 pub key_at-key-requires : goal.key_at-key-requires
@@ -71,7 +72,9 @@ returns-clause-doomed g c p h not =
     let found : map.get c.self.inside.by_id.map c.args.port ≡ Some c.key_at-key.result = c.key_at-key.ensures in
     let there = record_at o c.args.port c.key_at-key.result found in
     let r : Record g.row.M.Denot = there.0 in
-    doomed-apart o c.args.port c.key_at-key.result r found there.1 (λ e. not (ap (λ (q : PortView g.row.M.Denot). q.attributes.holder) (is_port o c.args.port c.key_at-key.result r found there.1 p h) ∙ e))
+    doomed-apart o c.args.port c.key_at-key.result r found there.1 (λ e.
+    let is : p.attributes.holder ≡ Holder.Doomed = ap (λ (q : PortView g.row.M.Denot). q.attributes.holder) (is_port o c.args.port c.key_at-key.result r found there.1 p h) ∙ e in
+    not is ((held_told o Holder.Doomed doomed_list refl waits_doomed c.args.self.now.bare.doomed (doomed_now o) c.args.port).1 (record { view = p; there = h; holder_is = is })))
 
 pub returns-clause-counts : goal.returns-clause-counts
 returns-clause-counts g c =

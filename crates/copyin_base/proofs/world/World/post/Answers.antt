@@ -17,14 +17,14 @@ shift-requires c =
     some_unused i.ports.counts i.ledger.total i.ledger.unused c.self.invariant.1 c.args.port (once_entered i.ports.counts c.args.port paid) paid
 
 pub enqueue_counted-requires-clause-some : goal.enqueue_counted-requires-clause-some
-enqueue_counted-requires-clause-some c once = let i = c.self.inside in subst (λ (k : Counts). 0 < k.send_once) (sym (own_is c.args.self.now i.spaces.items i.ports i.ledger i.sets i.requests c.self.view_is c.args.port)) c.requires.paid
+enqueue_counted-requires-clause-some c once = rw c.of.ensures (let i = c.self.inside in subst (λ (k : Counts). 0 < k.send_once) (sym (own_is c.args.self.now i.spaces.items i.ports i.ledger i.sets i.requests c.self.view_is c.args.port)) c.requires.paid)
 
 pub enqueue_counted-requires-clause-fits : goal.enqueue_counted-requires-clause-fits
 enqueue_counted-requires-clause-fits c =
     let i = c.self.inside in
     let paid = subst (λ (k : Counts). 0 < k.send_once) (sym (own_is c.args.self.now i.spaces.items i.ports i.ledger i.sets i.requests c.self.view_is c.args.port)) c.requires.paid in
     let within = own_within i.ports.counts i.ledger.total i.ledger.unused c.self.invariant.1 c.args.port (once_entered i.ports.counts c.args.port paid) in
-    omega (arith, within.0, c.self.ranges)
+    rw c.of.ensures (omega (arith, within.0, c.self.ranges))
 
 pub invariant_of-self : goal.invariant_of-self
 invariant_of-self c =
@@ -33,8 +33,8 @@ invariant_of-self c =
     let paid = subst (λ (k : Counts). 0 < k.send_once) (sym (own_is c.args.self.now i.spaces.items i.ports i.ledger i.sets i.requests c.self.view_is c.args.port)) c.requires.paid in
     let shifted = counted-shifted i.ports.counts i.ledger.total i.ledger.unused c.self.invariant.1 c.args.port (once_entered i.ports.counts c.args.port paid) paid in (
       posted_given c.args.self.now i.spaces.items i.ports.bare (ledger_of i.ports.counts i.ledger) i.sets i.requests c.self.view_is c.args.port found.0 (notice_kept c.args.notice) c.enqueue_counted.new.self.bare found.1
-          (subst (λ (m : Kept). map.get i.ports.bare.ports c.args.port ≡ Some found.0 → c.enqueue_counted.new.self.bare ≡ with_message i.ports.bare c.args.port found.0 m) c.told.ensures.value (c.enqueue_counted.ensures.after found.0)) c.self.invariant.0,
-      sums_are c.enqueue_counted.ensures.counts c.shift.ensures shifted,
+          (subst (λ (m : Kept). map.get i.ports.bare.ports c.args.port ≡ Some found.0 → c.enqueue_counted.new.self.bare ≡ with_message i.ports.bare c.args.port found.0 m) c.told.ensures.value ((rw c.of.ensures at c.enqueue_counted.ensures.after) found.0)) c.self.invariant.0,
+      sums_are (rw c.of.ensures at c.enqueue_counted.ensures.counts) c.shift.ensures shifted,
     )
 
 pub enqueue_counted-requires-clause-spare : goal.enqueue_counted-requires-clause-spare
@@ -57,8 +57,8 @@ returns-clause-posts c =
       counted = some;
       spare = let slots = c.requires.slots in omega (arith, some, slots);
       rest = posted_written c.args.self.now i.spaces.items i.ports.bare (ledger_of i.ports.counts i.ledger) i.sets i.requests c.self.view_is c.args.port found.0 (notice_kept c.args.notice) c.enqueue_counted.new.self.bare found.1
-          (subst (λ (m : Kept). map.get i.ports.bare.ports c.args.port ≡ Some found.0 → c.enqueue_counted.new.self.bare ≡ with_message i.ports.bare c.args.port found.0 m) c.told.ensures.value (c.enqueue_counted.ensures.after found.0))
-          (ledger_of c.enqueue_counted.new.self.counts c.shift.new.self) (ledgers_are c.enqueue_counted.ensures.counts c.shift.ensures);
+          (subst (λ (m : Kept). map.get i.ports.bare.ports c.args.port ≡ Some found.0 → c.enqueue_counted.new.self.bare ≡ with_message i.ports.bare c.args.port found.0 m) c.told.ensures.value ((rw c.of.ensures at c.enqueue_counted.ensures.after) found.0))
+          (ledger_of c.enqueue_counted.new.self.counts c.shift.new.self) (ledgers_are (rw c.of.ensures at c.enqueue_counted.ensures.counts) c.shift.ensures);
     }
 
 pub returns-clause-slots : goal.returns-clause-slots

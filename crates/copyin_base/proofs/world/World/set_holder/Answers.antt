@@ -8,9 +8,8 @@ use Rattle.copyin_base.proofs.Recounted.{ledger_of, still_counted}
 use Rattle.copyin_base.proofs.world.World.set_holder.Goals as goal
 
 pub hold-requires-clause-stays : goal.hold-requires-clause-stays
-hold-requires-clause-stays c = λ v at is.
-    none_listed c.self.inside.ports.bare.doomed (ap (λ (w : WorldView). w.ports.doomed) c.self.view_is ∙ c.requires.none_lost.doomed) c.args.port
-    ((c.first_doomed.ensures.all c.args.port).1 (record { view = v; there = at; holder_is = is }))
+hold-requires-clause-stays c = λ v at _ has.
+    none_listed c.self.inside.ports.bare.doomed (ap (λ (w : WorldView). w.ports.doomed) c.self.view_is ∙ c.requires.none_lost.doomed) c.args.port has
 
 pub invariant_of-self : goal.invariant_of-self
 invariant_of-self c =
