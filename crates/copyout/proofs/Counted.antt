@@ -1,5 +1,5 @@
 -- A right that comes to a task: the tables before its fresh name is counted, and what the count leaves.
-use Rattle.std.proofs.Common.{◌≡◌, ℕ, Option, Some, None, true, false, refl, sym, ap, subst, ◌∙◌, inl, inr}
+use Rattle.std.proofs.Common.{◌≡◌, ℕ, Some, None, true, false, refl, sym, ap, subst, ◌∙◌, inl, inr}
 use Rattle.std.specs.Prelude.{is_some}
 use Rattle.mach_types.specs.Tokens.{Kind}
 use Rattle.name_space.specs.Names.{Names, SpaceView, given_after}

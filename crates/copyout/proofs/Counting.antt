@@ -27,7 +27,7 @@ use Rattle.copyin_base.specs.Kept.{Kept}
 use Rattle.copyin_base.proofs.FreshNames.{fresh_unused}
 use Rattle.copyin_base.proofs.Gets.{same_found, get-set_same, get-set_other, length-set}
 use Rattle.copyin_base.proofs.Spaces.{space-set_same}
-use Rattle.copyout.specs.Giving.{free_names, free_room, joined, alone, JoinsName, TakesName, GivesPort, ledger_joined, ports_given, GivesMark, GivesAll, MarkLacks, Lack}
+use Rattle.copyout.specs.Giving.{free_names, free_room, joined, alone, JoinsName, TakesName, GivesPort, ledger_joined, ports_given, GivesMark, MarkLacks, Lack}
 use Rattle.copyout.specs.Room.{names_port, named_by, IsThere, IsNamed, HasNone, Owns, Shares, Needs, IsMarked, Marks, OwnsAlone}
 use Rattle.copyout.proofs.Gives.{joined_port, alone_port}
 use Rattle.copyout.proofs.PortsGiven.{given_live, kind_cases}
@@ -395,19 +395,6 @@ module _ (left : SpaceView → ℕ) (is_left : IsLeft left) (ports0 : PortsView 
       | inl lack ↦ shared_suffices left is_left ports0 names0 task earlier c w n l f s.0 lack
       | inr r ↦ enough (earlier ++ c ∷ []) cs r.0 n l k (after_shared left is_left ports0 names0 task earlier c w n l f r.0 r.1.0 s.0 r.1.1) s.1 few r.2
     ]
-  ]
-
-  -- So many are left once they were given.
-  pub left_then : (earlier carried : List Carried) (w : WorldView) (n l k : ℕ) → Follows left ports0 names0 task earlier w n l → Needs ports0 names0 earlier carried k →
-      (words : List ℕ) (new : WorldView) → GivesAll w task carried words new → (space : SpaceView) × (space_at new task ≡ Some space) × (left space ≡ l - k)
-  left_then earlier [] w n l k f needs [] new same = (f.space, ap (λ (x : WorldView). space_at x task) same ∙ f.there, (let e : k ≡ 0 = needs in let s = f.left_is in omega arith))
-  left_then earlier [] w n l k f needs (word ∷ words) new h = absurd h
-  left_then earlier (c ∷ cs) w n l k f needs [] new h = absurd h
-  left_then earlier (c ∷ cs) w n l k f needs (word ∷ words) new h = elim needs [
-    | inl o ↦
-        let x = left_then (earlier ++ c ∷ []) cs h.0 (n + 1) (l - 1) o.1.0 (after_own left is_left ports0 names0 task earlier c w n l f h.0 word o.0 h.1) o.1.2 words new h.2 in
-        (x.0, x.1, (let y = x.2 in let e = o.1.1 in omega (arith, y, e)))
-    | inr s ↦ left_then (earlier ++ c ∷ []) cs h.0 n l k (after_shared left is_left ports0 names0 task earlier c w n l f h.0 word s.0 h.1) s.1 words new h.2
   ]
 
 pub starts : (left : SpaceView → ℕ) (ports0 : PortsView Kept) (w : WorldView) (task : ℕ) (space : SpaceView) → space_at w task ≡ Some space → ((p : ℕ) → is_some (map.get w.ports.ports p) ≡ is_some (map.get ports0.ports p)) →

@@ -36,7 +36,8 @@ use Rattle.copyout.specs.Room.{Needs, OwnsAlone, Shares}
 use Rattle.copyout.specs.declared.receipt.Refusal.{Refusal}
 use Rattle.copyout.specs.declared.receipt.Refusal.TheVariants as refused
 use Rattle.copyout.specs.Wanted.{ReturnsSlot, WantsToReceive}
-use Rattle.copyout.proofs.Rooms.{judged_front, room_for_none, front_live, front_there}
+use Rattle.copyout.proofs.Fronts.{note_returns}
+use Rattle.copyout.proofs.Rooms.{judged_front, returns_slot, room_for_none, front_live, front_there}
 use Rattle.copyout.specs.declared.bare.Bare.{Bare}
 use Rattle.copyout.specs.Bare.{IsBare, OwnsFor, TellsOwn, lone_right, own_names}
 use Rattle.copyout.proofs.Counting.{needs_alone}
@@ -147,10 +148,12 @@ module _ (w : WorldView) (task port room local : ℕ) (is_task : HasTask w task)
         waits = f;
         may = record {
           fits = fits;
-          space = s.0;
-          there = s.1;
-          needs = subst (λ (xs : List Carried). Needs w.ports s.0.names [] xs 0) (sym (carries_none m p)) refl;
-          names = omega arith;
+          has = record {
+            space = s.0;
+            there = s.1;
+            suffice = inl (subst (λ (xs : List Carried). Needs w.ports s.0.names [] xs 0) (sym (carries_none m p)) refl);
+            names = omega arith;
+          };
         };
       }
 
@@ -162,8 +165,8 @@ module _ (w : WorldView) (task port room local : ℕ) (is_task : HasTask w task)
       let front = judged_front w w task port 0 m f room_is x.1.mid x.1.takes in
       (0, w, x.0, room_is, x.1, subst (λ (k : Kept). length k.bytes ≤ min room most_bytes) front fits, x.2)
 
-  pub returned : (bytes : List ℕ) (new : WorldView) → length m.bytes ≤ min room most_bytes → Receives bytes new → ReturnsSlot w new
-  returned bytes new fits all = grind (arith, all task)
+  pub returned : (bytes : List ℕ) (new : WorldView) → length m.bytes ≤ min room most_bytes → Receives bytes new → ReturnsSlot w task port new
+  returned bytes new fits all = let x = all task in note_returns w x.0 new task port x.1.takes.front (returns_slot w w x.0 task port room 0 local bytes (may fits) room_is x.1) x.2
 
   pub refused_large : (size : ℕ) (refusal : Refusal) → size ≡ length m.bytes → refusal ≡ refused.TooLarge size → min room most_bytes < size → IsRefusedBy w task m room refusal
   refused_large size refusal long is above = subst (IsRefusedBy w task m room) (sym is) (long, subst (λ (n : ℕ). min room most_bytes < n) long above)

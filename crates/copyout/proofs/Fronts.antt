@@ -315,8 +315,8 @@ module _ (w : WorldView) (s : State) (sh : Shows w s) (p : ℕ) (mid : WorldView
     front_notes = grind (arith, by_once, by_send)
 
 -- The note takes no room, and no slot.
-pub note_returns : (w taken new : WorldView) (port : ℕ) (front : Kept) → ReturnsSlot w taken → NotesFront taken port front new → ReturnsSlot w new
-note_returns w taken new port front r = grind (arith, by_note)
+pub note_returns : (w taken new : WorldView) (task port : ℕ) (front : Kept) → ReturnsSlot w task port taken → NotesFront taken port front new → ReturnsSlot w task port new
+note_returns w taken new task port front r = grind (arith, by_note)
 
 -- As many send rights were there before room was made.
 pub notes_roomier : (w start new : WorldView) → SameButRoom w start → NotesSenders start new → NotesSenders w new

@@ -17,11 +17,9 @@ use Rattle.copyin_base.specs.Changes.{AddsSend, IsForLive, CanPutLeft, PutsLeft,
 use Rattle.copyin_base.proofs.FreshNames.{fresh_unused, fresh_has_room, can_count}
 use Rattle.copyin_base.proofs.Entering.{for_one}
 use Rattle.copyin_base.proofs.Gets.{same_found}
-use Rattle.copyin_base.proofs.Spaces.{space-set_same, set-set}
 use Rattle.tables_base.proofs.Reading.{named_port}
 use Rattle.copyin_base.specs.Kept.{Kept}
 use Rattle.copyin_base.proofs.Requested.{KeepsRight, keeps_same, requested_kept, entry_own, entry_other}
-use Rattle.copyin_base.proofs.Written.{tables}
 use Rattle.copyout.specs.Giving.{joined, alone, ledger_joined, ports_given, GivesPort}
 use Rattle.copyout.specs.Putting.{PutsPort, CanPut}
 use Rattle.copyout.proofs.PortsGiven.{SameLists, lists_none_lost, given_live, given_lists}

@@ -1,8 +1,10 @@
 -- Room is made for names, or lacks.
-use Rattle.std.proofs.Common.{◌≡◌, ◌-◌, ℕ, ◌<◌, ◌≤◌, List, [], ◌∷◌, Option, Some, None, refl, sym, ap, subst, ◌∙◌, arith, true, false, Bool, inl, inr, ◌+◌, zero, suc, length, Result, IfOk, IfErr}
-use Rattle.std.specs.Prelude.{◌≢◌, is_some, MatchBool, if◌then◌else◌, slice_set, is_ok, max, ◌==◌}
+use Rattle.std.proofs.Common.{◌≡◌, ◌-◌, ℕ, ◌<◌, ◌≤◌, List, [], ◌∷◌, Option, Some, None, refl, sym, ap, subst, ◌∙◌, arith, true, false, Bool, inl, inr, ◌+◌, ◌++◌, cond, zero, suc, length, Result, Ok, Err, IfOk, IfErr}
+use Rattle.std.specs.Prelude.{◌≢◌, is_some, MatchBool, if◌then◌else◌, slice_set, is_ok, max, ◌==◌, OnErr}
 use Rattle.std.specs.Option.{option_map, option_and_then}
+use Rattle.std.specs.Cmp.{nat_cmp_total}
 use Rattle.std.specs.FinMap as map
+use Rattle.port.specs.Ports.{PortsView}
 use Rattle.mach_types.specs.Numbers.{kind_sent, dead_word, most_bytes, most_names}
 use Rattle.mach_types.specs.Tokens.{Kind, receive, send, send_once, Place, in_message, Token, count, is_of}
 use Rattle.mach_types.specs.Bodies.{OneFails}
@@ -40,17 +42,17 @@ use Rattle.copyin_base.proofs.Idle.{none_lost_by}
 use Rattle.copyin_base.proofs.Spaces.{space-set_same, space-set_other}
 use Rattle.copyin_base.proofs.Told.{space_there}
 use Rattle.copyin_base.proofs.FreshNames.{is_fresh, fresh_unused}
-use Rattle.copyout.specs.Giving.{joined, alone, ledger_joined, ports_given, GivesPort, GivesMark, free_names, NoneLeft, NeedsOwn, MarkLacks, LackNames, free_room, GivesAll}
-use Rattle.copyout.proofs.Given.{port_given, option_named, same_there}
+use Rattle.copyout.specs.Giving.{joined, alone, ledger_joined, ports_given, GivesPort, GivesMark, free_names, NoneLeft, NeedsOwn, MarkLacks, Lack, LackNames, LackRoom, free_room, GivesAll}
+use Rattle.copyout.proofs.Given.{port_given, option_named}
 use Rattle.copyout.proofs.GivenAll.{AreLying, mark_given, own_mark, later}
-use Rattle.copyout.specs.Room.{Needs}
+use Rattle.copyout.specs.Room.{Needs, Owns, Shares, Suffice, named_by}
 use Rattle.copyout.specs.Takes.{TakesFront, TakesMessage, destination_right}
-use Rattle.copyout.specs.Ready.{CanGive, Waits, HasFront, MayHave, MayReceive, ReadyFor, IsRefusedBy, carried_by, sends_for}
+use Rattle.copyout.specs.Ready.{CanGive, Waits, HasFront, HasNamesFor, MayHave, MayHaveJust, MayReceive, ReadyFor, IsRefusedBy, carried_by, sends_for}
 use Rattle.copyout.specs.declared.receipt.Refusal.{Refusal}
 use Rattle.copyout.specs.declared.receipt.Refusal.TheVariants as refused
-use Rattle.copyout.specs.Wanted.{WantsToReceive, ReturnsSlot}
+use Rattle.copyout.specs.Wanted.{ReturnsSlot}
 use Rattle.copyout.proofs.PortsGiven.{entered-put, sends-taken, given_spare}
-use Rattle.copyout.proofs.Counting.{too_few, enough, left_then, starts, names_are_free, room_is_free}
+use Rattle.copyout.proofs.Counting.{IsLeft, same_port, too_few, enough, starts, names_are_free, room_is_free}
 
 -- ---- A right that the machine may give is given in the tables; so they lack names for the same messages.
 
@@ -273,6 +275,108 @@ all_lack_too task o k (c ∷ cs) w s a l is_task lie (inr h) =
     let next = later task o k c cs s h.1.0 h.0 l is_task lie h.1.1 in
     inr (one.w2, (h.1.0, one.gives), all_lack_too task o k cs one.w2 h.0 one.agrees next.0 next.1 next.2 h.2)
 
+-- ---- So many names as there are rights are enough.
+
+-- Giving one right takes one name at most, and brings none.
+record TakesOne (left : SpaceView → ℕ) (task : ℕ) (space : SpaceView) (mid : WorldView) : Type 0 where
+  after : SpaceView
+  at : space_at mid task ≡ Some after
+  few : left after ≤ left space
+  most : left space ≤ left after + 1
+
+module _ (left : SpaceView → ℕ) (is_left : IsLeft left) (w mid : WorldView) (task : ℕ) (space : SpaceView) (there : space_at w task ≡ Some space) where
+  takes_none : mid ≡ w → TakesOne left task space mid
+  takes_none same = record { after = space; at = ap (λ (x : WorldView). space_at x task) same ∙ there; few = omega arith; most = omega arith }
+
+  takes_port : (kind : Kind) (port word : ℕ) → GivesPort w task kind port word mid → TakesOne left task space mid
+  takes_port kind port word g =
+      let after : SpaceView = record g.space { names = g.after; room = g.room; given = g.counts } in
+      let left_is : left g.space ≡ left space = ap left (same_found (space_at w task) g.space space g.there there) in
+      let at : space_at mid task ≡ Some after = ap (λ (x : WorldView). space_at x task) g.rest ∙ space-set_same w.spaces task after g.space g.there in
+      elim g.given [
+        | inl j ↦
+            let len : map.len g.after ≡ map.len g.space.names = ap map.len j.0.rest ∙ map.len-insert nat_cmp_total g.space.names word (joined kind j.0.entry)
+            ∙ ap (λ b. cond b (map.len g.space.names) (map.len g.space.names + 1)) (ap is_some j.0.found) in
+            let same = is_left.same g.space after len j.2 in
+            record { after = after; at = at; few = omega (arith, same, left_is); most = omega (arith, same, left_is) }
+        | inr t ↦
+            let len : map.len g.after ≡ map.len g.space.names + 1 = ap map.len t.0.rest ∙ map.len-insert nat_cmp_total g.space.names word (alone kind port)
+            ∙ ap (λ b. cond b (map.len g.space.names) (map.len g.space.names + 1)) (ap is_some t.0.unused) in
+            let lower = is_left.lower g.space after len t.2 in
+            record { after = after; at = at; few = omega (arith, lower, left_is); most = omega (arith, lower, left_is) }
+      ]
+
+  takes_mark : (kind : Kind) (one : Mark) (word : ℕ) → GivesMark w task kind one word mid → TakesOne left task space mid
+  takes_mark kind (mark.Port p) word h = go (is_some (map.get w.ports.ports p)) _ h
+    where
+      go : (b : Bool) (dead : ℕ) → MatchBool b (GivesPort w task kind p word mid) ((word ≡ dead) × (mid ≡ w)) → TakesOne left task space mid
+      go true dead g = takes_port kind p word g
+      go false dead g = takes_none g.1
+  takes_mark kind mark.Null word h = takes_none h.1
+  takes_mark kind mark.Dead word h = takes_none h.1
+
+module _ (left : SpaceView → ℕ) (is_left : IsLeft left) (task : ℕ) where
+  one_lacks : (w : WorldView) (space : SpaceView) → space_at w task ≡ Some space → (kind : Kind) (one : Mark) → 0 < left space → MarkLacks left w task kind one → ⊥
+  one_lacks w space there kind (mark.Port p) some h = let none = h.1 in let same = ap left (same_found (space_at w task) none.0 space none.1 there) in let zero = none.2 in omega (arith, same, zero, some)
+  one_lacks w space there kind mark.Null some h = h
+  one_lacks w space there kind mark.Dead some h = h
+
+  one_each : (carried : List Carried) (w : WorldView) (space : SpaceView) → space_at w task ≡ Some space → length carried ≤ left space → Lack left w task carried → ⊥
+  one_each [] w space there few h = h
+  one_each (c ∷ cs) w space there few (inl lack) = one_lacks w space there (kind_sent c.given) c.mark (omega arith) lack
+  one_each (c ∷ cs) w space there few (inr r) =
+      let one = takes_mark left is_left w r.0 task space there (kind_sent c.given) c.mark r.1.0 r.1.1 in
+      let most = one.most in
+      one_each cs r.0 one.after one.at (omega arith) r.2
+
+  -- No more is left than there was.
+  left_after : (carried : List Carried) (words : List ℕ) (w new : WorldView) (space : SpaceView) → space_at w task ≡ Some space → GivesAll w task carried words new →
+      (after : SpaceView) × (space_at new task ≡ Some after) × (left after ≤ left space)
+  left_after [] [] w new space there same = (space, ap (λ (x : WorldView). space_at x task) same ∙ there, omega arith)
+  left_after [] (word ∷ words) w new space there h = absurd h
+  left_after (c ∷ cs) [] w new space there h = absurd h
+  left_after (c ∷ cs) (word ∷ words) w new space there h =
+      let one = takes_mark left is_left w h.0 task space there (kind_sent c.given) c.mark word h.1 in
+      let few = one.few in
+      let x = left_after cs words h.0 new one.after one.at h.2 in
+      let less = x.2 in (x.0, x.1, omega (arith, few, less))
+
+  pub suffices : (ports : PortsView Kept) (w : WorldView) (space : SpaceView) → space_at w task ≡ Some space → ((p : ℕ) → is_some (map.get w.ports.ports p) ≡ is_some (map.get ports.ports p)) →
+      (carried : List Carried) (number : ℕ) → Suffice ports space.names carried number → number ≤ left space → Lack left w task carried → ⊥
+  suffices ports w space there live carried number (inl needs) few = enough left is_left ports space.names task [] carried w _ _ number (starts left ports w task space there live) needs few
+  suffices ports w space there live carried number (inr each) few = one_each carried w space there (omega (arith, each, few))
+
+needs_few : (ports : PortsView Kept) (names : Names) (earlier carried : List Carried) (number : ℕ) → Needs ports names earlier carried number → number ≤ length carried
+needs_few ports names earlier [] number none = omega (arith, none)
+needs_few ports names earlier (c ∷ cs) number (inl o) = let few = needs_few ports names (earlier ++ c ∷ []) cs o.1.0 o.1.2 in let more = o.1.1 in omega (arith, few, more)
+needs_few ports names earlier (c ∷ cs) number (inr s) = let few = needs_few ports names (earlier ++ c ∷ []) cs number s.1 in omega (arith, few)
+
+-- a right that needs a name of its own shares none
+own_apart : (ports : PortsView Kept) (names : Names) (earlier : List Carried) (c : Carried) → Owns ports names earlier c → Shares ports names earlier c → ⊥
+own_apart ports names earlier c o (inl gone) = let there = o.there in let none = gone o.port o.for_port in let e : false ≡ true = sym none ∙ there in cc
+own_apart ports names earlier c o (inr s) =
+    let port : o.port ≡ s.0 = same_port o.port s.0 (sym o.for_port ∙ s.1) in
+    elim o.own [
+      | inl once ↦ s.3 once
+      | inr own ↦ elim s.4 [
+        | inl named ↦ own.0 named.0 (named.1 ∙ ap (λ (q : ℕ). Some q) (sym port))
+        | inr by ↦ let e : false ≡ true = sym own.1 ∙ ap (named_by earlier) port ∙ by in cc
+      ]
+    ]
+
+-- what rights need is one number
+needs_alike : (ports : PortsView Kept) (names : Names) (earlier carried : List Carried) (n k : ℕ) → Needs ports names earlier carried n → Needs ports names earlier carried k → n ≡ k
+needs_alike ports names earlier [] n k a b = a ∙ sym b
+needs_alike ports names earlier (c ∷ cs) n k (inl o) (inl p) =
+    let e = needs_alike ports names (earlier ++ c ∷ []) cs o.1.0 p.1.0 o.1.2 p.1.2 in let a = o.1.1 in let b = p.1.1 in omega (arith, e, a, b)
+needs_alike ports names earlier (c ∷ cs) n k (inl o) (inr s) = absurd (own_apart ports names earlier c o.0 s.0)
+needs_alike ports names earlier (c ∷ cs) n k (inr s) (inl o) = absurd (own_apart ports names earlier c o.0 s.0)
+needs_alike ports names earlier (c ∷ cs) n k (inr s) (inr t) = needs_alike ports names (earlier ++ c ∷ []) cs n k s.1 t.1
+
+suffice_few : (ports : PortsView Kept) (names : Names) (carried : List Carried) (number : ℕ) → Suffice ports names carried number → number ≤ length carried
+suffice_few ports names carried number (inl needs) = needs_few ports names [] carried number needs
+suffice_few ports names carried number (inr each) = omega (arith, each)
+
 -- ---- Room made for names, the front message once it was, and the room that is left.
 
 abbrev pub waits_kept : (w : WorldView) (xs : List (Option SpaceView)) (port : ℕ) → Waits w port → Waits (record w { spaces = xs }) port
@@ -305,8 +409,8 @@ ready_after w w2 task port room capacity needed x m r fit =
       waits = waits_kept w (slice_set w.spaces task (Some space2)) port x;
       space = space2;
       there = space-set_same w.spaces task space2 r.space r.there;
-      needed = needed;
-      needs = subst (λ (k : Kept). Needs w.ports r.space.names [] (carried_by k) needed) (sym front) (subst (λ (y : Names). Needs w.ports y [] (carried_by m.front) needed) names m.needs);
+      number = needed;
+      suffice = subst (λ (k : Kept). Suffice w.ports r.space.names (carried_by k) needed) (sym front) (subst (λ (y : Names). Suffice w.ports y (carried_by m.front) needed) names m.suffice);
       names = subst (λ (y : Names). needed ≤ most_names - map.len y) names m.names;
       room = omega arith;
       words_fit = subst (λ (k : Kept). length k.rights ≤ capacity) (sym front) fit;
@@ -336,12 +440,12 @@ can_deliver w mid task port capacity r t =
     let ledger : mid.ledger ≡ taken w.ledger port (destination_right t.front) 1 = ap (λ (x : WorldView). x.ledger) t.rest in
     let live = front_live w mid port t in
     let there = front_there w mid task port t r.space r.there in
-    let needs : Needs w.ports r.space.names [] (carried_by t.front) r.needed = subst (λ (m : Kept). Needs w.ports r.space.names [] (carried_by m) r.needed) same r.needs in
+    let suffice : Suffice w.ports r.space.names (carried_by t.front) r.number = subst (λ (m : Kept). Suffice w.ports r.space.names (carried_by m) r.number) same r.suffice in
     record {
       space = r.space;
       there = there;
-      enough = enough free_names names_are_free w.ports r.space.names task [] (carried_by t.front) mid _ _ r.needed (starts free_names w.ports mid task r.space there live) needs r.names;
-      room = enough free_room room_is_free w.ports r.space.names task [] (carried_by t.front) mid _ _ r.needed (starts free_room w.ports mid task r.space there live) needs r.room;
+      enough = suffices free_names names_are_free task w.ports mid r.space there live (carried_by t.front) r.number suffice r.names;
+      room = suffices free_room room_is_free task w.ports mid r.space there live (carried_by t.front) r.number suffice r.room;
       entered = λ p is. subst (λ (l : LedgerView). IsEntered l p) (sym ledger) (entered-put w.ledger port p (with_fewer (destination_right t.front) 1 (counts_of w.ledger port)) (r.waits.entered p (sym (live p) ∙ is)));
       counted = λ p is.
           let h : sends_for (carried_by t.front) p + (if t.front.by_once then 0 else if port == p then 1 else 0) ≤ (counts_of w.ledger p).send =
@@ -350,6 +454,10 @@ can_deliver w mid task port capacity r t =
           subst (λ (l : LedgerView). sends_for (carried_by t.front) p ≤ (counts_of l p).send) (sym ledger) (omega arith);
       none_lost = front_none_lost w mid port t r.waits.none_lost;
     }
+
+-- just what its rights need is enough
+pub may_have : (w : WorldView) (task room needed : ℕ) (m : Kept) → MayHaveJust w task m room needed → MayHave w task m room needed
+may_have w task room needed m j = record { fits = j.fits; has = record { space = j.space; there = j.there; suffice = inl j.needs; names = j.names } }
 
 -- the front message is the one that was judged
 pub front_after : (w w2 : WorldView) (task port number : ℕ) (m now : Kept) → HasFront w port m → MakesRoom w task number w2 → HasFront w2 port now → m ≡ now
@@ -384,30 +492,26 @@ beside_all task w new [] (word ∷ words) h = absurd h
 beside_all task w new (c ∷ cs) [] h = absurd h
 beside_all task w new (c ∷ cs) (word ∷ words) h = grind (arith, beside_all task h.0 new cs words h.2, beside_mark)
 
--- Just so much room was made as the names need: no more is left than there was, and the message's slot is spare.
-pub returns_slot : (w w2 new : WorldView) (task port room needed local : ℕ) (bytes : List ℕ) (m : MayReceive w task port room needed) (r : MakesRoom w task needed w2) →
-    TakesMessage w2 task port local bytes new → ReturnsSlot w new
-returns_slot w w2 new task port room needed local bytes m r t =
+-- No more room is left than there was, or than the message has rights; and its slot is spare.
+pub returns_slot : (w w2 new : WorldView) (task port room number local : ℕ) (bytes : List ℕ) (m : MayReceive w task port room number) (r : MakesRoom w task number w2) →
+    TakesMessage w2 task port local bytes new → ReturnsSlot w task port new
+returns_slot w w2 new task port room number local bytes m r t =
     let mid : WorldView = t.mid in
-    let space2 : SpaceView = record r.space { room = max r.space.room needed } in
+    let space2 : SpaceView = record r.space { room = max r.space.room number } in
     let there : space_at mid task ≡ Some space2 =
     front_there w2 mid task port t.takes space2 (ap (λ (y : WorldView). space_at y task) r.rest ∙ space-set_same w.spaces task space2 r.space r.there) in
-    let live : (p : ℕ) → is_some (port_at mid p) ≡ is_some (port_at w p) = λ p. front_live w2 mid port t.takes p ∙ ap (λ (y : WorldView). is_some (port_at y p)) r.rest in
-    let front : m.front ≡ t.takes.front = judged_front w w2 task port needed m.front m.waits r mid t.takes in
-    let names : m.space.names ≡ r.space.names = ap (λ (y : SpaceView). y.names) (same_found (space_at w task) m.space r.space m.there r.there) in
-    let needs : Needs w.ports r.space.names [] (carried_by t.takes.front) needed =
-    subst (λ (k : Kept). Needs w.ports r.space.names [] (carried_by k) needed) front (subst (λ (y : Names). Needs w.ports y [] (carried_by m.front) needed) names m.needs) in
-    let left = left_then free_room room_is_free w.ports r.space.names task [] (carried_by t.takes.front) mid _ _ needed (starts free_room w.ports mid task space2 there live) needs t.words new t.gives in
+    let few = suffice_few w.ports m.space.names (carried_by m.front) number m.suffice in
+    let left = left_after free_room room_is_free task (carried_by t.takes.front) t.words mid new space2 there t.gives in
     let beside = beside_all task mid new (carried_by t.takes.front) t.words t.gives in
     let old_room : room_of w task ≡ r.space.room = ap room_in r.there in
     let new_room : room_of new task ≡ left.0.room = ap room_in left.1 in
     record {
-      rooms = λ other. elim (equal_or_not other task) [
-        | inl e ↦ subst (λ (n : ℕ). room_of new n ≤ room_of w n) (sym e) (let x = left.2 in omega (arith, x, old_room, new_room))
-        | inr not ↦
-            let same : room_of new other ≡ room_of w other = ap room_in (beside.others other not ∙ ap (λ (x : WorldView). space_at x other) t.takes.rest
-            ∙ ap (λ (x : WorldView). space_at x other) r.rest ∙ space-set_other w.spaces task space2 other not) in omega (arith, same)
-      ];
+      front = m.front;
+      waits = m.waits;
+      room = let x = left.2 in omega (arith, x, few, old_room, new_room);
+      others = λ other not.
+          let same : room_of new other ≡ room_of w other = ap room_in (beside.others other not ∙ ap (λ (x : WorldView). space_at x other) t.takes.rest
+          ∙ ap (λ (x : WorldView). space_at x other) r.rest ∙ space-set_other w.spaces task space2 other not) in omega (arith, same);
       slots = beside.spare ∙ ap (λ (x : WorldView). x.ports.spare) t.takes.rest ∙ ap (λ (x : WorldView). x.ports.spare + 1) r.rest;
     }
 
@@ -420,9 +524,19 @@ module _ (w : WorldView) (task : ℕ) (m : Kept) (space : SpaceView) (needed : �
   pub names_lack : map.len space.names ≤ most_names → free_names space < needed → LackNames w task (carried_by m)
   names_lack most many = too_few free_names names_are_free w.ports space.names task [] (carried_by m) w _ _ needed (starts free_names w.ports w task space there (λ p. refl)) needs (omega (arith, most)) many
 
+  pub room_lacks : needed ≤ free_names space → room_of w task < needed → LackRoom w task (carried_by m)
+  room_lacks names less =
+      let own : room_of w task ≡ space.room = ap room_in there in
+      let few : space.room + map.len space.names ≤ most_names = omega (arith, names, own, less) in
+      too_few free_room room_is_free w.ports space.names task [] (carried_by m) w _ _ needed (starts free_room w.ports w task space there (λ p. refl)) needs (omega (arith, few)) (omega (arith, own, less))
+
+-- the task has names enough
+pub has_enough : (w : WorldView) (task : ℕ) (m : Kept) (number : ℕ) → HasNamesFor w task m number → ¬ (LackNames w task (carried_by m))
+has_enough w task m number has = suffices free_names names_are_free task w.ports w has.space has.there (λ p. refl) (carried_by m) number has.suffice has.names
+
 -- a message that may have so many names is refused for want of memory alone
-pub may_enough : (w : WorldView) (task : ℕ) (m : Kept) (room needed : ℕ) → MayHave w task m room needed → IsRefusedBy w task m room refused.Memory
-may_enough w task m room needed may = (may.fits, names_enough w task m may.space needed may.there may.needs may.names)
+pub may_enough : (w : WorldView) (task : ℕ) (m : Kept) (room number : ℕ) → MayHave w task m room number → IsRefusedBy w task m room refused.Memory
+may_enough w task m room number may = (may.fits, has_enough w task m number may.has)
 
 -- the message in front is one
 pub same_front_as : (w : WorldView) (port : ℕ) (m now : Kept) → HasFront w port m → HasFront w port now → m ≡ now
@@ -431,23 +545,47 @@ same_front_as w port m now f g = grind (arith, same_found, same_head)
 pub one_front : (w : WorldView) (port : ℕ) (m now : Kept) → HasFront w port m → HasFront w port now → length m.bytes ≤ most_bytes → length now.bytes ≤ most_bytes
 one_front w port m now f g few = subst (λ (k : Kept). length k.bytes ≤ most_bytes) (same_front_as w port m now f g) few
 
+-- What its rights need, counted where no room could be made for as many names as were enough.
+module _ (w w2 : WorldView) (same : w2 ≡ w) (task port number needed : ℕ) (m : Kept) (f : HasFront w port m) (has : HasNamesFor w task m number)
+    (front : Kept) (g : HasFront w2 port front) (space : SpaceView) (there2 : space_at w2 task ≡ Some space) (needs2 : Needs w2.ports space.names [] (carried_by front) needed) where
+  there : space_at w task ≡ Some space
+  there = subst (λ (x : WorldView). space_at x task ≡ Some space) same there2
+
+  needs : Needs w.ports space.names [] (carried_by m) needed
+  needs =
+      subst (λ (k : Kept). Needs w.ports space.names [] (carried_by k) needed) (same_front_as w port front m (subst (λ (x : WorldView). HasFront x port front) same g) f)
+      (subst (λ (x : WorldView). Needs x.ports space.names [] (carried_by front) needed) same needs2)
+
+  few : needed ≤ free_names space
+  few =
+      let names = has.names in
+      let left : free_names has.space ≡ free_names space = ap free_names (same_found (space_at w task) has.space space has.there there) in
+      elim has.suffice [
+        | inl just ↦ let e = needs_alike w.ports space.names [] (carried_by m) needed number needs (subst (λ (y : SpaceView). Needs w.ports y.names [] (carried_by m) number) (same_found (space_at w task) has.space space has.there there) just) in omega (arith, names, left, e)
+        | inr each ↦ let less = needs_few w.ports space.names [] (carried_by m) needed needs in omega (arith, names, left, each, less)
+      ]
+
+  pub needed_has : (now : Kept) → HasFront w port now → HasNamesFor w task now needed
+  needed_has now h = subst (λ (k : Kept). HasNamesFor w task k needed) (same_front_as w port m now f h) (record { space = space; there = there; suffice = inl needs; names = few })
+
+  pub needed_lacks : room_of w2 task < needed → (now : Kept) → HasFront w port now → LackRoom w task (carried_by now)
+  needed_lacks less now h =
+      subst (λ (k : Kept). LackRoom w task (carried_by k)) (same_front_as w port m now f h)
+      (room_lacks w task m space needed there needs few (subst (λ (x : WorldView). room_of x task < needed) same less))
+
+-- a fact that holds where all went wrong
+pub where_err : {T E : Type 0} (r : Result T E) (P : Type 0) → is_ok r ≡ false → OnErr r P → P
+where_err (Ok x) P e h = absurd (cc)
+where_err (Err x) P e h = h
+
 -- what is told of the front message, by what was judged
 pub told_receivable : (w : WorldView) (task port : ℕ) (m now : Kept) → HasFront w port m → HasFront w port now → (room : ℕ) (judged : Result ℕ Refusal) (b : Bool) →
     IfOk judged (λ needed. MayHave w task now room needed) → IfErr judged (λ refusal. IsRefusedBy w task now room refusal × (refusal ≢ refused.Memory)) → b ≡ is_ok judged →
     MatchBool b (IsRefusedBy w task m room refused.Memory) (¬ (IsRefusedBy w task m room refused.Memory))
-told_receivable w task port m now f g room judged b ok err is = grind (arith, same_front_as, may_enough)
-
--- ---- where memory is wanted
-
-pub wants_room : (w : WorldView) (task port room needed : ℕ) (m : MayReceive w task port room needed) → room_of w task < needed → WantsToReceive w task port
-wants_room w task port room needed m less =
-    let own : room_of w task ≡ m.space.room = ap room_in m.there in
-    let few : m.space.room + map.len m.space.names ≤ most_names = let names = m.names in omega (arith, names, own, less) in
-    record {
-      front = m.front;
-      waits = m.waits;
-      wanted = inr (too_few free_room room_is_free w.ports m.space.names task [] (carried_by m.front) w _ _ needed (starts free_room w.ports w task m.space m.there (λ p. refl)) m.needs (omega (arith, few)) (omega (arith, own, less)));
-    }
+told_receivable w task port m now f g room (Ok number) b ok err is =
+    subst (λ (x : Bool). MatchBool x (IsRefusedBy w task m room refused.Memory) (¬ (IsRefusedBy w task m room refused.Memory))) (sym is)
+    (subst (λ (k : Kept). IsRefusedBy w task k room refused.Memory) (sym (same_front_as w port m now f g)) (may_enough w task now room number ok))
+told_receivable w task port m now f g room (Err refusal) b ok err is = grind (arith, same_front_as)
 
 -- ---- room for none
 

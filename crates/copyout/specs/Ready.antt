@@ -18,7 +18,7 @@ use Rattle.copyin_base.specs.Kept.{Kept}
 use Rattle.copyin_base.specs.Worlds.{WorldView, NoneLost, port_at, space_at}
 use Rattle.std.specs.Option.{option_to_list}
 use Rattle.copyout.specs.Giving.{NeedsOwn, LackNames, LackRoom, free_names, GivesAll}
-use Rattle.copyout.specs.Room.{Needs}
+use Rattle.copyout.specs.Room.{Needs, Suffice}
 use Rattle.copyout.specs.Takes.{destination_right, reversed, body_names}
 use Rattle.copyout.specs.declared.receipt.Refusal.{Refusal}
 use Rattle.copyout.specs.declared.receipt.Refusal.TheVariants as refusal
@@ -108,30 +108,43 @@ pub record Waits (w : WorldView) (port : ℕ) : Type 0 where
       sends_for (carried_by front) p + (if front.by_once then 0 else if port == p then 1 else 0) ≤ (counts_of w.ledger p).send
   pub none_lost : NoneLost w
 
--- The message may be received: it fits, and its rights need so many names, which the task may have.
-pub record MayHave (w : WorldView) (task : ℕ) (m : Kept) (room needed : ℕ) : Type 0 where
+-- So many names are enough for the message's rights, and the task may have them.
+pub record HasNamesFor (w : WorldView) (task : ℕ) (m : Kept) (number : ℕ) : Type 0 where
+  pub space : SpaceView
+  pub there : space_at w task ≡ Some space
+  pub suffice : Suffice w.ports space.names (carried_by m) number
+  pub names : number ≤ free_names space
+
+-- The message may be received: it fits, and the task may have so many names, which are enough for its rights.
+pub record MayHave (w : WorldView) (task : ℕ) (m : Kept) (room number : ℕ) : Type 0 where
+  pub fits : length m.bytes ≤ min room most_bytes
+  pub has : HasNamesFor w task m number
+  pub open has use *
+
+-- So it is with the port's front message.
+pub record MayReceive (w : WorldView) (task port room number : ℕ) : Type 0 where
+  pub front : Kept
+  pub waits : HasFront w port front
+  pub may : MayHave w task front room number
+  pub open may use *
+
+-- The message may be received, and its rights need just so many names.
+pub record MayHaveJust (w : WorldView) (task : ℕ) (m : Kept) (room needed : ℕ) : Type 0 where
   pub fits : length m.bytes ≤ min room most_bytes
   pub space : SpaceView
   pub there : space_at w task ≡ Some space
   pub needs : Needs w.ports space.names [] (carried_by m) needed
   pub names : needed ≤ free_names space
 
--- So it is with the front message.
-pub record MayReceive (w : WorldView) (task port room needed : ℕ) : Type 0 where
-  pub front : Kept
-  pub waits : HasFront w port front
-  pub may : MayHave w task front room needed
-  pub open may use *
-
--- It can be taken: there is room for the names that its rights need, and for the words of its body.
+-- It can be taken: there is room for names that are enough for its rights, and for the words of its body.
 pub record ReadyFor (w : WorldView) (task port capacity : ℕ) : Type 0 where
   pub waits : Waits w port
   pub space : SpaceView
   pub there : space_at w task ≡ Some space
-  pub needed : ℕ
-  pub needs : Needs w.ports space.names [] (carried_by waits.front) needed
-  pub names : needed ≤ free_names space
-  pub room : needed ≤ space.room
+  pub number : ℕ
+  pub suffice : Suffice w.ports space.names (carried_by waits.front) number
+  pub names : number ≤ free_names space
+  pub room : number ≤ space.room
   pub words_fit : length waits.front.rights ≤ capacity
 
 -- What comes of a message that was taken from its queue: its rights are given, and its bytes are as the receiver gets them.

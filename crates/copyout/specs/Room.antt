@@ -62,3 +62,7 @@ Needs ports names earlier [] n = n ≡ 0
 Needs ports names earlier (c ∷ cs) n =
     Owns ports names earlier c × ((m : ℕ) × (n ≡ m + 1) × Needs ports names (earlier ++ c ∷ []) cs m)
     ⊎ Shares ports names earlier c × Needs ports names (earlier ++ c ∷ []) cs n
+
+-- So many names are enough for the rights: they need just so many, or there are so many rights.
+abbrev pub Suffice : PortsView Kept → Names → List Carried → (number : ℕ) → Type 0
+Suffice ports names carried number = Needs ports names [] carried number ⊎ (number ≡ length carried)

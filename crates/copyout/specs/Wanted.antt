@@ -1,5 +1,5 @@
 -- Where a receipt wants memory, and what it leaves of what is kept for names and messages to come.
-use Rattle.std.specs.Prelude.{◌≡◌, ℕ, ◌+◌, ◌<◌, ◌≤◌, ◌⊎◌, true, length}
+use Rattle.std.specs.Prelude.{◌≡◌, ◌≢◌, ℕ, ◌+◌, ◌<◌, ◌≤◌, ◌⊎◌, true, length, max}
 use Rattle.copyin_base.specs.Kept.{Kept}
 use Rattle.copyin_base.specs.Wanted.{room_of}
 use Rattle.copyin_base.specs.Worlds.{WorldView}
@@ -20,7 +20,11 @@ pub record WantsToReceive (w : WorldView) (task port : ℕ) : Type 0 where
   pub waits : HasFront w port front
   pub wanted : WantsToPrepare front ⊎ LackRoom w task (carried_by front)
 
--- No task has room for more names than it had, and one slot more is spare: that of the message.
-pub record ReturnsSlot (old new : WorldView) : Type 0 where
-  pub rooms : (task : ℕ) → room_of new task ≤ room_of old task
+-- The task has room for no more names than it had, or than the port's front message has rights, and no other for more than it had. One slot more is
+-- spare: that of the message.
+pub record ReturnsSlot (old : WorldView) (task port : ℕ) (new : WorldView) : Type 0 where
+  pub front : Kept
+  pub waits : HasFront old port front
+  pub room : room_of new task ≤ max (room_of old task) (length (carried_by front))
+  pub others : (other : ℕ) → other ≢ task → room_of new other ≤ room_of old other
   pub slots : new.ports.spare ≡ old.ports.spare + 1

@@ -15,7 +15,7 @@ ghost use Rattle.copyout.specs.Bare.{IsBare, TellsOwn, lone_right, own_names};
 ghost use Rattle.copyout.specs.Giving.{GivesAll};
 ghost use Rattle.copyout.specs.Room.{Needs, OwnsAlone};
 ghost use Rattle.copyout.specs.Takes.{TakesMessage, NotesFront, reply_word};
-ghost use Rattle.copyout.specs.Ready.{CanGive, Delivers, MayHave, IsRefusedBy, ReadyFor, Waits, HasFront, IsNumbered};
+ghost use Rattle.copyout.specs.Ready.{CanGive, Delivers, MayHaveJust, IsRefusedBy, ReadyFor, Waits, HasFront, IsNumbered};
 ghost use Rattle.copyout.specs.Wanted.{ReturnsSlot, WantsToReceive};
 ghost use Rattle.copyout.specs.declared.receipt.Refusal.TheVariants as refused;
 
@@ -108,7 +108,7 @@ fn judge_bare(
 ) -> Result<Option<PortId>, Refusal>
     requires there { HasTask world.now task }
     requires few { bare.now.size ≤ most_bytes }
-    ensures ok { IfOk result (λ own. TellsOwn world.now task bare.now.right own × ((m : Kept) → IsBare m bare.now → MayHave world.now task m room (own_names own))) }
+    ensures ok { IfOk result (λ own. TellsOwn world.now task bare.now.right own × ((m : Kept) → IsBare m bare.now → MayHaveJust world.now task m room (own_names own))) }
     ensures err { IfErr result (λ refusal. ((m : Kept) → IsBare m bare.now → IsRefusedBy world.now task m room refusal) × (refusal ≢ refused.Memory)) }
 {
     if bare.size > room as usize {
@@ -221,9 +221,9 @@ pub(crate) fn receive_bare(
     requires waits { Waits world.old found.port }
     requires bare { (m : Kept) × HasFront world.old found.port m × IsBare m bare.now }
     requires numbered { IsNumbered world.old found.port bare.now.sequence }
-    ensures ok { IfOk result (λ bytes. (needed : ℕ) × (start : WorldView) × (taken : WorldView) × MakesRoom world.old task needed start × (t : TakesMessage start task found.port local bytes taken)
+    ensures ok { IfOk result (λ bytes. (made : ℕ) × (start : WorldView) × (taken : WorldView) × MakesRoom world.old task made start × (t : TakesMessage start task found.port local bytes taken)
         × (length t.takes.front.bytes ≤ min room most_bytes) × NotesFront taken found.port t.takes.front world.new) }
-    ensures kept { OnOk result (ReturnsSlot world.old world.new) }
+    ensures kept { OnOk result (ReturnsSlot world.old task found.port world.new) }
     ensures err { IfErr result (λ refusal. (world.new ≡ world.old) × (m : Kept) × HasFront world.old found.port m × IsRefusedBy world.old task m room refusal) }
     ensures wanted { IfErr result (λ refusal. refusal ≡ refused.Memory → WantsToReceive world.old task found.port) }
 {

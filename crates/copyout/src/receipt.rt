@@ -12,9 +12,9 @@ ghost use Rattle.copyin_base.specs.Kept.{Kept, Makes};
 ghost use Rattle.copyin_base.specs.Wanted.{LacksRoomFor};
 ghost use Rattle.copyin_base.specs.Worlds.{WorldView, port_at, HasTask};
 ghost use Rattle.std.specs.Option.{option_to_list};
-ghost use Rattle.copyout.specs.Giving.{GivesAll};
+ghost use Rattle.copyout.specs.Giving.{GivesAll, LackRoom};
 ghost use Rattle.copyout.specs.Takes.{TakesFront, TakesMessage, NotesFront, reply_number, reply_word};
-ghost use Rattle.copyout.specs.Ready.{CanGive, Waits, HasFront, MayHave, MayReceive, ReadyFor, Delivers, IsNumbered, IsRefusedBy, carried_by};
+ghost use Rattle.copyout.specs.Ready.{CanGive, Waits, HasFront, HasNamesFor, MayHave, MayReceive, ReadyFor, Delivers, IsNumbered, IsRefusedBy, carried_by};
 ghost use Rattle.copyout.specs.Prepared.{IsPrepared};
 ghost use Rattle.copyout.specs.Wanted.{WantsToPrepare, WantsToReceive, ReturnsSlot};
 ghost use Rattle.copyout.specs.declared.receipt.Refusal.TheVariants as refused;
@@ -263,26 +263,32 @@ fn prepare(alloc: Global, queued: &Queued, sequence: u32) -> Result<Prepared, Al
     })
 }
 
-// How many names the rights of a message need; or why it isn't received, but for want of memory.
+// A number of names that is enough for the rights of a message: that of the rights, where the task may have so many
+// more names, or else that of the names that they need. Or why it isn't received, but for want of memory.
 fn judge_names(world: &World, task: TaskId, queued: &Queued, room: u32) -> Result<usize, Refusal>
     requires there { HasTask world.now task }
     requires few { length queued.now.bytes ≤ most_bytes }
-    ensures ok { IfOk result (λ needed. MayHave world.now task queued.now room needed) }
+    ensures ok { IfOk result (λ number. MayHave world.now task queued.now room number) }
     ensures err { IfErr result (λ refusal. IsRefusedBy world.now task queued.now room refusal × (refusal ≢ refused.Memory)) }
 {
     if is_too_large(queued, room) {
         return Err(Refusal::TooLarge(queued.len() as u32));
     }
     let space = world.space(task);
+    let free = MOST_NAMES - space.len();
+    let rights = queued.count_carried();
+    if rights <= free {
+        return Ok(rights);
+    }
     let needed = room_needed(world, &space, queued);
-    if needed > MOST_NAMES - space.len() {
+    if needed > free {
         return Err(Refusal::Names);
     }
     Ok(needed)
 }
 
-// How many names the rights of the front message need, and what memory is taken for before it is taken;
-// or why it isn't received.
+// A number of names that is enough for the rights of the front message, and what memory is taken for before it
+// is taken; or why it isn't received.
 fn judge(
     world: &World,
     alloc: Global,
@@ -307,7 +313,8 @@ fn judge(
 /// Returns whether only lack of memory could refuse to give the port's front message to the task: it isn't
 /// too large, and the task's names suffice for its rights.
 ///
-/// Takes no memory. The time is that of [`room_needed`].
+/// Takes no memory. The time is constant where the task may have a name more for each right, and else that of
+/// [`room_needed`].
 pub fn is_receivable(world: &World, task: TaskId, port: PortId, room: u32) -> bool
     requires there { HasTask world.now task }
     requires waits { Waits world.now port }
@@ -331,6 +338,29 @@ pub(crate) fn make_room(world: &mut World, task: TaskId, needed: usize) -> Resul
     world.reserve_names(task, needed)
 }
 
+// Makes room for so many fresh names of the task, which are enough for the rights of the front message. Where
+// memory is refused for them, it makes room for those that the rights need.
+#[inline(always)]
+fn make_enough(
+    world: &mut World,
+    task: TaskId,
+    found: Found,
+    number: usize,
+) -> Result<(), KernReturn>
+    requires there { HasTask world.old task }
+    requires enough { (m : Kept) × HasFront world.old found.port m × HasNamesFor world.old task m number }
+    ensures ok { OnOk result ((made : ℕ) × MakesRoom world.old task made world.new × ((m : Kept) → HasFront world.old found.port m → HasNamesFor world.old task m made)) }
+    ensures err { OnErr result (world.new ≡ world.old) }
+    ensures lacks { OnErr result ((m : Kept) → HasFront world.old found.port m → LackRoom world.old task (carried_by m)) }
+{
+    if make_room(world, task, number).is_ok() {
+        return Ok(());
+    }
+    let (queued, _) = front(world, found);
+    let needed = room_needed(world, &world.space(task), queued);
+    make_room(world, task, needed)
+}
+
 // Receives the port's front message, whatever it carries.
 #[inline(never)]
 fn receive_any(
@@ -343,15 +373,15 @@ fn receive_any(
 ) -> Result<Bytes, Refusal>
     requires there { HasTask world.old task }
     requires waits { Waits world.old found.port }
-    ensures ok { IfOk result (λ bytes. (needed : ℕ) × (start : WorldView) × (taken : WorldView) × MakesRoom world.old task needed start × (t : TakesMessage start task found.port local bytes taken)
+    ensures ok { IfOk result (λ bytes. (made : ℕ) × (start : WorldView) × (taken : WorldView) × MakesRoom world.old task made start × (t : TakesMessage start task found.port local bytes taken)
         × (length t.takes.front.bytes ≤ min room most_bytes) × NotesFront taken found.port t.takes.front world.new) }
-    ensures kept { OnOk result (ReturnsSlot world.old world.new) }
+    ensures kept { OnOk result (ReturnsSlot world.old task found.port world.new) }
     ensures err { IfErr result (λ refusal. (world.new ≡ world.old) × (m : Kept) × HasFront world.old found.port m × IsRefusedBy world.old task m room refusal) }
     ensures wanted { IfErr result (λ refusal. refusal ≡ refused.Memory → WantsToReceive world.old task found.port) }
 {
     let Found { port, place } = found;
-    let (needed, prepared) = judge(world, alloc, task, Found { port, place }, room)?;
-    match make_room(world, task, needed) {
+    let (number, prepared) = judge(world, alloc, task, Found { port, place }, room)?;
+    match make_enough(world, task, Found { port, place }, number) {
         Ok(()) => Ok(take_message(world, task, Found { port, place }, local, prepared)),
         Err(_) => Err(Refusal::Memory),
     }
@@ -362,9 +392,13 @@ fn receive_any(
 /// and memory must be there; they are judged in this order. The header is reversed, and the rights have the
 /// receiver's names, the reply right first.
 ///
-/// Memory is wanted for three things alone: names that the rights need and there is no room for, the words of
-/// a body with more than 8 rights, and the bytes of a notice. So a message that was sent without rights is
-/// always received. Room for names is no more than before, and the message's slot is spare then.
+/// It is refused for want of memory over three things alone: names that the rights need and there is no room
+/// for, the words of a body with more than 8 rights, and the bytes of a notice. So a message that was sent
+/// without rights is always received. The message's slot is spare then.
+///
+/// Of a notice, and of a message that carries more than one right, the names that its rights need aren't counted
+/// where the task may have a name more for each: room is made for as many. What isn't used of it stays. Where
+/// memory is refused for so many, or the task may not have them, the names are counted.
 ///
 /// The right by which the message came is gone. Where it was the port's last send right, and a no-senders
 /// request stands on the port, the port is noted for the end of the step.
@@ -376,8 +410,8 @@ fn receive_any(
 ///   its own lacks one, once those before it were given.
 /// - [`Refusal::Memory`]: neither, memory was wanted, and it was refused.
 ///
-/// The time grows with the number of rights; where there are more than 1,000, it grows as that of
-/// [`room_needed`].
+/// The time grows with the number of rights. Where the task can't have a name more for each, or memory is refused
+/// for so many, and there are more than 1,000, it grows as that of [`room_needed`].
 #[inline(always)]
 pub fn receive(
     world: &mut World,
@@ -389,9 +423,9 @@ pub fn receive(
 ) -> Result<Bytes, Refusal>
     requires there { HasTask world.old task }
     requires waits { Waits world.old found.port }
-    ensures ok { IfOk result (λ bytes. (needed : ℕ) × (start : WorldView) × (taken : WorldView) × MakesRoom world.old task needed start × (t : TakesMessage start task found.port local bytes taken)
+    ensures ok { IfOk result (λ bytes. (made : ℕ) × (start : WorldView) × (taken : WorldView) × MakesRoom world.old task made start × (t : TakesMessage start task found.port local bytes taken)
         × (length t.takes.front.bytes ≤ min room most_bytes) × NotesFront taken found.port t.takes.front world.new) }
-    ensures kept { OnOk result (ReturnsSlot world.old world.new) }
+    ensures kept { OnOk result (ReturnsSlot world.old task found.port world.new) }
     ensures err { IfErr result (λ refusal. (world.new ≡ world.old) × (m : Kept) × HasFront world.old found.port m × IsRefusedBy world.old task m room refusal) }
     ensures wanted { IfErr result (λ refusal. refusal ≡ refused.Memory → WantsToReceive world.old task found.port) }
 {

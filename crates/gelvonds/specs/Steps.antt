@@ -16,7 +16,7 @@ pub record IsStep (old : KernelView) (event : Event) (reply : Reply) (new : Kern
   pub turns : TakesTurns old.tables event reply new.tables new.turns
   -- where it may tell of want of memory, and the room that it leaves
   pub wanted : Wanted old.tables event reply
-  pub spares : Spares old.tables new.tables
+  pub spares : Spares old.tables event reply new.tables
   -- which ports and sets it may have changed
   pub touches : Touches old.tables event reply new.tables new.touched
   pub unused_are : (s : State) → Shows new.tables s → new.tables.ledger.unused ≡ unused_onces s

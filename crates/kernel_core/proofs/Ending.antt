@@ -85,15 +85,15 @@ module _ (old w new : WorldView) (event : Event) (reply : Reply) where
 -- ---- what a step keeps
 
 pub acted_spares : (old w new : WorldView) (event : Event) (reply : Reply) (turns : ℕ) → Stands old → Completes old event reply w → SettlesIn w turns new → KeepsRooms w new → LeavesSpares old event (Ok reply) w →
-    IsUnusedOfAll old.ledger → IsUnusedOfAll w.ledger → IsUnusedOfAll new.ledger → Spares old new
+    IsUnusedOfAll old.ledger → IsUnusedOfAll w.ledger → IsUnusedOfAll new.ledger → Spares old event reply new
 acted_spares old w new event reply turns stands a settles rooms leaves before all after = record {
-  rooms = λ task. let few = leaves.rooms task in let same = rooms task in omega (arith, few, same);
+  rooms = λ task. let few = leaves.rooms task in let less = few.2 in let same = rooms task in (few.0, few.1, omega (arith, less, same));
   slots = acted_slots old w new event reply turns a settles leaves.slots before all after;
 }
 
-pub declined_spares : (old new : WorldView) (event : Event) (code : Code) → Declines old event (code_number code) new → LeavesSpares old event (Err code) new → IsUnusedOfAll new.ledger → Spares old new
-declined_spares old new event code d leaves all = record {
-  rooms = leaves.rooms;
+pub declined_spares : (old new : WorldView) (event : Event) (code : Code) (reply : Reply) → Declines old event (code_number code) new → LeavesSpares old event (Err code) new → IsUnusedOfAll new.ledger → Spares old event reply new
+declined_spares old new event code reply d leaves all = record {
+  rooms = λ task. let few = leaves.rooms task in (few.0, elim few.1 [ inl one ↦ inl one | inr h ↦ absurd (let ok : Err code ≡ Ok (Reply.Message h.bytes) = h.answer in cc) ], few.2);
   slots = λ s t sh later.
       let same = same_queued new s t (d.shows s sh) later in
       let needs = shown_unused new t later all in

@@ -20,7 +20,7 @@ use Rattle.mach_types.specs.declared.codes.Code.TheVariants.{Kern}
 use Rattle.copyin_base.specs.Serving.{IsDone, Completes, Declines, Serves}
 use Rattle.copyin_base.specs.Shows.{Shows}
 use Rattle.copyin_base.specs.Stands.{Stands}
-use Rattle.copyin_base.specs.Wanted.{KeepsSpares, UsesSpares}
+use Rattle.copyin_base.specs.Wanted.{KeepsSpares, UsesSpares, room_of}
 use Rattle.copyin_base.specs.Worlds.{WorldView}
 use Rattle.copyin_base.proofs.Listed.{listed_none}
 use Rattle.copyin_base.proofs.Spares.{keeps_refl, keeps_same}
@@ -31,7 +31,7 @@ use Rattle.kernel_core.specs.InTurn.{KeepsTurns, told_by}
 use Rattle.message_send.specs.Send.{UsesSlot}
 use Rattle.kernel_core.specs.Touching.{RefusalTouchesNone}
 use Rattle.transfer.specs.Room.{MakesSlots}
-use Rattle.kernel_core.specs.Wanted.{memory_code, WantsMemory, Wanted, UsesSlots, LeavesSlots, LeavesSpares, Performs}
+use Rattle.kernel_core.specs.Wanted.{memory_code, WantsMemory, Wanted, UsesSlots, LeavesRooms, LeavesSlots, LeavesSpares, Performs}
 use Rattle.kernel_core.proofs.Taking.{IsNoReceipt, other_turns, other_takes}
 use Rattle.kernel_core.proofs.Unused.{shown_unused, midway_unused}
 
@@ -157,8 +157,12 @@ made_slots now old s event reply new sh owes none few d =
       | inr h ↦ inl (let a = h.1 in omega (arith, a, few, z))
     ]
 
+-- room for one name more is left at most
+pub one_left : (old : WorldView) (event : Event) (result : Result Reply Code) (new : WorldView) → ((task : ℕ) → room_of new task ≤ max (room_of old task) 1) → LeavesRooms old event result new
+one_left old event result new few task = (1, inl refl, few task)
+
 spared : (old : WorldView) (event : Event) (result : Result Reply Code) (new : WorldView) → KeepsSpares old new → OwesNone event → ((reply : Reply) → accepts event reply ≡ 0) → LeavesSpares old event result new
-spared old event result new k owes none = record { rooms = k.rooms; slots = kept result }
+spared old event result new k owes none = record { rooms = one_left old _ _ new k.rooms; slots = kept result }
   where
     kept : (r : Result Reply Code) → LeavesSlots old event r new
     kept (Ok reply) = λ before after now s sh d. inl (let s' = k.slots in let a = none reply in let z = posts_none now old s event reply new owes d in omega (arith, s', a, z))
@@ -166,7 +170,7 @@ spared old event result new k owes none = record { rooms = k.rooms; slots = kept
 
 -- a right that was lost, and may have paid for a notice
 used_spares : (old : WorldView) (event : Event) (result : Result Reply Code) (new : WorldView) → UsesSpares old new → ¬ (MayNeedSlots event) → LeavesSpares old event result new
-used_spares old event result new u few = record { rooms = u.rooms; slots = used result }
+used_spares old event result new u few = record { rooms = one_left old _ _ new u.rooms; slots = used result }
   where
     used : (r : Result Reply Code) → LeavesSlots old event r new
     used (Ok reply) = λ before after now s sh d. inl (
@@ -179,12 +183,12 @@ used_spares old event result new u few = record { rooms = u.rooms; slots = used 
 
 -- a refusal that leaves the tables
 pub refused_spares : (old : WorldView) (event : Event) (code : Code) (new : WorldView) → KeepsSpares old new → LeavesSpares old event (Err code) new
-refused_spares old event code new k = record { rooms = k.rooms; slots = let s' = k.slots in omega (arith, s') }
+refused_spares old event code new k = record { rooms = one_left old _ _ new k.rooms; slots = let s' = k.slots in omega (arith, s') }
 
 -- a right that was handed on
 pub handed_spares : (old : WorldView) (event : Event) (result : Result Reply Code) (new : WorldView) → MakesSlots old new → ((reply : Reply) → accepts event reply ≡ 0) →
     ((s : State) (reply : Reply) → LosesNone s event reply) → OwesNone event → LeavesSpares old event result new
-handed_spares old event result new k none loses owes = record { rooms = k.rooms; slots = kept result }
+handed_spares old event result new k none loses owes = record { rooms = one_left old _ _ new k.rooms; slots = kept result }
   where
     kept : (r : Result Reply Code) → LeavesSlots old event r new
     kept (Ok reply) = λ before after now s sh d. made_slots now old s event reply new sh owes (loses s reply) (let m = k.slots in let a = none reply in omega (arith, m, a)) d
@@ -193,7 +197,7 @@ handed_spares old event result new k none loses owes = record { rooms = k.rooms;
 pub sent_spares : (old : WorldView) (task : ℕ) (bytes : List ℕ) (result : Result Reply Code) (new : WorldView) →
     OnOk result (UsesSlot old new) → OnErr result (new ≡ old) → LeavesSpares old (Event.Send task bytes) result new
 sent_spares old task bytes (Ok reply) new uses same = record {
-  rooms = λ task. let e = uses.rooms task in omega (arith, e);
+  rooms = one_left old _ (Ok reply) new (λ task. let e = uses.rooms task in omega (arith, e));
   slots = λ before after now s sh d. made_slots now old s (Event.Send task bytes) reply new sh tt tt (let u = uses.slots in let one = at_most_one (Event.Send task bytes) reply in omega (arith, u, one)) d;
 }
 sent_spares old task bytes (Err code) new uses same = refused_spares old (Event.Send task bytes) code new (keeps_same old new same)
@@ -252,8 +256,8 @@ asked_slots old task name a (Reply.Previous previous) new now s sh before after 
 asked_slots old task name a reply new now s sh before after slots d = absurd d.does
 
 asked_spares : (old : WorldView) (task name : ℕ) (a : Asked) (result : Result Reply Code) (new : WorldView) → LeavesRequest old a result new → LeavesSpares old (asks task name a) result new
-asked_spares old task name a (Ok reply) new l = record { rooms = l.rooms; slots = λ before after now s sh d. asked_slots old task name a reply new now s sh before after l.slots d }
-asked_spares old task name a (Err code) new l = record { rooms = l.rooms; slots = l.slots }
+asked_spares old task name a (Ok reply) new l = record { rooms = one_left old _ _ new l.rooms; slots = λ before after now s sh d. asked_slots old task name a reply new now s sh before after l.slots d }
+asked_spares old task name a (Err code) new l = record { rooms = one_left old _ _ new l.rooms; slots = l.slots }
 
 pub asked : (old : WorldView) (task name : ℕ) (a : Asked) (result : Result Reply Code) (new : WorldView) → Serves old (asks task name a) result new →
     IfErr result (λ code. code_number code ≡ kern_number ResourceShortage → WantsToRequest old task name a) → LeavesRequest old a result new → Performs old (asks task name a) result new

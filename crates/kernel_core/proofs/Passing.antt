@@ -73,8 +73,8 @@ module _ (old : WorldView) (task room : ℕ) (waited : Waited) (large : Bool) (f
         };
   }
 
-pub freed_after : (old mid new : WorldView) (large : Bool) (reply : Reply) → SameButTurns mid new → FreesSlot old large reply mid → FreesSlot old large reply new
-freed_after old mid new large reply same f = subst (FreesSlot old large reply) (sym same) (record { rooms = f.rooms; slots = f.slots; uses = f.uses })
+pub freed_after : (old mid new : WorldView) (receiver : ℕ) (waited : Waited) (large : Bool) (reply : Reply) → SameButTurns mid new → FreesSlot old receiver waited large reply mid → FreesSlot old receiver waited large reply new
+freed_after old mid new receiver waited large reply same f = subst (FreesSlot old receiver waited large reply) (sym same) (record { rooms = f.rooms; slots = f.slots; uses = f.uses })
 
 -- ---- the turn passes, and then the message is destroyed
 
@@ -94,11 +94,15 @@ module _ (w : WorldView) (task : ℕ) (below : HasTask w task) (waited : Waited)
       (large_ended (with_turns w turns) task below waited (record { allowed = λ s sh. good.allowed s (shows-before w turns s sh) }) room port (record { v = f.v; there = f.there; is_of = f.is_of }) m
       (record { v = h.v; there = h.there; behind = h.behind; queue = h.queue }) ready is_ready false n is above new (destroys_after w mid new port (passes-in w mid waited port passes) d))
 
-pub passed_freed : (w new : WorldView) (waited : Waited) (large : Bool) (port n : ℕ) → SlotsSuffice w → MatchBool large (new ≡ w) ((mid : WorldView) × PassesIn w waited port mid × DestroysMessage mid port new) → FreesSlot w large (Reply.TooLarge n) new
-passed_freed w new waited true port n enough same = large_freed w new true port n enough same
-passed_freed w new waited false port n enough (mid, passes, d) =
-    let f = large_freed (with_turns w mid.ports.ready) new false port n enough (destroys_after w mid new port (passes-in w mid waited port passes) d) in
-    record { rooms = f.rooms; slots = f.slots; uses = f.uses }
+pub passed_freed : (w new : WorldView) (receiver : ℕ) (waited : Waited) (large : Bool) (port n : ℕ) → SlotsSuffice w → MatchBool large (new ≡ w) ((mid : WorldView) × PassesIn w waited port mid × DestroysMessage mid port new) → FreesSlot w receiver waited large (Reply.TooLarge n) new
+passed_freed w new receiver waited true port n enough same = large_freed w new receiver waited true port n enough same
+passed_freed w new receiver waited false port n enough (mid, passes, d) =
+    let f = large_freed (with_turns w mid.ports.ready) new receiver waited false port n enough (destroys_after w mid new port (passes-in w mid waited port passes) d) in
+    record {
+      rooms = λ task. let r = f.rooms task in (r.0, elim r.1 [ inl one ↦ inl one | inr h ↦ absurd (let e : Reply.TooLarge n ≡ Reply.Message h.bytes = h.answer in cc) ], r.2);
+      slots = f.slots;
+      uses = f.uses;
+    }
 
 -- ---- what that asks
 

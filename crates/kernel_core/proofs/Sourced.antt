@@ -48,7 +48,7 @@ module _ (w new : WorldView) (task room : ℕ) (large : Bool) (below : HasTask w
     again_serves (Ok reply) r e = completes w again reply new (again_took (Ok reply) r)
     again_serves (Err code) r e = subst (Declines w again (code_number code)) (sym e.0) (again_stays w task room large below waited good (code_number code) e.1)
 
-    pub again_leaves : (result : Result Reply Code) → Stays result → IfOk result (λ reply. FreesSlot w large reply new) → LeavesSpares w again result new
+    pub again_leaves : (result : Result Reply Code) → Stays result → IfOk result (λ reply. FreesSlot w task waited large reply new) → LeavesSpares w again result new
     again_leaves (Ok reply) e f = again_spares w task waited room large reply new f
     again_leaves (Err code) e f = refused_spares _ _ _ _ (keeps_same w new e.0)
 
@@ -76,8 +76,8 @@ module _ (w new : WorldView) (task room : ℕ) (large : Bool) (below : HasTask w
     named_wants code (Ok reply) h = tt
     named_wants code (Err c) h = λ e. (waited, found, h e)
 
-    pub named_leaves : (result : Result Reply Code) → Stays result → IfOk result (λ reply. FreesSlot w large reply new) → LeavesSpares w named result new
-    named_leaves (Ok reply) e f = named_spares w task name room large reply new f
+    pub named_leaves : (result : Result Reply Code) → Stays result → IfOk result (λ reply. FreesSlot w task waited large reply new) → LeavesSpares w named result new
+    named_leaves (Ok reply) e f = named_spares w task name room large reply new waited found f
     named_leaves (Err code) e f = refused_spares _ _ _ _ (keeps_same w new e.0)
 
     pub named_keeps : (result : Result Reply Code) → Stays result → IfOk result (λ reply. TakesInTurn w waited large reply new) → KeepsTurns w named (told_by result) new

@@ -1,6 +1,8 @@
 -- Where the calls that receive want memory, and what they keep for names and messages to come.
-use Rattle.std.proofs.Common.{◌≡◌, ◌≢◌, ℕ, ◌≤◌, ◌+◌, [], length, Ok, refl, sym, ap, subst, arith, inl, inr, true, false, Bool}
-use Rattle.std.specs.Prelude.{MatchBool}
+use Rattle.std.proofs.Common.{◌≡◌, ◌≢◌, ℕ, ◌≤◌, ◌+◌, List, [], length, Ok, Some, refl, sym, ap, subst, arith, inl, inr, true, false, Bool}
+use Rattle.std.specs.Option.{option_and_then}
+use Rattle.std.specs.Prelude.{MatchBool, max}
+use Rattle.name_space.proofs.Keys.{equal_or_not}
 use Rattle.mach_types.specs.declared.calls.Event.{Event}
 use Rattle.mach_types.specs.declared.calls.Reply.{Reply}
 use Rattle.mach_types.specs.declared.calls.Waited.{Waited}
@@ -22,11 +24,13 @@ use Rattle.mach_laws.proofs.Onces.{destroyed_needs}
 use Rattle.copyin_base.specs.Serving.{IsRefused}
 use Rattle.copyin_base.specs.Shows.{SlotsSuffice}
 use Rattle.copyin_base.specs.Stands.{Stands}
-use Rattle.copyin_base.specs.Worlds.{WorldView}
+use Rattle.copyin_base.specs.Wanted.{room_of}
+use Rattle.copyin_base.specs.Worlds.{WorldView, entry_at}
+use Rattle.copyout.specs.Ready.{carried_by}
 use Rattle.copyout.specs.Wanted.{ReturnsSlot}
 use Rattle.notifications.specs.Destroying.{DestroysMessage}
-use Rattle.kernel_core.specs.Receive.{named_guards, taken_by, FreesSlot}
-use Rattle.kernel_core.specs.Wanted.{LeavesSpares}
+use Rattle.kernel_core.specs.Receive.{named_guards, taken_by, waited_at, FreesSlot, IsFrom}
+use Rattle.kernel_core.specs.Wanted.{LeavesSpares, Receives}
 use Rattle.kernel_core.proofs.Freed.{destroyed_frees}
 use Rattle.kernel_core.proofs.Taking.{named_takes, again_takes}
 use Rattle.kernel_core.proofs.Unused.{shown_unused, midway_unused}
@@ -53,66 +57,83 @@ not_short_again w task waited code stands r e = go waited (r.refused stands.stat
     go (Waited.Set s) (inr (not, inr h)) = h.1
 
 -- nothing was taken
-pub none_freed : (w : WorldView) (n : ℕ) → FreesSlot w true (Reply.TooLarge n) w
-none_freed w n = record { rooms = λ task. omega arith; slots = omega arith; uses = omega arith }
+pub none_freed : (w : WorldView) (receiver : ℕ) (waited : Waited) (n : ℕ) → FreesSlot w receiver waited true (Reply.TooLarge n) w
+none_freed w receiver waited n = record { rooms = λ task. (1, inl refl, omega arith); slots = omega arith; uses = omega arith }
 
-pub empty_freed : (w : WorldView) (large : Bool) (waited : Waited) → FreesSlot w large (Reply.Empty waited) w
-empty_freed w large waited = record { rooms = λ task. omega arith; slots = omega arith; uses = omega arith }
+pub empty_freed : (w : WorldView) (receiver : ℕ) (large : Bool) (waited : Waited) → FreesSlot w receiver waited large (Reply.Empty waited) w
+empty_freed w receiver large waited = record { rooms = λ task. (1, inl refl, omega arith); slots = omega arith; uses = omega arith }
 
-pub one_freed : (old new : WorldView) (large : Bool) (bytes : _) → ReturnsSlot old new → new.ledger.unused ≡ old.ledger.unused → FreesSlot old large (Reply.Message bytes) new
-one_freed old new large bytes r unused = record {
-  rooms = λ task. let h = r.rooms task in omega (arith, h);
+pub one_freed : (old new : WorldView) (receiver : ℕ) (waited : Waited) (port : ℕ) (large : Bool) (bytes : List ℕ) → IsFrom old waited port → ReturnsSlot old receiver port new → new.ledger.unused ≡ old.ledger.unused → FreesSlot old receiver waited large (Reply.Message bytes) new
+one_freed old new receiver waited port large bytes from r unused = record {
+  rooms = λ task. elim (equal_or_not task receiver) [
+    | inl same ↦ (
+      length (carried_by r.front),
+      inr (record { is_receiver = same; bytes = bytes; answer = refl; brings = record { port = port; from = from; message = r.front; front = r.waits; count = refl } }),
+      subst (λ (t : ℕ). room_of new t ≤ max (room_of old t) (length (carried_by r.front))) (sym same) r.room,
+    )
+    | inr not ↦ (1, inl refl, let few = r.others task not in omega (arith, few))
+  ];
   slots = let s = r.slots in omega (arith, s);
   uses = let s = r.slots in omega (arith, s, unused);
 }
 
 -- a message was destroyed
-lost_freed : (old new : WorldView) (port n : ℕ) → SlotsSuffice old → DestroysMessage old port new → FreesSlot old false (Reply.TooLarge n) new
-lost_freed old new port n enough d = let f = destroyed_frees old new port enough d in record {
-  rooms = λ task. let same = f.rooms task in omega (arith, same);
+lost_freed : (old new : WorldView) (receiver : ℕ) (waited : Waited) (port n : ℕ) → SlotsSuffice old → DestroysMessage old port new → FreesSlot old receiver waited false (Reply.TooLarge n) new
+lost_freed old new receiver waited port n enough d = let f = destroyed_frees old new port enough d in record {
+  rooms = λ task. let same = f.rooms task in (1, inl refl, omega (arith, same));
   slots = f.slots;
   uses = f.uses;
 }
 
-pub large_freed : (old new : WorldView) (large : Bool) (port n : ℕ) → SlotsSuffice old → MatchBool large (new ≡ old) (DestroysMessage old port new) → FreesSlot old large (Reply.TooLarge n) new
-large_freed old new true port n enough same = subst (λ (x : WorldView). FreesSlot old true (Reply.TooLarge n) x) (sym same) (none_freed old n)
-large_freed old new false port n enough d = lost_freed old new port n enough d
+pub large_freed : (old new : WorldView) (receiver : ℕ) (waited : Waited) (large : Bool) (port n : ℕ) → SlotsSuffice old → MatchBool large (new ≡ old) (DestroysMessage old port new) → FreesSlot old receiver waited large (Reply.TooLarge n) new
+large_freed old new receiver waited true port n enough same = subst (λ (x : WorldView). FreesSlot old receiver waited true (Reply.TooLarge n) x) (sym same) (none_freed old receiver waited n)
+large_freed old new receiver waited false port n enough d = lost_freed old new receiver waited port n enough d
 
 -- what a receipt takes is spare again, but for what it owes
 module _ (old new : WorldView) (s mid : State) (owed : Owed) (l : IsLawful s) (m : MidLawful mid owed) (was : old.ledger.unused ≡ unused_onces s) (is : new.ledger.unused ≡ unused_onces mid) (task room : ℕ) (waited : Waited) where
-  owes_none : (large : Bool) (reply : Reply) → FreesSlot old large reply new → owed ≡ [] → new.ports.spare + length owed ≤ old.ports.spare + taken_by large reply
-  owes_none large reply f none = let spare = f.slots in let zero : length owed ≡ 0 = ap length none in omega (arith, spare, zero)
+  abbrev Spares : Bool → Reply → Type 0
+  Spares large reply = new.ports.spare ≤ old.ports.spare + taken_by large reply
 
-  receipt_slots : (large : Bool) (reply : Reply) → FreesSlot old large reply new → queued mid + taken_by large reply ≡ queued s → Receipt s task waited room large reply mid owed →
-      new.ports.spare + length owed ≤ old.ports.spare + taken_by large reply
-  receipt_slots large (Reply.Message bytes) f counted x = owes_none large (Reply.Message bytes) f x.3
-  receipt_slots large (Reply.Empty told) f counted x = owes_none large (Reply.Empty told) f x.3
-  receipt_slots true (Reply.TooLarge n) f counted x = owes_none true (Reply.TooLarge n) f x.6.1
-  receipt_slots false (Reply.TooLarge n) f counted x =
+  owes_none : (large : Bool) (reply : Reply) → Spares large reply → owed ≡ [] → new.ports.spare + length owed ≤ old.ports.spare + taken_by large reply
+  owes_none large reply spare none = let zero : length owed ≡ 0 = ap length none in omega (arith, spare, zero)
+
+  receipt_slots : (large : Bool) (reply : Reply) → Spares large reply → new.ports.spare + old.ledger.unused ≤ old.ports.spare + new.ledger.unused + taken_by large reply →
+      queued mid + taken_by large reply ≡ queued s → Receipt s task waited room large reply mid owed → new.ports.spare + length owed ≤ old.ports.spare + taken_by large reply
+  receipt_slots large (Reply.Message bytes) spare uses counted x = owes_none large (Reply.Message bytes) spare x.3
+  receipt_slots large (Reply.Empty told) spare uses counted x = owes_none large (Reply.Empty told) spare x.3
+  receipt_slots true (Reply.TooLarge n) spare uses counted x = owes_none true (Reply.TooLarge n) spare x.6.1
+  receipt_slots false (Reply.TooLarge n) spare uses counted x =
       let needs = destroyed_needs s mid owed x.0 x.1 l m (TakesFrom-live s l task waited x.0 x.2) x.6 in
-      let uses = f.uses in omega (arith, needs, uses, counted, was, is)
-  receipt_slots large reply f counted x = absurd x
+      omega (arith, needs, uses, counted, was, is)
+  receipt_slots large reply spare uses counted x = absurd x
 
-freed_spares : (old : WorldView) (event : Event) (large : Bool) (reply : Reply) (new : WorldView) (task room : ℕ) → FreesSlot old large reply new →
-    accepts event reply ≡ 0 → takes_from event reply ≡ taken_by large reply →
-    ((now : ℕ) (s mid : State) (owed : Owed) → Does now s event reply mid owed → (waited : Waited) × Receipt s task waited room large reply mid owed) → LeavesSpares old event (Ok reply) new
-freed_spares old event large reply new task room f none taken does = record {
-  rooms = f.rooms;
+freed_spares : (old : WorldView) (event : Event) (large : Bool) (reply : Reply) (new : WorldView) (receiver room : ℕ) (from : Waited) → FreesSlot old receiver from large reply new →
+    ((task : ℕ) → task ≡ receiver → Receives old event task from) → accepts event reply ≡ 0 → takes_from event reply ≡ taken_by large reply →
+    ((now : ℕ) (s mid : State) (owed : Owed) → Does now s event reply mid owed → (waited : Waited) × Receipt s receiver waited room large reply mid owed) → LeavesSpares old event (Ok reply) new
+freed_spares old event large reply new receiver room from f receives none taken does = record {
+  rooms = λ task. let r = f.rooms task in (
+    r.0,
+    elim r.1 [
+      | inl one ↦ inl one
+      | inr t ↦ inr (record { bytes = t.bytes; answer = ap Ok t.answer; waited = from; receives = receives task t.is_receiver; brings = t.brings })
+    ],
+    r.2,
+  );
   slots = λ before after now s sh d. inl (
       let counted = Does-counted now s event reply d.mid d.owed sh.lawful d.unrefused d.does d.judged in
       let was = shown_unused old s sh before in
       let is = midway_unused now old new d.mid d.owed d.shows after in
       let x = does now s d.mid d.owed d.does in
-      let spare = receipt_slots old new s d.mid d.owed sh.lawful d.shows.lawful was is task room x.0 large reply f (omega (arith, counted, none, taken)) x.1 in
+      let spare = receipt_slots old new s d.mid d.owed sh.lawful d.shows.lawful was is receiver room x.0 large reply f.slots f.uses (omega (arith, counted, none, taken)) x.1 in
       omega (arith, spare, none, taken));
 }
 
-pub named_spares : (old : WorldView) (task name room : ℕ) (large : Bool) (reply : Reply) (new : WorldView) → FreesSlot old large reply new →
-    LeavesSpares old (Event.Receive task name room large) (Ok reply) new
-named_spares old task name room large reply new f =
-    freed_spares old (Event.Receive task name room large) large reply new task room f refl (named_takes task name room large reply) (λ now s mid owed d. (d.0, d.2))
+pub named_spares : (old : WorldView) (task name room : ℕ) (large : Bool) (reply : Reply) (new : WorldView) (waited : Waited) → option_and_then waited_at (entry_at old task name) ≡ Some waited →
+    FreesSlot old task waited large reply new → LeavesSpares old (Event.Receive task name room large) (Ok reply) new
+named_spares old task name room large reply new waited found f =
+    freed_spares old (Event.Receive task name room large) large reply new task room waited f (λ t same. (same, found)) refl (named_takes task name room large reply) (λ now s mid owed d. (d.0, d.2))
 
-pub again_spares : (old : WorldView) (task : ℕ) (waited : Waited) (room : ℕ) (large : Bool) (reply : Reply) (new : WorldView) → FreesSlot old large reply new →
+pub again_spares : (old : WorldView) (task : ℕ) (waited : Waited) (room : ℕ) (large : Bool) (reply : Reply) (new : WorldView) → FreesSlot old task waited large reply new →
     LeavesSpares old (Event.ReceiveAgain task waited room large) (Ok reply) new
 again_spares old task waited room large reply new f =
-    freed_spares old (Event.ReceiveAgain task waited room large) large reply new task room f refl (again_takes task waited room large reply) (λ now s mid owed d. (waited, d))
+    freed_spares old (Event.ReceiveAgain task waited room large) large reply new task room waited f (λ t same. (same, refl)) refl (again_takes task waited room large reply) (λ now s mid owed d. (waited, d))

@@ -1,5 +1,5 @@
 -- What receiving takes from, and what it does to the tables.
-use Rattle.std.specs.Prelude.{◌≡◌, ◌≢◌, ℕ, ◌+◌, ◌<◌, ◌≤◌, Bool, [], length, max, Option, Some, None, false, if◌then◌else◌, Contains}
+use Rattle.std.specs.Prelude.{◌≡◌, ◌≢◌, ℕ, ◌+◌, ◌<◌, ◌≤◌, ◌⊎◌, Bool, List, [], length, max, Option, Some, None, false, if◌then◌else◌, Contains}
 use Rattle.mach_types.specs.declared.calls.Event.{Event}
 use Rattle.mach_types.specs.declared.calls.Reply.{Reply}
 use Rattle.mach_types.specs.declared.calls.Waited.{Waited}
@@ -18,6 +18,7 @@ use Rattle.copyin_base.specs.Posted.{with_posted, IsLeft}
 use Rattle.copyin_base.specs.Shows.{Agrees, HoldersAgree, CarriersAgree, SlotsSuffice, RequestsStand, Shows}
 use Rattle.copyin_base.specs.Wanted.{room_of}
 use Rattle.copyin_base.specs.Worlds.{WorldView, port_at}
+use Rattle.copyout.specs.Ready.{HasFront, carried_by}
 
 -- ---- where from, in each state that the tables show
 
@@ -97,10 +98,26 @@ pub record ReceiptOf (now : ℕ) (old : WorldView) (s : State) (task : ℕ) (wai
 pub record IsReceipt (old : WorldView) (task : ℕ) (waited : Waited) (room : ℕ) (large : Bool) (from : Option ℕ) (reply : Reply) (new : WorldView) : Type 0 where
   pub receipt : (now : ℕ) (s : State) → Shows old s → ReceiptOf now old s task waited room large from reply new
 
--- Room for names grows by one at most, from none. The slot of a message that is taken is spare again, and a spare slot goes with each send-once right
--- that was unused and is no more: in it lies the notice for which the right pays.
-pub record FreesSlot (old : WorldView) (large : Bool) (reply : Reply) (new : WorldView) : Type 0 where
-  pub rooms : (task : ℕ) → room_of new task ≤ max (room_of old task) 1
+-- The message at the front of a port that is taken from so has so many rights.
+pub record Brings (old : WorldView) (waited : Waited) (rights : ℕ) : Type 0 where
+  pub port : ℕ
+  pub from : IsFrom old waited port
+  pub message : Kept
+  pub front : HasFront old port message
+  pub count : rights ≡ length (carried_by message)
+
+-- The receiver got a message, and this task is the receiver.
+pub record TakesRights (old : WorldView) (receiver : ℕ) (waited : Waited) (reply : Reply) (task rights : ℕ) : Type 0 where
+  pub is_receiver : task ≡ receiver
+  pub bytes : List ℕ
+  pub answer : reply ≡ Reply.Message bytes
+  pub brings : Brings old waited rights
+
+-- A task's room for names grows by one at most, from none, and the receiver's to as many as the rights of the message that it gets. The slot of a
+-- message that is taken is spare again, and a spare slot goes with each send-once right that was unused and is no more: in it lies the notice for which
+-- the right pays.
+pub record FreesSlot (old : WorldView) (receiver : ℕ) (waited : Waited) (large : Bool) (reply : Reply) (new : WorldView) : Type 0 where
+  pub rooms : (task : ℕ) → (number : ℕ) × ((number ≡ 1) ⊎ TakesRights old receiver waited reply task number) × (room_of new task ≤ max (room_of old task) number)
   pub slots : new.ports.spare ≤ old.ports.spare + taken_by large reply
   pub uses : new.ports.spare + old.ledger.unused ≤ old.ports.spare + new.ledger.unused + taken_by large reply
 

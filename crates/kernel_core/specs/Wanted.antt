@@ -1,5 +1,5 @@
 -- Where a step may want memory, and what it keeps for names and messages to come.
-use Rattle.std.specs.Prelude.{◌≡◌, ℕ, ◌+◌, ◌≤◌, ◌⊎◌, max, [], length, Some, Result, Ok, Err, IfOk, IfErr}
+use Rattle.std.specs.Prelude.{◌≡◌, ℕ, ◌+◌, ◌≤◌, ◌⊎◌, max, List, [], length, Some, Result, Ok, Err, IfOk, IfErr}
 use Rattle.std.specs.Option.{option_and_then}
 use Rattle.mach_types.specs.declared.calls.Event.{Event}
 use Rattle.mach_types.specs.declared.calls.Reply.{Reply}
@@ -22,7 +22,7 @@ use Rattle.transfer.specs.Wanted.{WantsToInsert, WantsToExtract}
 use Rattle.notifications.specs.Wanted.{WantsToRequest}
 use Rattle.kernel_core_base.specs.Wanted.{MayLackMemory}
 use Rattle.kernel_core.specs.InTurn.{KeepsTurns, CompletesInTurn, told_by}
-use Rattle.kernel_core.specs.Receive.{HasMessage, waited_at}
+use Rattle.kernel_core.specs.Receive.{Brings, HasMessage, waited_at}
 
 -- ---- want of memory
 
@@ -56,11 +56,28 @@ pub record Wanted (old : WorldView) (event : Event) (reply : Reply) : Type 0 whe
 
 -- ---- room for names and messages
 
--- A task's room for names grows by one at most, from none. Slots are made only as messages that are queued after the step, and send-once rights
--- that none of them goes by, need one each: a slot is used by each message that is accepted and each notice that is sent, and is spare again where
--- a message is given or destroyed.
-pub record Spares (old new : WorldView) : Type 0 where
-  pub rooms : (task : ℕ) → room_of new task ≤ max (room_of old task) 1
+-- A call of this task receives, and may take from this.
+abbrev pub Receives : WorldView → Event → (task : ℕ) → Waited → Type 0
+Receives w (Event.Receive receiver name room large) task waited = (task ≡ receiver) × (option_and_then waited_at (entry_at w receiver name) ≡ Some waited)
+Receives w (Event.ReceiveAgain receiver from room large) task waited = (task ≡ receiver) × (waited ≡ from)
+Receives w event task waited = ⊥
+
+-- The task gets a message that has so many rights.
+pub record GetsRights (old : WorldView) (event : Event) (result : Result Reply Code) (task rights : ℕ) : Type 0 where
+  pub bytes : List ℕ
+  pub answer : result ≡ Ok (Reply.Message bytes)
+  pub waited : Waited
+  pub receives : Receives old event task waited
+  pub brings : Brings old waited rights
+
+-- A task's room for names grows by one at most, from none; and that of a task that gets a message, to as many as the message has rights.
+abbrev pub LeavesRooms : WorldView → Event → Result Reply Code → WorldView → Type 0
+LeavesRooms old event result new = (task : ℕ) → (number : ℕ) × ((number ≡ 1) ⊎ GetsRights old event result task number) × (room_of new task ≤ max (room_of old task) number)
+
+-- Room for names is left so. Slots are made only as messages that are queued after the step, and send-once rights that none of them goes by, need one
+-- each: a slot is used by each message that is accepted and each notice that is sent, and is spare again where a message is given or destroyed.
+pub record Spares (old : WorldView) (event : Event) (reply : Reply) (new : WorldView) : Type 0 where
+  pub rooms : LeavesRooms old event (Ok reply) new
   pub slots : (s t : State) → Shows old s → Shows new t → MakesAsNeeded old.ports.spare new.ports.spare s t
 
 -- ---- what a call promises, before the end of its step
@@ -80,7 +97,7 @@ LeavesSlots old event (Err code) new = new.ports.spare ≤ max old.ports.spare n
 
 -- What it leaves for what is to come.
 pub record LeavesSpares (old : WorldView) (event : Event) (result : Result Reply Code) (new : WorldView) : Type 0 where
-  pub rooms : (task : ℕ) → room_of new task ≤ max (room_of old task) 1
+  pub rooms : LeavesRooms old event result new
   pub slots : LeavesSlots old event result new
 
 -- The call's part of a step is done or refused as the machine says, wants and leaves no more than that, keeps the turns of a set's members, and takes

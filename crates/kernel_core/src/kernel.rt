@@ -146,7 +146,7 @@ impl Kernel {
     ///
     /// A refusal returns its code and leaves the state that the kernel shows. So does a call that is out of
     /// memory, and only where the call may want some: `specs/Wanted` says where. Room for one name that was
-    /// made first may stay.
+    /// made first may stay. Where a message is received, room for as many names as it has rights may stay.
     ///
     /// A message slot is spare for each unused send-once right, so that what is sent to the right has one.
     /// Slots are made where fewer are spare, and only for an accepted message and for send-once rights that
@@ -160,7 +160,7 @@ impl Kernel {
         ensures answers { Answers self.old.tables event.now result self.new.tables }
         ensures turns { TakesTurns self.old.tables event.now result self.new.tables self.new.turns }
         ensures wanted { Wanted self.old.tables event.now result }
-        ensures spares { Spares self.old.tables self.new.tables }
+        ensures spares { Spares self.old.tables event.now result self.new.tables }
         ensures unused { (s : State) → Shows self.new.tables s → self.new.tables.ledger.unused ≡ unused_onces s }
         ensures in_turn { StepsInTurn self.old.tables event.now result self.new.tables }
         ensures touches { Touches self.old.tables event.now result self.new.tables self.new.touched }

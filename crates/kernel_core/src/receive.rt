@@ -306,7 +306,7 @@ fn take(
     ensures ok { IfOk result (λ reply. IsReceipt world.old task origin.waited buffer.room buffer.large origin.ready reply world.new) }
     ensures err { IfErr result (λ code. (world.new ≡ world.old) × StaysFor world.old task origin.waited buffer.room (msg_number code)) }
     ensures wanted { IfErr result (λ code. msg_number code ≡ msg_number msg.ReceiveBodyErrorMemory → WantsToTake world.old task origin.waited) }
-    ensures spares { IfOk result (λ reply. FreesSlot world.old buffer.large reply world.new) }
+    ensures spares { IfOk result (λ reply. FreesSlot world.old task origin.waited buffer.large reply world.new) }
     ensures turns { IfOk result (λ reply. TakesInTurn world.old origin.waited buffer.large reply world.new) }
     ensures tells { IfOk result (λ reply. told.new ≡ by_length world.old buffer.large origin.ready reply told.old) }
 {
@@ -352,7 +352,7 @@ fn receive_from(
     ensures ok { IfOk result (λ reply. IsReceipt world.old task origin.waited buffer.room buffer.large origin.ready reply world.new) }
     ensures err { IfErr result (λ code. (world.new ≡ world.old) × StaysFor world.old task origin.waited buffer.room (code_number code)) }
     ensures wanted { IfErr result (λ code. code_number code ≡ msg_number msg.ReceiveBodyErrorMemory → WantsToTake world.old task origin.waited) }
-    ensures spares { IfOk result (λ reply. FreesSlot world.old buffer.large reply world.new) }
+    ensures spares { IfOk result (λ reply. FreesSlot world.old task origin.waited buffer.large reply world.new) }
     ensures turns { IfOk result (λ reply. TakesInTurn world.old origin.waited buffer.large reply world.new) }
     ensures tells { IfOk result (λ reply. told.new ≡ with_message task reply (by_length world.old buffer.large origin.ready reply told.old)) }
 {

@@ -1,6 +1,6 @@
 //! What lies in a queue.
-ghost use Rattle.std.specs.Prelude.{◌≡◌, ℕ, true, length, slice_get, IfOk, OnErr};
-ghost use Rattle.std.specs.Option.{option_and_then};
+ghost use Rattle.std.specs.Prelude.{◌≡◌, ℕ, ◌+◌, true, length, slice_get, IfOk, OnErr};
+ghost use Rattle.std.specs.Option.{option_and_then, option_to_list};
 ghost use Rattle.tables_base.specs.Kept.{receive_of, IsMessageOf, Keeps, Makes};
 ghost use Rattle.tables_base.specs.Queued.{notice_kept, notice_of};
 ghost use Rattle.mach_model.specs.Notices.{notice_message};
@@ -76,6 +76,19 @@ impl Queued {
     {
         match &self.slot {
             Slot::Sent(message) => message.rights().as_slice().len(),
+            Slot::Told(notice) => usize::from(notice.carried().is_some()),
+        }
+    }
+
+    /// How many rights it carries, with the reply right.
+    pub fn count_carried(&self) -> usize
+        ensures { result ≡ length (option_to_list self.now.reply) + length self.now.rights }
+    {
+        match &self.slot {
+            Slot::Sent(message) => {
+                let body = message.rights().as_slice().len();
+                body + usize::from(message.reply().is_some())
+            }
             Slot::Told(notice) => usize::from(notice.carried().is_some()),
         }
     }

@@ -1,12 +1,12 @@
-use Rattle.std.proofs.Common.{ℕ, ◌≤◌, ap, sym, subst, length, arith}
+use Rattle.std.proofs.Common.{ℕ, ◌≤◌, ap, sym, subst, length, arith, inr}
 use Rattle.std.specs.Prelude.{min}
 use Rattle.mach_types.specs.Numbers.{most_bytes}
 use Rattle.copyin_base.specs.Kept.{Kept}
 use Rattle.copyout.specs.Bare.{IsBare}
-use Rattle.copyout.specs.Ready.{MayHave, MayReceive}
+use Rattle.copyout.specs.Ready.{MayHaveJust, MayReceive}
 use Rattle.copyout.proofs.Delivered.{roomier_own, roomier_number}
 use Rattle.copyout.proofs.Fronts.{note_returns}
-use Rattle.copyout.proofs.Rooms.{ready_after, front_after, judged_front, returns_slot, names_enough, same_front, wants_room}
+use Rattle.copyout.proofs.Rooms.{may_have, ready_after, front_after, judged_front, returns_slot, names_enough, room_lacks, same_front}
 use Rattle.copyout.proofs.bare.receive_bare.Goals as goal
 
 pub judge_bare-requires-clause-few : goal.judge_bare-requires-clause-few
@@ -21,7 +21,7 @@ pub take_bare-requires-clause-ready : goal.take_bare-requires-clause-ready
 take_bare-requires-clause-ready c =
     let b = c.requires.bare in
     let may : MayReceive c.args.world.now c.args.task c.args.found.port c.args.room c.count_own.result =
-    record { front = b.0; waits = b.1; may = subst (λ (n : ℕ). MayHave c.args.world.now c.args.task b.0 c.args.room n) (sym c.count_own.ensures) (c.in_ok-own.ensures.ok.1 b.0 b.2) } in (
+    record { front = b.0; waits = b.1; may = may_have c.args.world.now c.args.task c.args.room c.count_own.result b.0 (subst (λ (n : ℕ). MayHaveJust c.args.world.now c.args.task b.0 c.args.room n) (sym c.count_own.ensures) (c.in_ok-own.ensures.ok.1 b.0 b.2)) } in (
       length b.0.rights,
       ready_after c.args.world.now c.make_room.new.world c.args.task c.args.found.port c.args.room (length b.0.rights) c.count_own.result c.requires.waits may c.in-Ok.ensures.ok (omega arith),
     )
@@ -55,8 +55,8 @@ returns-in-Ok-clause-kept c =
     let b = c.requires.bare in
     let x = c.take_bare.ensures in
     let may : MayReceive c.args.world.now c.args.task c.args.found.port c.args.room c.count_own.result =
-    record { front = b.0; waits = b.1; may = subst (λ (n : ℕ). MayHave c.args.world.now c.args.task b.0 c.args.room n) (sym c.count_own.ensures) (c.in_ok-own.ensures.ok.1 b.0 b.2) } in
-    note_returns c.args.world.now x.0 c.take_bare.new.world c.args.found.port x.1.takes.front
+    record { front = b.0; waits = b.1; may = may_have c.args.world.now c.args.task c.args.room c.count_own.result b.0 (subst (λ (n : ℕ). MayHaveJust c.args.world.now c.args.task b.0 c.args.room n) (sym c.count_own.ensures) (c.in_ok-own.ensures.ok.1 b.0 b.2)) } in
+    note_returns c.args.world.now x.0 c.take_bare.new.world c.args.task c.args.found.port x.1.takes.front
     (returns_slot c.args.world.now c.make_room.new.world x.0 c.args.task c.args.found.port c.args.room c.count_own.result c.args.local c.take_bare.result may c.in-Ok.ensures.ok x.1)
     x.2
 
@@ -69,6 +69,5 @@ returns-in-Err-clause-err c =
 pub returns-in-Err-clause-wanted : goal.returns-in-Err-clause-wanted
 returns-in-Err-clause-wanted c =
     let b = c.requires.bare in
-    let may : MayReceive c.args.world.now c.args.task c.args.found.port c.args.room c.count_own.result =
-    record { front = b.0; waits = b.1; may = subst (λ (n : ℕ). MayHave c.args.world.now c.args.task b.0 c.args.room n) (sym c.count_own.ensures) (c.in_ok-own.ensures.ok.1 b.0 b.2) } in
-    λ is. wants_room c.args.world.now c.args.task c.args.found.port c.args.room c.count_own.result may c.in-Err.ensures.lacks
+    let may : MayHaveJust c.args.world.now c.args.task b.0 c.args.room c.count_own.result = subst (λ (n : ℕ). MayHaveJust c.args.world.now c.args.task b.0 c.args.room n) (sym c.count_own.ensures) (c.in_ok-own.ensures.ok.1 b.0 b.2) in
+    λ is. record { front = b.0; waits = b.1; wanted = inr (room_lacks c.args.world.now c.args.task b.0 may.space _ may.there may.needs may.names c.in-Err.ensures.lacks) }

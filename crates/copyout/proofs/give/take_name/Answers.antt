@@ -1,6 +1,6 @@
-use Rattle.std.proofs.Common.{◌≡◌, ◌<◌, sym, ap, subst, refl, ◌∙◌, arith}
+use Rattle.std.proofs.Common.{sym, ap, subst, arith}
 use Rattle.std.specs.FinMap as map
-use Rattle.mach_types.specs.Numbers.{kind_sent, most_names}
+use Rattle.mach_types.specs.Numbers.{kind_sent}
 use Rattle.name_space.specs.declared.Entry.{Entry}
 use Rattle.name_space.specs.Names.{SpaceView, IsFreshFor}
 use Rattle.copyin_base.specs.Changes.{CanInsertFresh, InsertsFresh}

@@ -36,7 +36,8 @@ returns-clause-serves c =
 
 pub returns-clause-spares : goal.returns-clause-spares
 returns-clause-spares c =
-    named_spares c.args.world.now c.args.task c.args.name c.args.buffer.room c.args.buffer.large c.in_ok-reply.reply c.take.new.world c.in_ok-reply.ensures.spares
+    let x = rw c.in-Port.is at c.in_ok-waited.ensures in
+    named_spares c.args.world.now c.args.task c.args.name c.args.buffer.room c.args.buffer.large c.in_ok-reply.reply c.take.new.world (Waited.Port c.in-Port.port) x.found c.in_ok-reply.ensures.spares
 
 pub returns-in_err-waited-clause-serves : goal.returns-in_err-waited-clause-serves
 returns-in_err-waited-clause-serves c =

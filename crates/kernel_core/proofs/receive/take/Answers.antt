@@ -46,8 +46,9 @@ returns-in-Err-Memory-clause-err c =
 pub returns-in-Ok-clause-spares : goal.returns-in-Ok-clause-spares
 returns-in-Ok-clause-spares c =
     let x = c.in-Ok.ensures.ok in
-    freed_after c.args.world.now c.receive.new.world c.pass_turn.new.world c.args.buffer.large _ (passes-in c.receive.new.world c.pass_turn.new.world c.args.origin.waited c.in-Some.port c.pass_turn.ensures)
-    (one_freed c.args.world.now c.receive.new.world c.args.buffer.large c.in-Ok.bytes c.in-Ok.ensures.kept
+    freed_after c.args.world.now c.receive.new.world c.pass_turn.new.world c.args.task c.args.origin.waited c.args.buffer.large _ (passes-in c.receive.new.world c.pass_turn.new.world c.args.origin.waited c.in-Some.port c.pass_turn.ensures)
+    (one_freed c.args.world.now c.receive.new.world c.args.task c.args.origin.waited c.in-Some.port c.args.buffer.large c.in-Ok.bytes
+    (ready_one c.args.world.now c.args.origin.waited c.args.origin.ready c.in-Some.port c.in-Some.is c.requires.ready).from c.in-Ok.ensures.kept
     (message_unused c.args.world.now x.1 x.2 c.receive.new.world c.args.task c.in-Some.port x.0 c.name_of-name.result c.in-Ok.bytes x.3 x.4 x.6))
 
 pub returns-in-Err-Memory-clause-wanted : goal.returns-in-Err-Memory-clause-wanted
@@ -69,7 +70,7 @@ pub returns-in-Err-TooLarge-clause-spares : goal.returns-in-Err-TooLarge-clause-
 returns-in-Err-TooLarge-clause-spares c =
     let x = rw c.in-Err-TooLarge.field-0-is at c.in-Err-TooLarge.ensures.err in
     let new = c.lose_or_keep.new.world in
-    passed_freed c.args.world.now new c.args.origin.waited c.args.buffer.large c.in-Some.port c.in-Err-TooLarge.length c.requires.stands.shown.slots
+    passed_freed c.args.world.now new c.args.task c.args.origin.waited c.args.buffer.large c.in-Some.port c.in-Err-TooLarge.length c.requires.stands.shown.slots
     (subst (λ (v : WorldView). MatchBool c.args.buffer.large (new ≡ v) ((mid : WorldView) × PassesIn v c.args.origin.waited c.in-Some.port mid × DestroysMessage mid c.in-Some.port new)) x.0 c.lose_or_keep.ensures.ends)
 
 pub returns-in_default-clause-turns : goal.returns-in_default-clause-turns

@@ -52,12 +52,12 @@ returns-in-Ok-clause-wanted c = subst (λ (w : WorldView). Wanted w c.args.event
 
 pub returns-in-Ok-clause-spares : goal.returns-in-Ok-clause-spares
 returns-in-Ok-clause-spares c =
-    subst (λ (w : WorldView). Spares w c.end_step-turns.new.world) (ap (λ (k : KernelView). k.tables) c.self.view_is)
+    subst (λ (w : WorldView). Spares w c.args.event.now c.in-Ok.reply c.end_step-turns.new.world) (ap (λ (k : KernelView). k.tables) c.self.view_is)
     (acted_spares _ _ _ _ _ _ c.self.invariant c.in-Ok.ensures.performs.serves c.end_step-turns.ensures.settles c.end_step-turns.ensures.rooms c.in-Ok.ensures.performs.spares c.check_slots.ensures c.check_slots-in-Ok.ensures c.check_slots-in-Ok-2.ensures)
 
 pub returns-in-Err-clause-spares : goal.returns-in-Err-clause-spares
 returns-in-Err-clause-spares c =
-    subst (λ (w : WorldView). Spares w c.act.new.world) (ap (λ (k : KernelView). k.tables) c.self.view_is) (declined_spares _ _ _ _ c.in-Err.ensures.performs.serves c.in-Err.ensures.performs.spares c.check_slots-in-Err.ensures)
+    subst (λ (w : WorldView). Spares w c.args.event.now (Reply.Code c.number.result) c.act.new.world) (ap (λ (k : KernelView). k.tables) c.self.view_is) (declined_spares _ _ _ _ _ c.in-Err.ensures.performs.serves c.in-Err.ensures.performs.spares c.check_slots-in-Err.ensures)
 
 pub returns-in-Ok-clause-unused : goal.returns-in-Ok-clause-unused
 returns-in-Ok-clause-unused c = λ s sh. shown_unused _ s sh c.check_slots-in-Ok-2.ensures
