@@ -7,11 +7,11 @@ use kernel_lock::Entry;
 use mach_say_base::{File, write_labels, write_stop};
 use mach_say_play::{Play, Stop, profile_of};
 use mach_say_syntax::{Storyboard, read_storyboard};
-use mach_show_base::{Fault, reason_of, report};
+use mach_show_base::{Fault, fault_of, report};
 use mach_words::Text;
 use std::alloc::Global;
 use std::io;
-use std::io::{ErrorKind, Read, Write};
+use std::io::{Read, Write};
 use std::rt::Stderr;
 use tracer::write_history;
 use tracer_base::write_call;
@@ -56,14 +56,6 @@ pub fn perform<R: Read, W: Write>(
             perform_text(alloc, job, &File { name, text }, out, err)
         }
         Err(error) => report(fault_of(name, &error), err),
-    }
-}
-
-/// Returns the fault for an error of reading the file of this name. Constant time.
-pub fn fault_of<'a>(name: &'a str, error: &io::Error) -> Fault<'a> {
-    match error.kind() {
-        ErrorKind::OutOfMemory => Fault::OutOfMemory,
-        _ => Fault::CannotRead(name, reason_of(error)),
     }
 }
 

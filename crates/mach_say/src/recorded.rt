@@ -1,9 +1,8 @@
 //! The job that makes a storyboard of a history.
 ghost use Rattle.std.specs.Prelude.{◌≡◌, ◌≤◌};
 
-use crate::job::fault_of;
 use mach_say_from::{TellFault, tell};
-use mach_show_base::{Fault, report};
+use mach_show_base::{Fault, fault_of, report};
 use mach_words::{Labels, Text};
 use std::alloc::Global;
 use std::io::{Read, Write};

@@ -11,21 +11,17 @@ mod naming;
 mod said;
 mod state;
 
-use clap::error::ErrorKind;
 use command_line::{Request, read_words};
 use job::{Job, Work, perform};
-use mach_show_base::{Fault, read_labels, reason_of, report};
+use mach_show_base::{Fault, USAGE, enter_labels, reason_of, report, report_matches, report_words};
 use mach_words::Labels;
 use naming::job_of;
 use said::show_said;
 use std::fs::File;
-use std::io::{BufWriter, Read, Write};
+use std::io::{BufWriter, Read};
 use std::process::ExitCode;
-use std::rt::Stderr;
 use std::{env, io};
 
-/// The status for a wrong command line.
-const USAGE: u8 = 2;
 /// How many bytes of output are buffered.
 const WRITTEN_AT_ONCE: usize = 65_536;
 
@@ -37,7 +33,7 @@ fn main(rt: HostRuntime) -> ExitCode {
 fn answer(rt: &HostRuntime) -> u8 {
     match words_of(rt) {
         Ok(words) => answer_words(rt, words.as_slice()),
-        Err(error) => report_words(&error, &mut rt.stderr()),
+        Err(error) => report_words("mach_show", &error, &mut rt.stderr()),
     }
 }
 
@@ -45,7 +41,7 @@ fn answer(rt: &HostRuntime) -> u8 {
 fn answer_words(rt: &HostRuntime, words: &[String]) -> u8 {
     match read_words(rt.alloc(), words) {
         Ok(request) => answer_request(rt, &request),
-        Err(error) => answer_without(rt, &error),
+        Err(error) => report_matches(&error, &mut rt.stdout(), &mut rt.stderr()),
     }
 }
 
@@ -55,33 +51,6 @@ fn answer_request(rt: &HostRuntime, request: &Request<'_>) -> u8 {
         Some(name) => show_said(rt, request, name),
         None => name_things(rt, request),
     }
-}
-
-/// Writes what clap says of words that name no job: help or the version, or what is wrong with them.
-fn answer_without(rt: &HostRuntime, error: &clap::Error) -> u8 {
-    if error.use_stderr() {
-        return report_usage(error, &mut rt.stderr());
-    }
-    let _ = write!(rt.stdout(), "{error}");
-    0
-}
-
-/// Writes to `err` why there are no words: out of memory, or one of them isn't UTF-8.
-fn report_words(error: &io::Error, err: &mut Stderr) -> u8 {
-    if error.kind() == io::ErrorKind::OutOfMemory {
-        return report(Fault::OutOfMemory, err);
-    }
-    let _ = err.write_all(b"error: a word is not UTF-8\n\nUsage: mach_show <COMMAND>\n");
-    USAGE
-}
-
-/// Writes to `err` why the words name no job.
-fn report_usage(error: &clap::Error, err: &mut Stderr) -> u8 {
-    if error.kind() == ErrorKind::OutOfMemory {
-        return report(Fault::OutOfMemory, err);
-    }
-    let _ = write!(err, "{error}");
-    USAGE
 }
 
 /// Returns the words of the command line, the program's name first.
@@ -95,21 +64,6 @@ fn name_things(rt: &HostRuntime, request: &Request<'_>) -> u8 {
     match enter_labels(rt, request.labels, &mut labels) {
         Ok(()) => choose(rt, request, &labels),
         Err(fault) => report(fault, &mut rt.stderr()),
-    }
-}
-
-/// Enters the labels of the file of this name. Without a name there are none.
-fn enter_labels<'a>(
-    rt: &HostRuntime,
-    name: Option<&'a str>,
-    labels: &mut Labels,
-) -> Result<(), Fault<'a>> {
-    let Some(name) = name else {
-        return Ok(());
-    };
-    match File::open(rt, name) {
-        Ok(mut file) => read_labels(rt.alloc(), name, &mut file, labels),
-        Err(error) => Err(Fault::CannotRead(name, reason_of(&error))),
     }
 }
 

@@ -2,12 +2,12 @@
 use crate::command_line::Request;
 use crate::job::Work;
 use crate::naming::job_of;
-use crate::{USAGE, start};
+use crate::start;
 use mach_say_base::{File as Said, Recorded, record};
-use mach_show_base::{Fault, reason_of, report};
+use mach_show_base::{Fault, USAGE, fault_of, reason_of, report};
 use mach_words::Text;
 use std::fs::File;
-use std::io::{ErrorKind, Read, Write};
+use std::io::{Read, Write};
 use std::rt::Stderr;
 
 /// Runs the storyboard in the file of this name, does the request's job on its history, and returns the program's status.
@@ -30,8 +30,7 @@ fn read_said<'a>(rt: &HostRuntime, name: &'a str, text: &mut Vec<u8>) -> Result<
     };
     match file.read_to_end(text) {
         Ok(_) => Ok(()),
-        Err(error) if error.kind() == ErrorKind::OutOfMemory => Err(Fault::OutOfMemory),
-        Err(error) => Err(Fault::CannotRead(name, reason_of(&error))),
+        Err(error) => Err(fault_of(name, &error)),
     }
 }
 

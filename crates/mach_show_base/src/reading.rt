@@ -4,7 +4,6 @@ use crate::output::Output;
 use mach_words::{LabelFault, Labels};
 use memchr::memchr;
 use std::alloc::Global;
-use std::fs::File;
 use std::io;
 use std::io::{BufRead, BufReader, ErrorKind, Read, Write};
 
@@ -45,8 +44,8 @@ pub(crate) fn read_line<'a, R: Read>(
     }
 }
 
-/// Returns the fault for an error of the file.
-fn fault_of<'a>(name: &'a str, error: &io::Error) -> Fault<'a> {
+/// Returns the fault for an error of reading the file of this name. Constant time.
+pub fn fault_of<'a>(name: &'a str, error: &io::Error) -> Fault<'a> {
     match error.kind() {
         ErrorKind::OutOfMemory => Fault::OutOfMemory,
         _ => Fault::CannotRead(name, reason_of(error)),
@@ -58,10 +57,10 @@ fn fault_of<'a>(name: &'a str, error: &io::Error) -> Fault<'a> {
 /// Returns `BadLabels` for the first line that is no label or labels something twice, `CannotRead` if the file can't be
 /// read, and `OutOfMemory`. The labels are then of no further use. Linear in the file; takes memory for the labels and the
 /// longest line.
-pub fn read_labels<'a>(
+pub fn read_labels<'a, R: Read>(
     alloc: Global,
     name: &'a str,
-    file: &mut File,
+    file: &mut R,
     labels: &mut Labels,
 ) -> Result<(), Fault<'a>> {
     let mut line = Vec::new(alloc);
@@ -72,9 +71,9 @@ pub fn read_labels<'a>(
 }
 
 /// Enters the labels of the lines that the reader has.
-fn fill_from<'a>(
+fn fill_from<'a, R: Read>(
     name: &'a str,
-    reader: &mut BufReader<&mut File>,
+    reader: &mut BufReader<&mut R>,
     line: &mut Vec<u8>,
     labels: &mut Labels,
 ) -> Result<(), Fault<'a>> {
