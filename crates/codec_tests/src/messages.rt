@@ -3,7 +3,10 @@ ghost use Rattle.std.specs.Prelude.{◌≡◌, ◌<◌, ◌^◌, length};
 ghost use Rattle.message_codec.specs.Spans.{word_count};
 
 use mach_types::{MsgReturn, Name};
-use message_codec::{Header, Lone, Parsed, PortWord, Span, Spans, parse, parse_lone, put_received};
+use message_codec::{
+    Header, Parsed, PortWord, Short, ShortKind, ShortRight, Span, Spans, parse, parse_short,
+    put_received,
+};
 use smallvec::SmallVec;
 use std::alloc::{AllocError, Global};
 
@@ -200,14 +203,14 @@ fn finds_port_words(rt: HostRuntime) {
 }
 
 // A message of one port word and nothing else.
-const LONE: [u8; 32] = [
+const ONE_RIGHT: [u8; 32] = [
     0x14, 0, 0, 0x80, 0x20, 0, 0, 0, 1, 0, 0, 0, 0, 0, 0, 0, 0, 0, 0, 0, 7, 0, 0, 0, 0x11, 0x20, 1,
     0x10, 9, 0, 0, 0,
 ];
 
 // Where another byte makes it another message, or none: another destination, one to answer with, raw bytes,
 // a name where there is none to answer with; and another descriptor.
-const NOT_LONE: [(usize, u8); 8] = [
+const NO_ONE_RIGHT: [(usize, u8); 8] = [
     (0, 0x16),
     (1, 0x12),
     (3, 0),
@@ -218,36 +221,43 @@ const NOT_LONE: [(usize, u8); 8] = [
     (27, 0x30),
 ];
 
-fn is_lone_with(at: usize, byte: u8) -> bool {
-    let mut bytes = LONE;
+fn is_one_right_with(at: usize, byte: u8) -> bool {
+    let mut bytes = ONE_RIGHT;
     if let Some(place) = bytes.get_mut(at) {
         *place = byte;
     }
-    parse_lone(&bytes).is_some()
+    parse_short(&bytes, ShortKind::Body).is_some()
 }
 
 #[test]
-fn reads_a_lone_port_word(rt: HostRuntime) {
-    let lone = Lone {
-        remote_kind: 20,
-        remote: Name::new(1),
-        id: 7,
-        word: PortWord {
-            disposition: 17,
-            name: Name::new(9),
-        },
+fn reads_a_body_of_one_right(rt: HostRuntime) {
+    let word = PortWord {
+        disposition: 17,
+        name: Name::new(9),
     };
-    assert!(rt; parse_lone(&LONE) == Some(lone));
-    assert!(rt; has_spans(rt.alloc(), &LONE, &[Span::lone(17)]));
+    let short = Short {
+        destination: PortWord {
+            disposition: 20,
+            name: Name::new(1),
+        },
+        id: 7,
+        right: Some(ShortRight::Body(word)),
+    };
+    assert!(rt; ShortKind::of(&ONE_RIGHT) == ShortKind::Body);
+    assert!(rt; parse_short(&ONE_RIGHT, ShortKind::Body) == Some(short));
+    assert!(rt; has_spans(rt.alloc(), &ONE_RIGHT, &[Span::of_one_word(17)]));
 }
 
 #[test]
-fn reads_no_other_as_a_lone_port_word(rt: HostRuntime) {
-    for (at, byte) in &NOT_LONE {
-        assert!(rt; !is_lone_with(*at, *byte), "at {at}");
+fn reads_no_other_as_a_body_of_one_right(rt: HostRuntime) {
+    for (at, byte) in &NO_ONE_RIGHT {
+        assert!(rt; !is_one_right_with(*at, *byte), "at {at}");
     }
-    assert!(rt; is_lone_with(24, 16) && is_lone_with(24, 21) && !is_lone_with(24, 22));
-    assert!(rt; parse_lone(&LONE[..28]).is_none() && parse_lone(&SENT).is_none());
+    assert!(rt;
+        is_one_right_with(24, 16) && is_one_right_with(24, 21) && !is_one_right_with(24, 22)
+    );
+    assert!(rt; parse_short(&ONE_RIGHT[..28], ShortKind::Body).is_none());
+    assert!(rt; parse_short(&SENT, ShortKind::Body).is_none());
 }
 
 // The message as its receiver gets it.

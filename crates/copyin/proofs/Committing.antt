@@ -19,10 +19,7 @@ use Rattle.message_codec.specs.declared.words.PortWord.{PortWord}
 use Rattle.message_codec.specs.declared.text.Parsed.{Parsed}
 use Rattle.message_codec.specs.Words.{body_words, items_words}
 use Rattle.message_codec.specs.declared.spans.Span.{Span}
-use Rattle.message_codec.specs.declared.text.Lone.{Lone}
-use Rattle.message_codec.specs.declared.text.Request.{Request}
-use Rattle.message_codec.specs.Parses.{Parses}
-use Rattle.message_codec.specs.Plain.{parsed_request, parsed_lone, lone_span}
+use Rattle.message_codec.specs.Short.{one_word_span}
 use Rattle.message_codec.specs.Spans.{spans_at, body_spans}
 use Rattle.rights.specs.declared.RightKind.{RightKind}
 use Rattle.rights.specs.declared.RightKind.TheVariants.{Send, SendOnce}
@@ -51,20 +48,20 @@ use Rattle.dispositions.specs.declared.Copied.{Copied}
 use Rattle.dispositions.specs.Copies.{copied_from}
 use Rattle.copyin.specs.Copies.{ledger_copied, CopiesRight, ports_copied, ledger_queued}
 use Rattle.copyin.specs.Plans.{ChangesWord, ChangesWords, destination_word, reply_words, Judged, Commits, option_list, made_in}
-use Rattle.copyin.specs.declared.judge.Plan.{Plan}
-use Rattle.copyin.specs.Judging.{CopiesWord, CopiesReply, made_by_reply, made_by_all, CopiesBody}
+use Rattle.copyin.specs.Judging.{CopiesWord, CopiesReply, made_by_reply, made_by_all}
 use Rattle.copyin.specs.Loops.{HoldsRights}
-use Rattle.copyin.specs.Planned.{CanGo, CopiesAll, CanHoldAll, IsPlan, AreWords}
+use Rattle.copyin.specs.Planned.{CanGo, CopiesAll, CanHoldAll, IsPlan, PlanView}
+use Rattle.copyin.specs.Short.{CopiesBeside, IsShortPlan, body_word, reply_word, short_view}
+use Rattle.copyin.specs.declared.short.ShortPlan.{ShortPlan}
 use Rattle.copyin.proofs.Going.{go_on}
-use Rattle.copyin.proofs.Judging.{by_name, goes_by_name, not_equal, word_given, number_of}
+use Rattle.copyin.proofs.Judging.{by_name, goes_by_name, word_given, number_of}
 use Rattle.copyin.proofs.Holding.{receive_is, held_spaces, held_spare, held_ledger}
 use Rattle.copyin.proofs.Keeping.{keeps, live_copied, spare_copied}
 use Rattle.copyin.proofs.Copying.{words_none_lost}
 use Rattle.copyin.specs.Slots.{once_made_by_mark, once_made_by, once_made_by_reply, once_made_by_all, own_slot, slots_for}
 use Rattle.copyin.specs.declared.judge.Head.{Head}
 use Rattle.copyin.specs.declared.judge.Rights.{Rights}
-use Rattle.copyin.specs.declared.judge.Words.{Words}
-use Rattle.copyin.specs.Goes.{IsHead, IsBare, message_with}
+use Rattle.copyin.specs.Goes.{IsHead, message_with}
 
 -- ---- A message that goes by a send-once right: once all its rights went, its port has one that no queued message goes by.
 
@@ -243,7 +240,7 @@ module _ (w : WorldView) (task : ℕ) (parsed : Parsed) (written : WireBody) (j 
     tied = tied;
   }
 
-module _ (w : WorldView) (task : ℕ) (parsed : Parsed) (written : WireBody) (bytes : List ℕ) (plan : Plan) (p : IsPlan w task parsed written bytes plan) (is_tied : IsTied w task) where
+module _ (w : WorldView) (task : ℕ) (parsed : Parsed) (written : WireBody) (bytes : List ℕ) (plan : PlanView) (p : IsPlan w task parsed written bytes plan) (is_tied : IsTied w task) where
   tied : AreTied p.plans.judged.space.names w.ports w.ledger
   tied = is_tied.tied p.plans.judged.space p.plans.judged.there
 
@@ -253,7 +250,7 @@ module _ (w : WorldView) (task : ℕ) (parsed : Parsed) (written : WireBody) (by
   rights_are : plan.message.rights ≡ p.plans.judged.rights
   rights_are = ap (λ (m : Kept). m.rights) p.message
 
-  pub plan_goes : CanGo w task (plan.words.destination ∷ (option_to_list plan.words.reply ++ plan.words.body.items)) (plan.destination ∷ (option_to_list plan.message.reply ++ plan.message.rights))
+  pub plan_goes : CanGo w task (plan.words.destination ∷ (option_to_list plan.words.reply ++ plan.words.body)) (plan.destination ∷ (option_to_list plan.message.reply ++ plan.message.rights))
   plan_goes = rw (p.words.destination, p.words.reply, p.words.body, p.destination, reply_is, rights_are) (judged_go w task parsed written p.plans.judged tied p.plans.few)
 
   pub plan_pairs : length (option_to_list plan.words.reply) ≡ length (option_to_list plan.message.reply)
@@ -264,18 +261,18 @@ module _ (w : WorldView) (task : ℕ) (parsed : Parsed) (written : WireBody) (by
 
   -- once its rights went, where it goes by a send-once right: its port has one that no queued message goes by
   pub plan_unused : (one two mid : WorldView) → ChangesWord w task plan.words.destination plan.destination one →
-      ChangesWords one task (option_to_list plan.words.reply) (option_to_list plan.message.reply) two → ChangesWords two task plan.words.body.items plan.message.rights mid →
+      ChangesWords one task (option_to_list plan.words.reply) (option_to_list plan.message.reply) two → ChangesWords two task plan.words.body plan.message.rights mid →
       plan.message.by_once ≡ true → 0 < (counts_of mid.ledger plan.port).send_once
   plan_unused one two mid a b d once =
       let j = p.plans.judged in
-      let others = Through-append (λ old w c new. ChangesWord old task w c new) one two mid (option_to_list plan.words.reply) plan.words.body.items (option_to_list plan.message.reply) plan.message.rights b d in
+      let others = Through-append (λ old w c new. ChangesWord old task w c new) one two mid (option_to_list plan.words.reply) plan.words.body (option_to_list plan.message.reply) plan.message.rights b d in
       subst (λ (q : ℕ). 0 < (counts_of mid.ledger q).send_once) (sym p.port)
       (once_stays w task is_tied j.space j.there (destination_word parsed) j.destination j.copies_destination.entry j.copies_destination.found
       (ap (λ (m : Kept). m.by_once) (sym p.message) ∙ once) j.port j.to_port one mid (rw (p.words.destination, p.destination) at a)
-      (option_to_list plan.words.reply ++ plan.words.body.items) (option_to_list plan.message.reply ++ plan.message.rights) others)
+      (option_to_list plan.words.reply ++ plan.words.body) (option_to_list plan.message.reply ++ plan.message.rights) others)
 
 -- A plan is of its own task.
-pub own_task : (w : WorldView) (task : ℕ) (parsed : Parsed) (written : WireBody) (bytes : List ℕ) (plan : Plan) → IsPlan w task parsed written bytes plan
+pub own_task : (w : WorldView) (task : ℕ) (parsed : Parsed) (written : WireBody) (bytes : List ℕ) (plan : PlanView) → IsPlan w task parsed written bytes plan
     → IsPlan w plan.task parsed written bytes plan
 own_task w task parsed written bytes plan p = subst (λ (t : ℕ). IsPlan w t parsed written bytes plan) (sym p.task_is) p
 
@@ -366,15 +363,15 @@ words_live old new task (w ∷ ws) (d ∷ cs) go ch c among p to = elim (Contain
 -- ---- the whole
 
 -- The destination's right went, then the reply's, then the body's.
-pub record Carries (old : WorldView) (task : ℕ) (plan : Plan) (mid : WorldView) : Type 0 where
+pub record Carries (old : WorldView) (task : ℕ) (plan : PlanView) (mid : WorldView) : Type 0 where
   pub one : WorldView
   pub destination : ChangesWord old task plan.words.destination plan.destination one
   pub two : WorldView
   pub reply : ChangesWords one task (option_to_list plan.words.reply) (option_to_list plan.message.reply) two
-  pub body : ChangesWords two task plan.words.body.items plan.message.rights mid
+  pub body : ChangesWords two task plan.words.body plan.message.rights mid
 
-abbrev pub carries_by : (old one two mid : WorldView) (plan : Plan) (reply : Option Carried) (words : List PortWord) (rights : List Carried) →
-    reply ≡ plan.message.reply → words ≡ plan.words.body.items → rights ≡ plan.message.rights → ChangesWord old plan.task plan.words.destination plan.destination one →
+abbrev pub carries_by : (old one two mid : WorldView) (plan : PlanView) (reply : Option Carried) (words : List PortWord) (rights : List Carried) →
+    reply ≡ plan.message.reply → words ≡ plan.words.body → rights ≡ plan.message.rights → ChangesWord old plan.task plan.words.destination plan.destination one →
     ChangesWords one plan.task (option_to_list plan.words.reply) (option_to_list reply) two → ChangesWords two plan.task words rights mid → Carries old plan.task plan mid
 carries_by old one two mid plan reply words rights same words_are rights_are a b d = record {
   one = one;
@@ -384,25 +381,36 @@ carries_by old one two mid plan reply words rights same words_are rights_are a b
   body = subst (λ (ws : List PortWord). ChangesWords two plan.task ws plan.message.rights mid) words_are (subst (λ (cs : List Carried). ChangesWords two plan.task words cs mid) rights_are d);
 }
 
-stay_all : (old mid : WorldView) (task : ℕ) (plan : Plan) → Carries old task plan mid → PortsStay old mid
+-- so it is with a short message
+abbrev pub carries_short : (old one new : WorldView) (task : ℕ) (parsed : Parsed) (written : WireBody) (bytes : List ℕ) (plan : ShortPlan) → IsShortPlan old task parsed written bytes plan
+    → ChangesWord old plan.task plan.destination.word plan.destination.carried one → (b : CopiesBeside one plan.task plan.port plan.beside new) → Carries old plan.task (short_view plan) b.mid
+carries_short old one new task parsed written bytes plan p a b = record {
+  one = one;
+  destination = a;
+  two = b.two;
+  reply = subst (λ (o : Option Carried). ChangesWords one plan.task (option_to_list (reply_word plan.beside)) (option_to_list o) b.two) (sym p.reply) b.reply;
+  body = subst (λ (cs : List Carried). ChangesWords b.two plan.task (body_word plan.beside) cs b.mid) (sym p.rights) b.body;
+}
+
+stay_all : (old mid : WorldView) (task : ℕ) (plan : PlanView) → Carries old task plan mid → PortsStay old mid
 stay_all old mid task plan ca = grind (arith, stay_word, stay_words)
 
-pub carries_live : (old mid : WorldView) (task : ℕ) (plan : Plan) (p : ℕ) → Carries old task plan mid → IsLive old.ports p → IsLive mid.ports p
+pub carries_live : (old mid : WorldView) (task : ℕ) (plan : PlanView) (p : ℕ) → Carries old task plan mid → IsLive old.ports p → IsLive mid.ports p
 carries_live old mid task plan p ca h = (stay_all old mid task plan ca).live p h
 
-pub carries_none_lost : (old mid : WorldView) (task : ℕ) (plan : Plan) → Carries old task plan mid → NoneLost old → NoneLost mid
+pub carries_none_lost : (old mid : WorldView) (task : ℕ) (plan : PlanView) → Carries old task plan mid → NoneLost old → NoneLost mid
 carries_none_lost old mid task plan ca none =
-    words_none_lost plan.words.body.items plan.message.rights ca.two mid task ca.body
+    words_none_lost plan.words.body plan.message.rights ca.two mid task ca.body
     (words_none_lost (option_to_list plan.words.reply) (option_to_list plan.message.reply) ca.one ca.two task ca.reply
     (words_none_lost (plan.words.destination ∷ []) (plan.destination ∷ []) old ca.one task (ca.one, ca.destination, refl) none))
 
 -- each port is there whose receive right is among the body's
-pub carries_can_hold : (old mid : WorldView) (task : ℕ) (plan : Plan) (ca : Carries old task plan mid) → CanGo ca.two task plan.words.body.items plan.message.rights → CanHoldAll mid plan.message.rights
+pub carries_can_hold : (old mid : WorldView) (task : ℕ) (plan : PlanView) (ca : Carries old task plan mid) → CanGo ca.two task plan.words.body plan.message.rights → CanHoldAll mid plan.message.rights
 carries_can_hold old mid task plan ca go = λ k d below p is.
     let c = get_or plan.message.rights k d in
-    words_live ca.two mid task plan.words.body.items plan.message.rights go ca.body c (All-contains_itself plan.message.rights k d below) p (ap (λ (x : Carried). x.mark) (receive_is c p is))
+    words_live ca.two mid task plan.words.body plan.message.rights go ca.body c (All-contains_itself plan.message.rights k d below) p (ap (λ (x : Carried). x.mark) (receive_is c p is))
 
-pub carries_spare : (old mid : WorldView) (task : ℕ) (plan : Plan) → Carries old task plan mid → mid.ports.spare ≡ old.ports.spare
+pub carries_spare : (old mid : WorldView) (task : ℕ) (plan : PlanView) → Carries old task plan mid → mid.ports.spare ≡ old.ports.spare
 carries_spare old mid task plan ca = (stay_all old mid task plan ca).spare
 
 pub same_options : (o : Option Carried) → option_to_list o ≡ option_list o
@@ -416,15 +424,15 @@ some_of (Some x) h = (x, refl)
 abbrev with_queued : PortsView Kept → ℕ → PortView Kept → Kept → (spare : ℕ) → PortsView Kept
 with_queued ports p v m spare = record (with_port ports p (record v { queue = v.queue ++ m ∷ [] })) { spare = spare }
 
-pub commits : (old mid held : WorldView) (task : ℕ) (parsed : Parsed) (written : WireBody) (bytes : List ℕ) (plan : Plan) (p : IsPlan old task parsed written bytes plan) (new : WorldView) → Carries old task plan mid
+pub commits : (old mid held : WorldView) (task : ℕ) (parsed : Parsed) (written : WireBody) (bytes : List ℕ) (plan : PlanView) (p : IsPlan old task parsed written bytes plan) (new : WorldView) → Carries old task plan mid
     → HoldsRights mid plan.port plan.message.rights held → IsLive held.ports plan.port
     → ((v : PortView Kept) → port_at held plan.port ≡ Some v → new ≡ record held { ports = with_queued held.ports plan.port v plan.message (held.ports.spare - 1); ledger = ledger_queued plan.message.by_once plan.port held.ledger })
     → Commits old task parsed written p.plans.judged bytes new
 commits old mid held task parsed written bytes plan p new ca holds live queued =
     let found = some_of (port_at held plan.port) live in
     let v : PortView Kept = found.0 in
-    let all = Through-append (λ old w c new. ChangesWord old task w c new) ca.one ca.two mid (option_to_list plan.words.reply) plan.words.body.items (option_to_list plan.message.reply) plan.message.rights ca.reply ca.body in
-    let whole : ChangesWords old task (plan.words.destination ∷ (option_to_list plan.words.reply ++ plan.words.body.items)) (plan.destination ∷ (option_to_list plan.message.reply ++ plan.message.rights)) mid =
+    let all = Through-append (λ old w c new. ChangesWord old task w c new) ca.one ca.two mid (option_to_list plan.words.reply) plan.words.body (option_to_list plan.message.reply) plan.message.rights ca.reply ca.body in
+    let whole : ChangesWords old task (plan.words.destination ∷ (option_to_list plan.words.reply ++ plan.words.body)) (plan.destination ∷ (option_to_list plan.message.reply ++ plan.message.rights)) mid =
     (ca.one, ca.destination, all) in
     let less : held.ports.spare - 1 ≡ old.ports.spare - 1 =
     ap (λ (n : ℕ). n - 1) (held_spare plan.port plan.message.rights mid held holds ∙ carries_spare old mid task plan ca) in
@@ -586,20 +594,6 @@ no_words : (written : WireBody) → body_spans written ≡ [] → body_words wri
 no_words (raw bytes) none = refl
 no_words (items xs) none = no_items xs 24 none
 
--- the words of a plan for such a message
-pub bare_words : (bytes : List ℕ) (head : Head) (parsed : Parsed) (bare : IsBare bytes head parsed) (words : Words) → words.destination ≡ head.destination → words.reply ≡ head.reply
-    → words.body.items ≡ [] → AreWords parsed bare.parses.written words
-bare_words bytes head parsed bare words to answer none = record {
-  destination = to ∙ bare.says.destination;
-  reply = ap (λ (w : Option PortWord). option_to_list w) answer ∙ bare.says.reply;
-  body = none ∙ sym (no_words bare.parses.written (sym bare.parses.spans ∙ bare.spans));
-}
-
--- the word of the right to answer with
-pub answer_words : (request : Request) → request.local_kind ≢ 0
-    → ◌≡◌ {A = List PortWord} (record { disposition = request.local_kind; name = request.local } ∷ []) (reply_words (parsed_request request))
-answer_words request answered = rw (not_equal request.local_kind 0 answered) refl
-
 -- what is queued of a text, by what was read of it
 abbrev pub queued_of : Parsed → (bytes : List ℕ) → Disposition → Option Carried → List Carried → Kept
 queued_of parsed bytes given reply carried = record {
@@ -628,27 +622,6 @@ queues parsed head is bytes rights spans carried kept stand go = λ i. record {
 
 -- ---- a body of one word
 
--- the words of a plan for a text with such a body
-pub one_words : (bytes : List ℕ) (lone : Lone) (p : Parses bytes (parsed_lone lone)) → body_words p.written ≡ lone.word ∷ [] → (words : Words)
-    → words.destination ≡ destination_word (parsed_lone lone) → words.reply ≡ None → words.body.items ≡ lone.word ∷ [] → AreWords (parsed_lone lone) p.written words
-one_words bytes lone p is words to answer one = record {
-  destination = to;
-  reply = ap (λ (w : Option PortWord). option_to_list w) answer;
-  body = one ∙ sym is;
-}
-
 -- where its word stands, by what was judged of it
-pub one_span : (second : Names) (ws : List PortWord) (w : PortWord) (c : Carried) (last : Names) → ws ≡ w ∷ [] → CopiesBody second ws (c ∷ []) last
-    → spans_for (Some c) ≡ lone_span w.disposition ∷ []
-one_span second ws w c last is goes =
-    let body : CopiesBody second (w ∷ []) (c ∷ []) last = subst (λ (xs : List PortWord). CopiesBody second xs (c ∷ []) last) is goes in
-    ap (λ (n : ℕ). lone_span n ∷ []) (number_of w.disposition c.given (word_given second w c body.0 body.1))
-
-pub one_head : (lone : Lone) (head : Head) → head ≡ record { destination = record { disposition = lone.remote_kind; name = lone.remote }; reply = None; id = lone.id; is_complex = true }
-    → IsHead (parsed_lone lone) head
-one_head lone head is = record {
-  destination = ap (λ (h : Head). h.destination) is;
-  reply = ap (λ (h : Head). option_to_list h.reply) is;
-  id = ap (λ (h : Head). h.id) is;
-  is_complex = ap (λ (h : Head). h.is_complex) is;
-}
+pub one_span : (names : Names) (w : PortWord) (c : Carried) (after : Names) → CopiesWord names w c after → spans_for (Some c) ≡ one_word_span w.disposition ∷ []
+one_span names w c after goes = ap (λ (n : ℕ). one_word_span n ∷ []) (number_of w.disposition c.given (word_given names w c after goes))

@@ -1,5 +1,5 @@
 -- Words are copied in one by one: what that changes, and what it keeps.
-use Rattle.std.proofs.Common.{◌≡◌, ℕ, Bool, true, false, List, [], ◌∷◌, sym, subst, ◌++◌, Option, Some, IfSome, refl, ap, ◌∙◌, ◌+◌, arith, length, drop, All, None, ◌-◌}
+use Rattle.std.proofs.Common.{◌≡◌, ℕ, Bool, true, false, List, [], ◌∷◌, sym, subst, ◌++◌, Option, Some, IfSome, refl, ap, ◌∙◌, ◌+◌, arith, length, drop, All, None}
 use Rattle.std.specs.Prelude.{◌==◌, MatchBool, map as list_map, replicate, flat_map}
 use Rattle.std.specs.FinMap as map
 use Rattle.std.proofs.lemmas.List.{map-append}
@@ -40,7 +40,6 @@ use Rattle.copyin_base.proofs.KeptEntries.{numbers, rights_of, item_kept, body_k
 use Rattle.copyin_base.specs.Changes.{NotesSenders, IsForLive}
 use Rattle.copyin_base.proofs.Idle.{none_lost_by}
 use Rattle.copyin_base.proofs.SendersNoted.{KeepsSends, sends_made, sends_shifted, KeepsSenders, keeps_senders, keeps_senders_refl, keeps_senders_trans, senders_same, senders_kept}
-use Rattle.copyin_base.proofs.Written.{tables}
 use Rattle.dispositions.specs.Copies.{copied_from}
 use Rattle.copyin.specs.Copies.{CopiesRight, ledger_copied, ports_copied, ledger_queued}
 use Rattle.copyin.specs.Plans.{ChangesWord, ChangesWords, destination_word, reply_words, option_list, Judged, Commits}

@@ -34,9 +34,9 @@ use Rattle.copyin.specs.declared.touched.Touch.{Touch}
 use Rattle.copyin.specs.declared.touched.Touched.{Touched}
 use Rattle.copyin.specs.Overlays.{inline_touched, puts, over, Overlays}
 use Rattle.dispositions.specs.declared.Copied.{Copied}
-use Rattle.copyin.specs.declared.judge.Words.{Words}
+use Rattle.copyin.specs.PortWords.{PortWords}
 use Rattle.dispositions.specs.Copies.{copied_from}
-use Rattle.copyin.specs.Goes.{HasOne, LeadsNowhere, OthersGo}
+use Rattle.copyin.specs.Goes.{LeadsNowhere, OthersGo}
 use Rattle.copyin.specs.Judging.{CopiesName, CopiesWord, CopiesReply, CopiesBody, IsBad, BodyIsBad}
 
 -- ---- Dispositions and their numbers.
@@ -264,38 +264,45 @@ pub none_goes : (names : Names) (ws : List PortWord) → ws ≡ [] → CopiesBod
 none_goes names [] none = refl
 none_goes names (w ∷ ws) none = absurd (cc)
 
--- ---- no word of the body: the reply's is the last
+-- ---- what stands for a right that goes
 
-pub answered : (first : Names) (words : Words) (w : PortWord) (c : Carried) (reply : Option Carried) (after : Names) → words.reply ≡ Some w → reply ≡ Some c
-    → CopiesWord first w c after → words.body.items ≡ [] → OthersGo first words reply []
-answered first words w c reply after is goes copies bare = record {
+pub marked : (d : Disposition) (e : Entry) (m : Mark) → Some m ≡ option_map (λ (k : Copied). k.mark) (copied_from d e) → (k : Copied) × (copied_from d e ≡ Some k) × (m ≡ k.mark)
+marked d e m is = some_mapped (copied_from d e) is
+  where
+    some_mapped : (o : Option Copied) → Some m ≡ option_map (λ (k : Copied). k.mark) o → (k : Copied) × (o ≡ Some k) × (m ≡ k.mark)
+    some_mapped None h = absurd (cc)
+    some_mapped (Some k) h = (k, refl, cc)
+
+-- ---- one word beside the destination's, or none
+
+pub reply_goes : (first : Names) (words : PortWords) (w : PortWord) (c : Carried) (after : Names) → words.reply ≡ Some w → words.body ≡ [] → CopiesWord first w c after
+    → OthersGo first words (Some c) []
+reply_goes first words w c after is none copies = record {
   second = after;
-  reply = subst (λ (o : Option PortWord). CopiesReply first (option_to_list o) reply after) (sym is)
-      (subst (λ (r : Option Carried). CopiesReply first (w ∷ []) r after) (sym goes) copies);
+  reply = subst (λ (o : Option PortWord). CopiesReply first (option_to_list o) (Some c) after) (sym is) copies;
   last = after;
-  body = none_goes after words.body.items bare;
+  body = none_goes after words.body none;
 }
 
-pub unanswered : (first : Names) (words : Words) (reply : Option Carried) → words.reply ≡ None → reply ≡ None → words.body.items ≡ [] → OthersGo first words reply []
-unanswered first words reply none goes bare = record {
+pub none_go : (first : Names) (words : PortWords) → words.reply ≡ None → words.body ≡ [] → OthersGo first words None []
+none_go first words none empty = record {
   second = first;
-  reply = subst (λ (r : Option Carried). CopiesReply first (option_to_list words.reply) r first) (sym goes) (none_replies first words.reply none);
+  reply = none_replies first words.reply none;
   last = first;
-  body = none_goes first words.body.items bare;
+  body = none_goes first words.body empty;
 }
 
--- ---- one word of the body, and no right to answer with
-
-pub lone_goes : (first : Names) (words : Words) (w : PortWord) (c : Carried) (after : Names) → HasOne words w → CopiesWord first w c after → OthersGo first words None (c ∷ [])
-lone_goes first words w c after has copies = record {
+pub one_goes : (first : Names) (words : PortWords) (w : PortWord) (c : Carried) (after : Names) → words.reply ≡ None → words.body ≡ w ∷ [] → CopiesWord first w c after
+    → OthersGo first words None (c ∷ [])
+one_goes first words w c after none one copies = record {
   second = first;
-  reply = none_replies first words.reply has.unanswered;
+  reply = none_replies first words.reply none;
   last = after;
-  body = subst (λ (ws : List PortWord). CopiesBody first ws (c ∷ []) after) (sym has.one) (after, copies, refl);
+  body = subst (λ (ws : List PortWord). CopiesBody first ws (c ∷ []) after) (sym one) (after, copies, refl);
 }
 
-pub lone_bad : (first : Names) (words : Words) (w : PortWord) → HasOne words w → IsBad first w → BodyIsBad first words.body.items
-lone_bad first words w has bad = subst (λ (ws : List PortWord). BodyIsBad first ws) (sym has.one) (inl bad)
+pub one_bad : (first : Names) (words : PortWords) (w : PortWord) → words.body ≡ w ∷ [] → IsBad first w → BodyIsBad first words.body
+one_bad first words w one bad = subst (λ (ws : List PortWord). BodyIsBad first ws) (sym one) (inl bad)
 
 pub word_given : (names : Names) (w : PortWord) (c : Carried) (after : Names) → CopiesWord names w c after → disposition w.disposition ≡ Some c.given
 word_given names w c after copies = grind arith

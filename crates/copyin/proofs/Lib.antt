@@ -10,3 +10,4 @@ pub mod Sent
 pub mod Refused
 pub mod HoldersKept
 pub mod Going
+pub mod AfterFirst

@@ -6,7 +6,6 @@ use Rattle.std.specs.Option.{option_map, option_to_list, unwrap_or}
 use Rattle.std.specs.FinMap as map
 use Rattle.std.proofs.lemmas.Bool.{eqb-true, ne_eqb}
 use Rattle.std.proofs.lemmas.List.Elements.{All-append, All-map}
-use Rattle.smallvec.specs.SmallVec.{small_vec_len}
 use Rattle.mach_types.specs.Numbers.{null_word, most_bytes, disposition, kind_sent, dead_word}
 use Rattle.mach_types.specs.Codes.{msg_number}
 use Rattle.mach_types.specs.Grammar.{text, WireBody, Header, Wire, data_item, port_item, raw, items, IsWire, IsWireBody, NamesPorts}
@@ -44,7 +43,7 @@ use Rattle.copyin.specs.Plans.{destination_word, reply_words, Judged, made_in, m
 use Rattle.copyin.proofs.Copying.{Along, Went, went, stepped, WholeBody, whole_body}
 use Rattle.copyin.proofs.Judging.{number_of}
 use Rattle.copyin.specs.declared.judge.Rights.{Rights}
-use Rattle.copyin.specs.declared.judge.Words.{Words}
+use Rattle.copyin.specs.PortWords.{PortWords}
 use Rattle.copyin.specs.Goes.{AreGiven, LeadsNowhere, Starts, GoAll, CannotGo, MayGo, MayNotGo}
 use Rattle.copyin.specs.Planned.{AreWords}
 use Rattle.copyin.proofs.Committing.{all_length}
@@ -326,7 +325,7 @@ reply_given : (o : Option PortWord) (parsed : Parsed) → option_to_list o ≡ r
 reply_given None parsed e able = tt
 reply_given (Some w) parsed e able = grind arith
 
-pub words_given : (bytes : List ℕ) (parsed : Parsed) (p : Parses bytes parsed) (words : Words) → AreWords parsed p.written words → AreGiven words
+pub words_given : (bytes : List ℕ) (parsed : Parsed) (p : Parses bytes parsed) (words : PortWords) → AreWords parsed p.written words → AreGiven words
 words_given bytes parsed p words a = record {
   destination = subst IsGiven (sym a.destination) (sendable_given parsed.remote_kind (remote_sendable bytes parsed p));
   reply = reply_given words.reply parsed a.reply (λ some. sendable_given parsed.local_kind (local_sendable bytes parsed p some));
@@ -335,7 +334,7 @@ words_given bytes parsed p words a = record {
 
 -- ---- the rights that go
 
-module _ (w : WorldView) (task : ℕ) (parsed : Parsed) (written : WireBody) (space : SpaceView) (words : Words) (there : space_at w task ≡ Some space)
+module _ (w : WorldView) (task : ℕ) (parsed : Parsed) (written : WireBody) (space : SpaceView) (words : PortWords) (there : space_at w task ≡ Some space)
     (a : AreWords parsed written words) where
   begins : (first : Names) → Starts space.names words first → Begins w task parsed first
   begins first st = record {
@@ -347,7 +346,7 @@ module _ (w : WorldView) (task : ℕ) (parsed : Parsed) (written : WireBody) (sp
     copies = subst (λ (x : PortWord). CopiesName space.names x st.destination first) a.destination st.copies;
   }
 
-  pub cannot_judge : (code : MsgReturn) → (code ≡ SendNoBuffer) × (inline_words < small_vec_len words.body) ⊎ CannotGo space.names words code → CannotPlan w task parsed written (msg_number code)
+  pub cannot_judge : (code : MsgReturn) → (code ≡ SendNoBuffer) × (inline_words < length words.body) ⊎ CannotGo space.names words code → CannotPlan w task parsed written (msg_number code)
   cannot_judge code (inl h) = inr (inr (inr (inr (inr (subst (λ (ws : List PortWord). inline_words < length ws) a.body h.1), ap msg_number h.0))))
   cannot_judge code (inr (inl h)) =
       inl (record { space = space; there = there; nowhere = subst (λ (x : PortWord). LeadsNowhere space.names x) a.destination h.1 }, ap msg_number h.0)
@@ -389,7 +388,7 @@ module _ (w : WorldView) (task : ℕ) (parsed : Parsed) (written : WireBody) (sp
     cannot_admit cs same code h = refused (subst (λ (xs : List Carried). MayNotGo w rights xs code) same h)
       where
         as_many : length (body_words written) ≡ length carried
-        as_many = sym (ap length a.body) ∙ all_length g.others.second g.others.last words.body.items carried g.others.body
+        as_many = sym (ap length a.body) ∙ all_length g.others.second g.others.last words.body carried g.others.body
 
         refused : MayNotGo w rights carried code → CannotPlan w task parsed written (msg_number code)
         refused (inl l) = inr (inr (inr (inl (judged_of, inl (l.0, ap msg_number l.1)))))

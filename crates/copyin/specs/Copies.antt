@@ -1,5 +1,5 @@
 -- What becomes of the tables as a right is copied in.
-use Rattle.std.specs.Prelude.{◌≡◌, ℕ, Bool, ◌+◌, ◌-◌, ◌%◌, ◌^◌, Option, Some, None, if◌then◌else◌, slice_set}
+use Rattle.std.specs.Prelude.{◌≡◌, ℕ, Bool, ◌+◌, ◌%◌, ◌^◌, Option, Some, None, if◌then◌else◌, slice_set}
 use Rattle.std.specs.FinMap as map
 use Rattle.mach_types.specs.declared.rights.Disposition.{Disposition}
 use Rattle.mach_types.specs.declared.rights.Disposition.TheVariants.{MoveReceive, CopySend, MakeSend, MakeSendOnce}

@@ -4,6 +4,8 @@ pub mod Slots
 pub mod Loops
 pub mod Plans
 pub mod Overlays
+pub mod PortWords
 pub mod Goes
 pub mod Planned
+pub mod Short
 pub mod Wanted

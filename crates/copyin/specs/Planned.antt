@@ -13,25 +13,36 @@ use Rattle.rights.specs.Ledger.{IsEntered}
 use Rattle.name_space.specs.Names.{Names, SpaceView}
 use Rattle.port.specs.Ports.{IsLive}
 use Rattle.copyin.specs.declared.judge.Plan.{Plan}
-use Rattle.copyin.specs.declared.judge.Words.{Words}
 use Rattle.copyin_base.specs.declared.Carried.{Carried}
 use Rattle.copyin_base.specs.declared.Mark.TheVariants as mark
 use Rattle.dispositions.specs.declared.Copied.{Copied}
 use Rattle.dispositions.specs.Copies.{copied_from}
 use Rattle.copyin.specs.Judging.{CopiesWord, made_by, made_by_all}
 use Rattle.copyin.specs.Plans.{destination_word, reply_words, Plans, message_for}
-use Rattle.copyin_base.specs.Kept.{receive_of}
+use Rattle.copyin.specs.PortWords.{PortWords, listed}
+use Rattle.copyin_base.specs.Kept.{Kept, receive_of}
 use Rattle.copyin_base.specs.Stands.{AreTied}
 use Rattle.copyin_base.specs.Worlds.{WorldView, space_at}
 
 -- These are the port words of the text.
-pub record AreWords (parsed : Parsed) (written : WireBody) (words : Words) : Type 0 where
+pub record AreWords (parsed : Parsed) (written : WireBody) (words : PortWords) : Type 0 where
   pub destination : words.destination ≡ destination_word parsed
   pub reply : option_to_list words.reply ≡ reply_words parsed
-  pub body : words.body.items ≡ body_words written
+  pub body : words.body ≡ body_words written
+
+-- what is done by a plan
+pub record PlanView : Type 0 where
+  pub task : ℕ
+  pub words : PortWords
+  pub destination : Carried
+  pub port : ℕ
+  pub message : Kept
+
+abbrev pub plan_view : Plan → PlanView
+plan_view plan = record { task = plan.task; words = listed plan.words; destination = plan.destination; port = plan.port; message = plan.message }
 
 -- The plan sends this text, as the tables allow.
-pub record IsPlan (w : WorldView) (task : ℕ) (parsed : Parsed) (written : WireBody) (bytes : List ℕ) (plan : Plan) : Type 0 where
+pub record IsPlan (w : WorldView) (task : ℕ) (parsed : Parsed) (written : WireBody) (bytes : List ℕ) (plan : PlanView) : Type 0 where
   pub plans : Plans w task parsed written
   pub task_is : plan.task ≡ task
   pub words : AreWords parsed written plan.words

@@ -10,7 +10,7 @@ ghost use Rattle.rights.specs.Ledger.{IsEntered, counts_of};
 ghost use Rattle.copyin_base.specs.declared.Mark.TheVariants as mark_of;
 ghost use Rattle.copyin.specs.Judging.{made_by, made_by_mark};
 ghost use Rattle.copyin.specs.Loops.{HoldsRight, HoldsRights};
-ghost use Rattle.copyin.specs.Planned.{IsPlan, CanGo, CanCopy, CanHoldAll};
+ghost use Rattle.copyin.specs.Planned.{IsPlan, plan_view, CanGo, CanCopy, CanHoldAll};
 ghost use Rattle.copyin.specs.Plans.{ChangesWord, ChangesWords, Commits};
 ghost use Rattle.copyin_base.specs.Changes.{PutsLeft};
 ghost use Rattle.copyin_base.specs.Kept.{Kept, receive_of};
@@ -64,8 +64,12 @@ fn count_copied(world: &mut World, carried: Carried, place: usize)
             let port = *port;
             world.make_send(Found { port, place });
         }
-        Disposition::CopySend => world.make_rights(*port, RightKind::Send, 1).unwrap(),
-        Disposition::MakeSendOnce => world.make_rights(*port, RightKind::SendOnce, 1).unwrap(),
+        Disposition::CopySend => world
+            .make_rights(Found { port: *port, place }, RightKind::Send, 1)
+            .unwrap(),
+        Disposition::MakeSendOnce => world
+            .make_rights(Found { port: *port, place }, RightKind::SendOnce, 1)
+            .unwrap(),
         Disposition::MoveReceive => world.restart_port(*port),
         _ => {}
     }
@@ -83,34 +87,40 @@ pub fn copy_name(world: &mut World, task: TaskId, name: Name, carried: Carried)
     requires { CanCopy world.old task name carried }
     ensures { CopiesRight world.old task carried.given name carried.mark world.new }
 {
-    copy_kept(world, task, name, &carried, NOWHERE);
+    copy_kept(world, task, name, &carried);
 }
 
 // Sends the right, whether it moves or is made.
 #[inline(always)]
-fn copy_either(world: &mut World, task: TaskId, name: Name, carried: &Carried, place: usize)
-    requires { CanCopy world.old task name carried.now }
-    ensures { CopiesRight world.old task carried.now.given name carried.now.mark world.new }
+fn copy_either(world: &mut World, task: TaskId, name: Name, carried: Carried, place: usize)
+    requires { CanCopy world.old task name carried }
+    ensures { CopiesRight world.old task carried.given name carried.mark world.new }
 {
     let given = carried.given;
-    let mark = leave_name(world, task, name, *carried);
+    let mark = leave_name(world, task, name, carried);
     count_copied(world, Carried { given, mark }, place);
 }
 
 // Sends a right that moves. It is apart, so that one that is made wants no frame.
 #[inline(never)]
-fn copy_moved(world: &mut World, task: TaskId, name: Name, carried: &Carried, place: usize)
-    requires { CanCopy world.old task name carried.now }
-    ensures { CopiesRight world.old task carried.now.given name carried.now.mark world.new }
+fn copy_moved(world: &mut World, task: TaskId, name: Name, carried: Carried, place: usize)
+    requires { CanCopy world.old task name carried }
+    ensures { CopiesRight world.old task carried.given name carried.mark world.new }
 {
     copy_either(world, task, name, carried, place);
 }
 
-// As [`copy_name`], of a right that stays where it is kept: those of a message aren't copied once more.
-#[inline(never)]
-fn copy_kept(world: &mut World, task: TaskId, name: Name, carried: &Carried, place: usize)
-    requires { CanCopy world.old task name carried.now }
-    ensures { CopiesRight world.old task carried.now.given name carried.now.mark world.new }
+/// As [`copy_name`], where the port's record may lie at the place.
+#[inline(always)]
+pub(crate) fn copy_placed(
+    world: &mut World,
+    task: TaskId,
+    name: Name,
+    carried: Carried,
+    place: usize,
+)
+    requires { CanCopy world.old task name carried }
+    ensures { CopiesRight world.old task carried.given name carried.mark world.new }
 {
     if carried.given.makes_right() {
         copy_either(world, task, name, carried, place);
@@ -119,10 +129,19 @@ fn copy_kept(world: &mut World, task: TaskId, name: Name, carried: &Carried, pla
     }
 }
 
+// As [`copy_name`], of a right that stays where it is kept: those of a message aren't copied once more.
+#[inline(never)]
+fn copy_kept(world: &mut World, task: TaskId, name: Name, carried: &Carried)
+    requires { CanCopy world.old task name carried.now }
+    ensures { CopiesRight world.old task carried.now.given name carried.now.mark world.new }
+{
+    copy_placed(world, task, name, *carried, NOWHERE);
+}
+
 // The message joins the end of its port's queue, in a spare slot, and the right that it goes by is
 // unused no more.
 #[inline(always)]
-fn queue_message(world: &mut World, found: Found, message: Message)
+pub(crate) fn queue_message(world: &mut World, found: Found, message: Message)
     requires live { IsLive world.old.ports found.port }
     requires spare { 0 < world.old.ports.spare }
     requires unused { message.by_once ≡ true → 0 < (counts_of world.old.ledger found.port).send_once }
@@ -135,12 +154,13 @@ fn queue_message(world: &mut World, found: Found, message: Message)
 }
 
 // A word's right goes, if the word is a name.
-fn copy_word(world: &mut World, task: TaskId, word: PortWord, carried: &Carried, place: usize)
+#[inline(always)]
+fn copy_word(world: &mut World, task: TaskId, word: PortWord, carried: &Carried)
     requires { CanGo world.old task (word ∷ []) (carried.now ∷ []) }
     ensures { ChangesWord world.old task word carried.now world.new }
 {
     if word.name.is_usable() {
-        copy_kept(world, task, word.name, carried, place);
+        copy_kept(world, task, word.name, carried);
     }
 }
 
@@ -153,7 +173,7 @@ fn copy_words(world: &mut World, task: TaskId, words: &[PortWord], rights: &[Car
     let mut left = rights;
     for word in words {
         let (carried, rest) = left.split_first().unwrap();
-        copy_word(world, task, *word, carried, NOWHERE);
+        copy_word(world, task, *word, carried);
         left = rest;
     }
 }
@@ -165,12 +185,13 @@ fn copy_reply(world: &mut World, task: TaskId, word: Option<PortWord>, reply: Op
     ensures { ChangesWords world.old task (option_to_list word) (option_to_list reply) world.new }
 {
     if let (Some(word), Some(carried)) = (word, reply) {
-        copy_word(world, task, word, &carried, NOWHERE);
+        copy_word(world, task, word, &carried);
     }
 }
 
 // The queue holds the receive right now, if it is one.
-fn hold_right(world: &mut World, queue: PortId, carried: &Carried)
+#[inline(always)]
+pub(crate) fn hold_right(world: &mut World, queue: PortId, carried: &Carried)
     requires live { (port : ℕ) → receive_of carried.now ≡ Some port → IsLive world.old.ports port }
     requires none_lost { NoneLost world.old }
     ensures { HoldsRight world.old queue carried.now world.new }
@@ -197,11 +218,11 @@ fn hold_rights(world: &mut World, queue: PortId, rights: &[Carried])
 /// right, and logarithmic for a name above 65,535.
 #[inline(always)]
 pub fn commit(world: &mut World, plan: Plan)
-    requires planned { (task : ℕ) × (parsed : AnyParsed) × (written : WireBody) × (bytes : List ℕ) × IsPlan world.old task parsed written bytes plan }
+    requires planned { (task : ℕ) × (parsed : AnyParsed) × (written : WireBody) × (bytes : List ℕ) × IsPlan world.old task parsed written bytes (plan_view plan) }
     requires spare { 0 < world.old.ports.spare }
     requires tied { IsTied world.old plan.task }
     requires none_lost { NoneLost world.old }
-    ensures { (task : ℕ) (parsed : AnyParsed) (written : WireBody) (bytes : List ℕ) (p : IsPlan world.old task parsed written bytes plan)
+    ensures { (task : ℕ) (parsed : AnyParsed) (written : WireBody) (bytes : List ℕ) (p : IsPlan world.old task parsed written bytes (plan_view plan))
         → Commits world.old task parsed written p.plans.judged bytes world.new }
 {
     let Plan {
@@ -212,7 +233,7 @@ pub fn commit(world: &mut World, plan: Plan)
         place,
         message,
     } = plan;
-    copy_word(world, task, words.destination, &destination, place);
+    copy_word(world, task, words.destination, &destination);
     copy_reply(world, task, words.reply, message.reply());
     let rights = message.rights();
     copy_words(world, task, words.body.as_slice(), rights.as_slice());

@@ -21,16 +21,19 @@ ghost use Rattle.copyin_base.specs.Carrying.{spans_in, rights_in};
 ghost use Rattle.copyin.specs.Judging.{CopiesName, CopiesWord, CopiesReply, CopiesBody, IsBad, BodyIsBad, made_by, made_by_all};
 ghost use Rattle.copyin.specs.Overlays.{IsFull, Overlays};
 ghost use Rattle.copyin.specs.Loops.{MakesLoop};
-ghost use Rattle.copyin.specs.Goes.{AreGiven, IsBare, IsHead, RepliesBadly, LeadsNowhere, StartsAt, OthersGo, OthersCannot, GoAll, CannotGo, MayGo, MayNotGo, made_by_rights, message_with};
-ghost use Rattle.copyin.specs.Planned.{AreWords, IsPlan};
+ghost use Rattle.copyin.specs.Goes.{AreGiven, IsHead, RepliesBadly, LeadsNowhere, StartsAt, OthersGo, OthersCannot, GoAll, CannotGo, MayGo, MayNotGo, made_by_rights, message_with};
+ghost use Rattle.copyin.specs.Planned.{AreWords, IsPlan, plan_view};
+ghost use Rattle.copyin.specs.PortWords.{listed};
 ghost use Rattle.copyin.specs.Plans.{CannotPlan, HasSlot, HasNoSlot, reply_words};
 ghost use Rattle.copyin_base.specs.Stands.{IsTied};
 ghost use Rattle.copyin_base.specs.Worlds.{put, HasTask};
+ghost use Rattle.dispositions.specs.declared.Copied.{Copied as AnyCopied};
+ghost use Rattle.dispositions.specs.Copies.{copied_from};
 
 use crate::loops::makes_loop;
-use crate::touched::{Touch, Touched, standing_after};
+use crate::touched::Touched;
 use copyin_base::{Carried, CarriedRights, Envelope, Mark, Message, Placed, TaskNames, World};
-use dispositions::copy_right;
+use dispositions::{Copied, copy_right, left_by, mark_sent};
 use mach_types::limits::MOST_RIGHTS;
 use mach_types::{Disposition, MsgReturn, Name, PortId, TaskId};
 use message_codec::{INLINE_WORDS, Parsed, PortWord, port_words};
@@ -69,24 +72,24 @@ pub struct Plan {
     pub message: Message,
 }
 
-// Puts what a right leaves under its name over what stood there: one that is made from a right that
-// stays leaves just that.
+// Puts what a right leaves under its name over what stood there, which was this: one that is made from a right
+// that stays leaves just that.
 #[inline(always)]
 fn leave(
     touched: &mut Touched,
     given: Disposition,
     name: Name,
-    left: Option<Entry>,
+    entry: &Entry,
 ) -> Result<(), AllocError>
-    ensures ok { OnOk result ((names now : Names) → Overlays touched.old names now → (makes_right given ≡ true → map.get now name ≡ left)
-        → Overlays touched.new names (put now name left)) }
+    ensures ok { OnOk result ((names now : Names) (k : AnyCopied) → Overlays touched.old names now → map.get now name ≡ Some entry.now → copied_from given entry.now ≡ Some k
+        → Overlays touched.new names (put now name k.left)) }
     ensures err { OnErr result (IsFull touched.old) }
     ensures few { array_vec_len touched.new.few ≤ array_vec_len touched.old.few + 1 }
 {
     if given.makes_right() {
         return Ok(());
     }
-    touched.put(name, left)
+    touched.put(name, left_by(given, entry))
 }
 
 // Judges the right that goes from what stands under the word's name, which is refused with this code.
@@ -108,18 +111,17 @@ fn judge_name(
     let Some(entry) = touched.standing(space, word.name) else {
         return Err(refusal);
     };
-    let Some(copied) = copy_right(given, &entry) else {
+    let Some(mark) = mark_sent(given, &entry) else {
         return Err(refusal);
     };
-    let Ok(()) = leave(touched, given, word.name, copied.left) else {
+    let Ok(()) = leave(touched, given, word.name, &entry) else {
         return Err(MsgReturn::SendNoBuffer);
     };
-    let mark = copied.mark;
     Ok(Carried { given, mark })
 }
 
 // What stands for a word that is no name.
-fn mark_of_word(word: Name) -> Option<Mark>
+pub(crate) fn mark_of_word(word: Name) -> Option<Mark>
     ensures { MatchOption result ((word ≢ null_word) × (word ≢ dead_word)) (λ m. (word ≡ null_word) × (m ≡ mark_of.Null) ⊎ (word ≡ dead_word) × (m ≡ mark_of.Dead)) }
 {
     match word.number() {
@@ -220,144 +222,51 @@ fn judge_reply(
     }
 }
 
-// The port for which the right is.
-fn marked_port(carried: &Carried) -> Option<PortId>
-    ensures { MatchOption result ((p : ℕ) → carried.now.mark ≢ mark_of.Port p) (λ p. carried.now.mark ≡ mark_of.Port p) }
-{
-    match &carried.mark {
-        Mark::Port(port) => Some(*port),
-        Mark::Null | Mark::Dead => None,
-    }
-}
-
-// A right that can go, and what it leaves under its name.
+// The destination's right.
 #[derive(Clone, Copy)]
-struct Going {
+struct Destination {
     carried: Carried,
-    left: Option<Entry>,
-}
-
-// The right that goes by the word from what stands under its name, if one can.
-#[inline(always)]
-fn going_from(standing: Option<Entry>, word: PortWord) -> Option<Going>
-    requires { IsSome (disposition word.disposition) }
-    ensures { (names : Names) → map.get names word.name ≡ standing
-        → MatchOption result ((c : AnyCarried) (after : Names) → ¬ (CopiesName names word c after)) (λ g. CopiesName names word g.carried (put names word.name g.left)) }
-{
-    let given = Disposition::from_u8(word.disposition).unwrap();
-    let Some(entry) = standing else {
-        return None;
-    };
-    let Some(copied) = copy_right(given, &entry) else {
-        return None;
-    };
-    let mark = copied.mark;
-    let left = copied.left;
-    let carried = Carried { given, mark };
-    Some(Going { carried, left })
-}
-
-/// The destination's right.
-#[derive(Clone, Copy)]
-pub(crate) struct Destination {
-    pub(crate) carried: Carried,
     /// The port for which it is.
-    pub(crate) port: PortId,
+    port: PortId,
     /// The place of its record.
-    pub(crate) place: usize,
+    place: usize,
     /// What it leaves under its name.
-    pub(crate) left: Option<Entry>,
+    left: Option<Entry>,
 }
 
 /// Judges the word of the destination: only a right for a port will do.
 #[inline(always)]
-pub(crate) fn judge_destination(
-    space: &TaskNames<'_>,
-    word: PortWord,
-) -> Result<Destination, MsgReturn>
+fn judge_destination(space: &TaskNames<'_>, word: PortWord) -> Result<Destination, MsgReturn>
     requires { IsSome (disposition word.disposition) }
     ensures ok { IfOk result (λ d. StartsAt space.now.names word d) }
     ensures err { IfErr result (λ code. (code ≡ SendInvalidDest) × LeadsNowhere space.now.names word) }
 {
+    let given = Disposition::from_u8(word.disposition).unwrap();
     let Some(Placed { entry, place }) = space.find(word.name) else {
         return Err(MsgReturn::SendInvalidDest);
     };
-    let Some(Going { carried, left }) = going_from(Some(entry), word) else {
+    let Some(Copied { left, mark }) = copy_right(given, &entry) else {
         return Err(MsgReturn::SendInvalidDest);
     };
-    match marked_port(&carried) {
-        Some(port) => Ok(Destination {
-            carried,
+    match mark {
+        Mark::Port(port) => Ok(Destination {
+            carried: Carried { given, mark },
             port,
             place,
             left,
         }),
-        None => Err(MsgReturn::SendInvalidDest),
+        Mark::Null | Mark::Dead => Err(MsgReturn::SendInvalidDest),
     }
 }
 
 /// The rights of a message's header.
 #[derive(Clone, Copy)]
-pub(crate) struct Rights {
-    pub(crate) destination: Carried,
-    pub(crate) port: PortId,
+struct Rights {
+    destination: Carried,
+    port: PortId,
     /// The place of its record.
-    pub(crate) place: usize,
-    pub(crate) reply: Option<Carried>,
-}
-
-/// Judges the message's second port word (the reply right, or the only right of the body) against the
-/// sender's names as the destination left them. Returns `refusal` for a bad word.
-#[inline(always)]
-pub(crate) fn judge_second(
-    space: &TaskNames<'_>,
-    first: Touch,
-    word: PortWord,
-    refusal: MsgReturn,
-) -> Result<Carried, MsgReturn>
-    requires { IsSome (disposition word.disposition) }
-    ensures ok { IfOk result (λ c. (after : Names) × CopiesWord (put space.now.names first.name first.left) word c after) }
-    ensures err { IfErr result (λ code. (code ≡ refusal) × IsBad (put space.now.names first.name first.left) word) }
-{
-    let given = Disposition::from_u8(word.disposition).unwrap();
-    if let Some(mark) = mark_of_word(word.name) {
-        return Ok(Carried { given, mark });
-    }
-    match going_from(standing_after(space, &first, word.name), word) {
-        Some(going) => Ok(going.carried),
-        None => Err(refusal),
-    }
-}
-
-// Judges the words of a message whose body has none. There are two at most, so that no list is kept of
-// what they leave.
-#[inline(always)]
-fn judge_bare(space: &TaskNames<'_>, words: &Words) -> Result<Rights, MsgReturn>
-    requires given { AreGiven words.now }
-    requires bare { words.now.body.items ≡ [] }
-    ensures ok { IfOk result (λ rights. GoAll space.now.names words.now rights []) }
-    ensures err { IfErr result (λ code. CannotGo space.now.names words.now code) }
-{
-    let Destination {
-        carried,
-        port,
-        place,
-        left,
-    } = judge_destination(space, words.destination)?;
-    let first = Touch {
-        name: words.destination.name.number(),
-        left,
-    };
-    let reply = match words.reply {
-        Some(word) => Some(judge_second(space, first, word, MsgReturn::SendInvalidReply)?),
-        None => None,
-    };
-    Ok(Rights {
-        destination: carried,
-        port,
-        place,
-        reply,
-    })
+    place: usize,
+    reply: Option<Carried>,
 }
 
 // Judges all words of a message: the destination, the reply and the body, whose rights it puts into a
@@ -368,11 +277,11 @@ fn judge_all(
     words: &Words,
     body: &mut SmallVec<Carried, INLINE_WORDS>,
 ) -> Result<Rights, MsgReturn>
-    requires given { AreGiven words.now }
+    requires given { AreGiven (listed words.now) }
     requires none { body.old.items ≡ [] }
     requires inline { inline_words ≤ body.old.capacity }
-    ensures ok { IfOk result (λ rights. GoAll space.now.names words.now rights body.new.items) }
-    ensures err { IfErr result (λ code. (code ≡ SendNoBuffer) × (inline_words < small_vec_len words.now.body) ⊎ CannotGo space.now.names words.now code) }
+    ensures ok { IfOk result (λ rights. GoAll space.now.names (listed words.now) rights body.new.items) }
+    ensures err { IfErr result (λ code. (code ≡ SendNoBuffer) × (inline_words < small_vec_len words.now.body) ⊎ CannotGo space.now.names (listed words.now) code) }
 {
     let Destination {
         carried,
@@ -398,12 +307,12 @@ fn judge_others(
     left: Option<Entry>,
     body: &mut SmallVec<Carried, INLINE_WORDS>,
 ) -> Result<Option<Carried>, MsgReturn>
-    requires given { AreGiven words.now }
+    requires given { AreGiven (listed words.now) }
     requires none { body.old.items ≡ [] }
     requires inline { inline_words ≤ body.old.capacity }
-    ensures ok { IfOk result (λ reply. OthersGo (put space.now.names words.now.destination.name left) words.now reply body.new.items) }
+    ensures ok { IfOk result (λ reply. OthersGo (put space.now.names words.now.destination.name left) (listed words.now) reply body.new.items) }
     ensures err { IfErr result (λ code. (code ≡ SendNoBuffer) × (inline_words < small_vec_len words.now.body)
-        ⊎ OthersCannot (put space.now.names words.now.destination.name left) words.now code) }
+        ⊎ OthersCannot (put space.now.names words.now.destination.name left) (listed words.now) code) }
 {
     let mut touched = Touched::first(alloc, words.destination.name, left);
     let reply = judge_reply(space, &mut touched, words.reply)?;
@@ -413,7 +322,7 @@ fn judge_others(
 
 // Whether the port's queue takes a message under this destination right.
 #[inline(always)]
-fn has_slot(world: &World, found: Found, destination: Carried) -> bool
+pub(crate) fn has_slot(world: &World, found: Found, destination: Carried) -> bool
     requires live { IsLive world.now.ports found.port }
     requires sends { kind_sent destination.given ≢ receive }
     ensures { MatchBool result (HasSlot world.now found.port destination) (HasNoSlot world.now found.port destination) }
@@ -422,7 +331,7 @@ fn has_slot(world: &World, found: Found, destination: Carried) -> bool
 }
 
 // How many rights are made by this one: one, or none.
-fn count_made(carried: Carried) -> u64
+pub(crate) fn count_made(carried: Carried) -> u64
     ensures value { result ≡ made_by carried }
     ensures few { result ≤ 1 }
 {
@@ -472,12 +381,7 @@ fn judge_loop(world: &World, alloc: Global, port: PortId, body: &[Carried]) -> R
 
 /// Judges whether the message closes a loop, then the queue, and then the limit of rights.
 #[inline(always)]
-pub(crate) fn admit(
-    world: &World,
-    alloc: Global,
-    rights: &Rights,
-    body: &[Carried],
-) -> Result<(), MsgReturn>
+fn admit(world: &World, alloc: Global, rights: &Rights, body: &[Carried]) -> Result<(), MsgReturn>
     requires live { IsLive world.now.ports rights.now.port }
     requires sends { kind_sent rights.now.destination.given ≢ receive }
     ensures ok { IfOk result (λ _. MayGo world.now rights.now body.now) }
@@ -496,11 +400,11 @@ pub(crate) fn admit(
 
 /// What a message says, beside the words of its body.
 #[derive(Clone, Copy)]
-pub(crate) struct Head {
-    pub(crate) destination: PortWord,
-    pub(crate) reply: Option<PortWord>,
-    pub(crate) id: u32,
-    pub(crate) is_complex: bool,
+struct Head {
+    destination: PortWord,
+    reply: Option<PortWord>,
+    id: u32,
+    is_complex: bool,
 }
 
 // The word of the right to answer with, if the header has one.
@@ -535,7 +439,7 @@ fn head_of(parsed: &Parsed) -> Head
 // The words of a message.
 fn read_words(alloc: Global, parsed: &Parsed, bytes: &[u8]) -> Result<Words, MsgReturn>
     requires { Parses bytes.now parsed.now }
-    ensures ok { IfOk result (λ words. (p : Parses bytes.now parsed.now) → AreWords parsed.now p.written words) }
+    ensures ok { IfOk result (λ words. (p : Parses bytes.now parsed.now) → AreWords parsed.now p.written (listed words)) }
     ensures err { IfErr result (λ code. (code ≡ SendNoBuffer) × ((p : Parses bytes.now parsed.now) → inline_words < length (body_words p.written))) }
 {
     let Ok(body) = port_words(alloc, bytes, parsed.spans.as_slice()) else {
@@ -575,7 +479,7 @@ fn message_of(
 
 /// The plan by which a message with these rights is sent.
 #[inline(always)]
-pub(crate) fn plan_of(task: TaskId, words: Words, rights: &Rights, message: Message) -> Plan
+fn plan_of(task: TaskId, words: Words, rights: &Rights, message: Message) -> Plan
     ensures { result ≡ record { task = task; words = words; destination = rights.now.destination; port = rights.now.port; place = rights.now.place; message = message } }
 {
     Plan {
@@ -586,59 +490,6 @@ pub(crate) fn plan_of(task: TaskId, words: Words, rights: &Rights, message: Mess
         place: rights.place,
         message,
     }
-}
-
-// As [`check`], of a message whose body has no port words: in fewer steps, since it needs no list of them.
-#[inline(always)]
-pub(crate) fn check_bare(
-    world: &World,
-    alloc: Global,
-    task: TaskId,
-    head: &Head,
-    bytes: &[u8],
-) -> Result<Plan, MsgReturn>
-    requires there { HasTask world.now task }
-    requires bare { (parsed : AnyParsed) × IsBare bytes.now head.now parsed }
-    requires tied { IsTied world.now task }
-    ensures ok { IfOk result (λ plan. (parsed : AnyParsed) (bare : IsBare bytes.now head.now parsed) → IsPlan world.now task parsed bare.parses.written bytes.now plan) }
-    ensures err { IfErr result (λ code. (parsed : AnyParsed) (bare : IsBare bytes.now head.now parsed) → CannotPlan world.now task parsed bare.parses.written (msg_number code)) }
-{
-    let words = Words {
-        destination: head.destination,
-        reply: head.reply,
-        body: SmallVec::new(alloc),
-    };
-    let rights = judge_bare(&world.space(task), &words)?;
-    admit(world, alloc, &rights, &[])?;
-    let message = message_of(alloc, head, bytes, &rights, None)?;
-    Ok(plan_of(task, words, &rights, message))
-}
-
-// As [`check`], of any message.
-fn check_any(
-    world: &World,
-    alloc: Global,
-    task: TaskId,
-    parsed: &Parsed,
-    bytes: &[u8],
-) -> Result<Plan, MsgReturn>
-    requires there { HasTask world.now task }
-    requires parses { Parses bytes.now parsed.now }
-    requires tied { IsTied world.now task }
-    ensures ok { IfOk result (λ plan. (p : Parses bytes.now parsed.now) → IsPlan world.now task parsed.now p.written bytes.now plan) }
-    ensures err { IfErr result (λ code. (p : Parses bytes.now parsed.now) → CannotPlan world.now task parsed.now p.written (msg_number code)) }
-{
-    let words = read_words(alloc, parsed, bytes)?;
-    let mut body = SmallVec::new(alloc);
-    let rights = judge_all(alloc, &world.space(task), &words, &mut body)?;
-    admit(world, alloc, &rights, body.as_slice())?;
-    let spans = parsed.spans.as_slice();
-    let Ok(carried) = CarriedRights::of(alloc, spans, body.as_slice()) else {
-        return Err(MsgReturn::SendNoBuffer);
-    };
-    let head = head_of(parsed);
-    let message = message_of(alloc, &head, bytes, &rights, carried)?;
-    Ok(plan_of(task, words, &rights, message))
 }
 
 /// Judges a message of the task, as it was read, and makes the plan by which [`commit`] sends it. Nothing
@@ -671,12 +522,18 @@ pub fn check(
     requires there { HasTask world.now task }
     requires parses { Parses bytes.now parsed.now }
     requires tied { IsTied world.now task }
-    ensures ok { IfOk result (λ plan. (p : Parses bytes.now parsed.now) → IsPlan world.now task parsed.now p.written bytes.now plan) }
+    ensures ok { IfOk result (λ plan. (p : Parses bytes.now parsed.now) → IsPlan world.now task parsed.now p.written bytes.now (plan_view plan)) }
     ensures err { IfErr result (λ code. (p : Parses bytes.now parsed.now) → CannotPlan world.now task parsed.now p.written (msg_number code)) }
 {
-    if parsed.spans.as_slice().is_empty() {
-        check_bare(world, alloc, task, &head_of(parsed), bytes)
-    } else {
-        check_any(world, alloc, task, parsed, bytes)
-    }
+    let words = read_words(alloc, parsed, bytes)?;
+    let mut body = SmallVec::new(alloc);
+    let rights = judge_all(alloc, &world.space(task), &words, &mut body)?;
+    admit(world, alloc, &rights, body.as_slice())?;
+    let spans = parsed.spans.as_slice();
+    let Ok(carried) = CarriedRights::of(alloc, spans, body.as_slice()) else {
+        return Err(MsgReturn::SendNoBuffer);
+    };
+    let head = head_of(parsed);
+    let message = message_of(alloc, &head, bytes, &rights, carried)?;
+    Ok(plan_of(task, words, &rights, message))
 }

@@ -71,7 +71,8 @@ fn any_leads_on(world: &World, port: PortId, rights: &[Carried]) -> bool
 }
 
 // Whether it is a receive right that makes one.
-fn leads_on(world: &World, port: PortId, carried: &Carried) -> bool
+#[inline(always)]
+pub(crate) fn leads_on(world: &World, port: PortId, carried: &Carried) -> bool
     ensures { MatchBool result (MakesLoop world.now.ports port (carried.now ∷ [])) (¬ (MakesLoop world.now.ports port (carried.now ∷ []))) }
 {
     match carried.receive_port() {

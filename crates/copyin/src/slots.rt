@@ -7,7 +7,7 @@ use copyin_base::{Carried, Mark};
 use mach_types::Disposition;
 
 // How many send-once rights are made by the right.
-fn count_once(carried: Carried) -> usize
+pub(crate) fn count_once(carried: Carried) -> usize
     ensures value { result ≡ once_made_by carried }
     ensures few { result ≤ 1 }
 {
@@ -44,7 +44,7 @@ fn count_reply_once(reply: Option<Carried>) -> usize
 }
 
 // How many slots a message that goes so wants for itself.
-fn count_own(given: Disposition) -> usize
+pub(crate) fn count_own(given: Disposition) -> usize
     ensures value { result ≡ own_slot given }
     ensures few { result ≤ 1 }
 {

@@ -31,18 +31,6 @@ pub(crate) struct Touched {
     pub(crate) many: BTreeMap<u32, Option<Entry>>,
 }
 
-/// What is under the name after one was touched.
-#[inline(always)]
-pub(crate) fn standing_after(space: &TaskNames<'_>, touch: &Touch, name: Name) -> Option<Entry>
-    ensures { result ≡ map.get (put space.now.names touch.now.name touch.now.left) name }
-{
-    if name.number() == touch.name {
-        touch.left
-    } else {
-        space.lookup(name)
-    }
-}
-
 // What stands under the name after the first few: what the last of them left that touched it.
 #[inline(always)]
 fn after_few(space: &TaskNames<'_>, few: &[Touch], name: Name) -> Option<Entry>

@@ -9,6 +9,7 @@ ghost use Rattle.copyin_base.specs.Coming.{HasRoomForPort, with_new_port};
 
 use crate::world::World;
 use mach_types::{KernReturn, PortId, TaskId};
+use port::Found;
 use rights::{Counts, RightKind};
 use std::alloc::AllocError;
 
@@ -36,17 +37,17 @@ impl World {
     #[inline(always)]
     pub fn make_rights(
         &mut self,
-        port: PortId,
+        found: Found,
         kind: RightKind,
         number: u32,
     ) -> Result<(), KernReturn>
-        requires { IsEntered self.old.ledger port }
+        requires { IsEntered self.old.ledger found.port }
         ensures refused { MatchResult result (λ _. self.old.ledger.total + number ≤ most_rights) (λ code. (code ≡ NoSpace) × (most_rights < self.old.ledger.total + number)) }
-        ensures ok { OnOk result (self.new ≡ record self.old { ledger = made self.old.ledger port kind number }) }
+        ensures ok { OnOk result (self.new ≡ record self.old { ledger = made self.old.ledger found.port kind number }) }
         ensures err { OnErr result (self.new ≡ self.old) }
     {
         self.ledger.make(kind, number)?;
-        self.ports.add_rights(port, kind, number);
+        self.ports.add_rights(found, kind, number);
         Ok(())
     }
 

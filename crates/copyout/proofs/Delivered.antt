@@ -1,16 +1,16 @@
 -- A message that was taken: its rights are given.
-use Rattle.std.proofs.Common.{◌≡◌, ℕ, ◌+◌, ◌*◌, ◌^◌, List, [], ◌∷◌, ◌++◌, Option, Some, None, refl, sym, ap, subst, ◌∙◌, arith, length, ◌<◌, ◌≤◌, ◌≢◌, Bool, true, false, inl, inr}
-use Rattle.std.specs.Prelude.{if◌then◌else◌, min, MatchBool, MatchOption, max, is_some}
+use Rattle.std.proofs.Common.{◌≡◌, ℕ, ◌+◌, ◌*◌, ◌^◌, List, [], ◌∷◌, ◌++◌, Option, Some, None, refl, sym, ap, subst, ◌∙◌, arith, length, ◌≢◌, Bool, true, false, inl, inr}
+use Rattle.std.specs.Prelude.{if◌then◌else◌, MatchBool, MatchOption, max, is_some}
 use Rattle.std.specs.Option.{option_to_list}
 use Rattle.std.specs.FinMap as map
-use Rattle.mach_types.specs.Numbers.{kind_sent, most_bytes, dead_word, null_word}
+use Rattle.mach_types.specs.Numbers.{kind_sent, dead_word, null_word}
 use Rattle.mach_types.specs.Rights.{disposition_number}
 use Rattle.mach_types.specs.Grammar.{WireBody, body_text}
 use Rattle.mach_types.specs.Tokens.{Kind, receive, send, send_once}
 use Rattle.message_codec.specs.declared.header.Header.{Header}
 use Rattle.message_codec.specs.Received.{header_text, received_body, IsLaidOut}
 use Rattle.message_codec.specs.declared.spans.Span.{Span}
-use Rattle.message_codec.specs.Plain.{lone_span}
+use Rattle.message_codec.specs.Short.{one_word_span}
 use Rattle.rights.specs.Ledger.{LedgerView, taken}
 use Rattle.name_space.specs.Names.{Names, SpaceView, port_at}
 use Rattle.name_space.proofs.Keys.{some_or_none}
@@ -18,9 +18,8 @@ use Rattle.name_space.specs.declared.Entry.{Entry}
 use Rattle.port.specs.Ports.{PortsView}
 use Rattle.copyin_base.specs.declared.Carried.{Carried}
 use Rattle.copyin_base.specs.Kept.{Kept, IsMessageOf}
-use Rattle.copyin_base.specs.Worlds.{WorldView, HasTask, space_at, port_at as table_at}
+use Rattle.copyin_base.specs.Worlds.{WorldView, space_at, port_at as table_at}
 use Rattle.copyin_base.specs.Changes.{MakesRoom}
-use Rattle.copyin_base.proofs.Told.{space_there}
 use Rattle.copyin_base.specs.declared.Mark.{Mark}
 use Rattle.copyin_base.specs.declared.Mark.TheVariants as mark
 use Rattle.copyin_base.proofs.Gets.{same_found}
@@ -29,17 +28,12 @@ use Rattle.copyin_base.specs.Shows.{SlotsSuffice}
 use Rattle.copyin_base.proofs.Slots.{slots_kept, slots_same}
 use Rattle.copyout.specs.Giving.{GivesMark, GivesAll, GivesPort, ledger_joined}
 use Rattle.copyout.specs.Takes.{TakesFront, TakesMessage, NotesFront, reply_number, reply_word, body_names}
-use Rattle.copyout.specs.Ready.{CanGive, Delivers, HasFront, IsRefusedBy, MayReceive, carried_by, CanTakeName, IsNumbered}
+use Rattle.copyout.specs.Ready.{CanGive, Delivers, carried_by, CanTakeName, IsNumbered}
 use Rattle.copyout.proofs.PortsGiven.{can_give_one, can_give_rest, can_give_port, can_take}
-use Rattle.copyout.specs.Plain.{IsPlain}
 use Rattle.copyout.specs.Room.{Needs, OwnsAlone, Shares}
-use Rattle.copyout.specs.declared.receipt.Refusal.{Refusal}
-use Rattle.copyout.specs.declared.receipt.Refusal.TheVariants as refused
-use Rattle.copyout.specs.Wanted.{ReturnsSlot, WantsToReceive}
-use Rattle.copyout.proofs.Fronts.{note_returns}
-use Rattle.copyout.proofs.Rooms.{judged_front, returns_slot, room_for_none, front_live, front_there}
-use Rattle.copyout.specs.declared.bare.Bare.{Bare}
-use Rattle.copyout.specs.Bare.{IsBare, OwnsFor, TellsOwn, lone_right, own_names}
+use Rattle.copyout.proofs.Rooms.{front_live, front_there}
+use Rattle.copyout.specs.declared.short.Short.{Short}
+use Rattle.copyout.specs.Short.{IsShort, OwnsFor, TellsOwn, body_right, own_names}
 use Rattle.copyout.proofs.Counting.{needs_alone}
 use Rattle.copyout.specs.Putting.{PutsPort}
 use Rattle.copyout.proofs.Counted.{put_world, gives_puts}
@@ -113,84 +107,38 @@ takes_message w mid taken new task port local sequence m bytes t is number d not
     subst (λ (n : ℕ). Delivers mid task (record t.front { told = m.told }) local n bytes taken) number (subst (λ (x : Kept). Delivers mid task x local sequence bytes taken) is d) in
     (taken, record { mid = mid; takes = t; words = e.words; gives = e.gives; text = e.text }, notes)
 
--- ---- A message whose body carries no rights; and one that carries nothing beside its bytes: no right is given, and no name is needed.
-
-carries_none : (m : Kept) → IsPlain m → carried_by m ≡ []
-carries_none m p = ap (λ (o : Option Carried). option_to_list o ++ m.rights) p.no_reply ∙ p.no_rights
+-- ---- A message whose body carries no rights.
 
 -- A message whose body carries no rights is delivered where its right to answer with, if it has one, is given, and its header is reversed.
-pub delivers_bare : (w new : WorldView) (task : ℕ) (m : Kept) (local sequence : ℕ) (words bytes : List ℕ) (h : Header) → m.spans ≡ [] → m.rights ≡ [] →
+pub delivers_raw : (w new : WorldView) (task : ℕ) (m : Kept) (local sequence : ℕ) (words bytes : List ℕ) (h : Header) → m.spans ≡ [] → m.rights ≡ [] →
     GivesAll w task (option_to_list m.reply) words new →
     h.bits ≡ reply_number m.reply + (if m.by_once then 18 else 17) * 2 ^ 8 + (if m.is_complex then 2 ^ 31 else 0) →
     h.size ≡ length m.bytes → h.remote ≡ reply_word m.reply words → h.local ≡ local → h.sequence ≡ sequence → h.id ≡ m.id →
     ((written : WireBody) → IsLaidOut m.bytes [] written → bytes ≡ header_text h ++ body_text (received_body written [])) →
     Delivers w task m local sequence bytes new
-delivers_bare w new task m local sequence words bytes h no_spans no_rights gives bits size remote local_is sequence_is id put =
+delivers_raw w new task m local sequence words bytes h no_spans no_rights gives bits size remote local_is sequence_is id put =
     delivers w new new task m local sequence words [] bytes h gives
     (subst (λ (xs : List Carried). GivesAll new task xs [] new) (sym no_rights) refl)
     bits size remote local_is sequence_is id
     (λ written laid. put written (subst (λ (ss : List Span). IsLaidOut m.bytes ss written) no_spans laid))
 
-module _ (w : WorldView) (task port room local : ℕ) (is_task : HasTask w task) (m : Kept) (f : HasFront w port m) (p : IsPlain m) where
-  -- what is told of its receipt, whichever task gets it
-  abbrev pub Receives : (bytes : List ℕ) (new : WorldView) → Type 0
-  Receives bytes new = (to : ℕ) → (taken : WorldView) × (t : TakesMessage w to port local bytes taken) × NotesFront taken port t.takes.front new
-
-  room_is : MakesRoom w task 0 w
-  room_is = room_for_none w task 0 is_task refl
-
-  -- It needs no name.
-  may : length m.bytes ≤ min room most_bytes → MayReceive w task port room 0
-  may fits =
-      let s = space_there w task is_task in
-      record {
-        front = m;
-        waits = f;
-        may = record {
-          fits = fits;
-          has = record {
-            space = s.0;
-            there = s.1;
-            suffice = inl (subst (λ (xs : List Carried). Needs w.ports s.0.names [] xs 0) (sym (carries_none m p)) refl);
-            names = omega arith;
-          };
-        };
-      }
-
-  pub received : (bytes : List ℕ) (new : WorldView) → length m.bytes ≤ min room most_bytes → Receives bytes new →
-      (needed : ℕ) × (start : WorldView) × (taken : WorldView) × MakesRoom w task needed start × (t : TakesMessage start task port local bytes taken)
-      × (length t.takes.front.bytes ≤ min room most_bytes) × NotesFront taken port t.takes.front new
-  received bytes new fits all =
-      let x = all task in
-      let front = judged_front w w task port 0 m f room_is x.1.mid x.1.takes in
-      (0, w, x.0, room_is, x.1, subst (λ (k : Kept). length k.bytes ≤ min room most_bytes) front fits, x.2)
-
-  pub returned : (bytes : List ℕ) (new : WorldView) → length m.bytes ≤ min room most_bytes → Receives bytes new → ReturnsSlot w task port new
-  returned bytes new fits all = let x = all task in note_returns w x.0 new task port x.1.takes.front (returns_slot w w x.0 task port room 0 local bytes (may fits) room_is x.1) x.2
-
-  pub refused_large : (size : ℕ) (refusal : Refusal) → size ≡ length m.bytes → refusal ≡ refused.TooLarge size → min room most_bytes < size → IsRefusedBy w task m room refusal
-  refused_large size refusal long is above = subst (IsRefusedBy w task m room) (sym is) (long, subst (λ (n : ℕ). min room most_bytes < n) long above)
-
-  pub no_memory : (size : ℕ) (refusal : Refusal) → refusal ≡ refused.TooLarge size → refusal ≡ refused.Memory → WantsToReceive w task port
-  no_memory size refusal is memory = absurd (cc)
-
 -- ---- A message that carries one right at most beside that of its destination: the name that the right comes under.
 
 -- what is carried is the right, if there is one
-pub carries_right : (m : Kept) (b : Bare) → IsBare m b → carried_by m ≡ option_to_list b.right
+pub carries_right : (m : Kept) (b : Short) → IsShort m b → carried_by m ≡ option_to_list b.right
 carries_right m b is = grind arith
 
-pub bare_needs : (ports : PortsView Kept) (names : Names) (m : Kept) (b : Bare) (n : ℕ) → IsBare m b → Needs ports names [] (option_to_list b.right) n → Needs ports names [] (carried_by m) n
-bare_needs ports names m b n is = subst (λ (cs : List Carried). Needs ports names [] cs n) (sym (carries_right m b is))
+pub short_needs : (ports : PortsView Kept) (names : Names) (m : Kept) (b : Short) (n : ℕ) → IsShort m b → Needs ports names [] (option_to_list b.right) n → Needs ports names [] (carried_by m) n
+short_needs ports names m b n is = subst (λ (cs : List Carried). Needs ports names [] cs n) (sym (carries_right m b is))
 
 -- With a right to answer with, or with none, the body has none.
-pub answers_only : (m : Kept) (b : Bare) → IsBare m b → lone_right b ≡ None → (b.right ≡ m.reply) × (m.spans ≡ []) × (m.rights ≡ [])
+pub answers_only : (m : Kept) (b : Short) → IsShort m b → body_right b ≡ None → (b.right ≡ m.reply) × (m.spans ≡ []) × (m.rights ≡ [])
 answers_only m b is none = grind (arith, some_or_none)
 
 -- The right is the body's only one.
-pub lone_only : (m : Kept) (b : Bare) (c : Carried) → IsBare m b → lone_right b ≡ Some c →
-    (b.right ≡ Some c) × (m.reply ≡ None) × (m.spans ≡ lone_span (disposition_number c.given) ∷ []) × (m.rights ≡ c ∷ [])
-lone_only m b c is one = grind (arith, some_or_none)
+pub body_only : (m : Kept) (b : Short) (c : Carried) → IsShort m b → body_right b ≡ Some c →
+    (b.right ≡ Some c) × (m.reply ≡ None) × (m.spans ≡ one_word_span (disposition_number c.given) ∷ []) × (m.rights ≡ c ∷ [])
+body_only m b c is one = grind (arith, some_or_none)
 
 -- A right that is given alone has one word, which is its name.
 pub gives_one : (w new : WorldView) (task : ℕ) (right : Option Carried) (c : Carried) → right ≡ Some c → (words : List ℕ) (name : ℕ) →
@@ -204,13 +152,13 @@ gives_one w new task right c is words name gives named =
     only (word ∷ other ∷ ws) g e = absurd g.2
 
 -- A message whose body is one word is delivered where its right is given, and its header is reversed: there is no right to answer with.
-pub delivers_lone : (w new : WorldView) (task : ℕ) (m : Kept) (c : Carried) (local sequence name : ℕ) (bytes : List ℕ) (h : Header) → m.reply ≡ None →
-    m.spans ≡ lone_span (disposition_number c.given) ∷ [] → m.rights ≡ c ∷ [] → GivesAll w task (c ∷ []) (name ∷ []) new →
+pub delivers_one : (w new : WorldView) (task : ℕ) (m : Kept) (c : Carried) (local sequence name : ℕ) (bytes : List ℕ) (h : Header) → m.reply ≡ None →
+    m.spans ≡ one_word_span (disposition_number c.given) ∷ [] → m.rights ≡ c ∷ [] → GivesAll w task (c ∷ []) (name ∷ []) new →
     h.bits ≡ 0 + (if m.by_once then 18 else 17) * 2 ^ 8 + (if m.is_complex then 2 ^ 31 else 0) →
     h.size ≡ length m.bytes → h.remote ≡ null_word → h.local ≡ local → h.sequence ≡ sequence → h.id ≡ m.id →
-    ((written : WireBody) → IsLaidOut m.bytes (lone_span (disposition_number c.given) ∷ []) written → bytes ≡ header_text h ++ body_text (received_body written (name ∷ []))) →
+    ((written : WireBody) → IsLaidOut m.bytes (one_word_span (disposition_number c.given) ∷ []) written → bytes ≡ header_text h ++ body_text (received_body written (name ∷ []))) →
     Delivers w task m local sequence bytes new
-delivers_lone w new task m c local sequence name bytes h no_reply spans rights gives bits size remote local_is sequence_is id put =
+delivers_one w new task m c local sequence name bytes h no_reply spans rights gives bits size remote local_is sequence_is id put =
     delivers w w new task m local sequence [] (name ∷ []) bytes h
     (subst (λ (o : Option Carried). GivesAll w task (option_to_list o) [] w) (sym no_reply) refl)
     (subst (λ (xs : List Carried). GivesAll w task xs (name ∷ []) new) (sym rights) gives)

@@ -166,10 +166,10 @@ pub same_there : (o : Option Entry) → is_some (option_map target_of o) ≡ is_
 same_there (Some x) = refl
 same_there None = refl
 
-alone_rights : (kind : Kind) (p : ℕ) → kind ≢ send_once → (more_receive kind ≡ one_if (has_receive (alone kind p))) × (more_send kind 0 ≡ send_references (alone kind p))
-alone_rights receive p not = (refl, refl)
-alone_rights send p not = (refl, refl)
-alone_rights send_once p not = absurd (not refl)
+abody_rights : (kind : Kind) (p : ℕ) → kind ≢ send_once → (more_receive kind ≡ one_if (has_receive (alone kind p))) × (more_send kind 0 ≡ send_references (alone kind p))
+abody_rights receive p not = (refl, refl)
+abody_rights send p not = (refl, refl)
+abody_rights send_once p not = absurd (not refl)
 
 -- What the machine gives, and that the tables agree with it.
 pub record Given (s : State) (o k task : ℕ) (kind : Kind) (p word : ℕ) (w' : WorldView) : Type 0 where
@@ -352,7 +352,7 @@ module _ (w : WorldView) (s : State) (a : Agrees w s) (o k : ℕ) (l : IsMoving 
 
       -- a right under a name of its own is the only one of its port that is under a port's name
       own_rights : kind ≢ send_once → (held new_name task receive p ≡ one_if (has_receive (alone kind p))) × (held new_name task send p ≡ send_references (alone kind p))
-      own_rights not = grind (arith, none_held, alone_rights, held_receive, moves, held_send)
+      own_rights not = grind (arith, none_held, abody_rights, held_receive, moves, held_send)
 
       is_once : (c : Kind) → ((c ≡ send_once) ⊎ (c ≢ send_once))
       is_once receive = inr (λ f. cc)

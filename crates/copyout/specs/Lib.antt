@@ -3,7 +3,7 @@ pub mod Takes
 pub mod Room
 pub mod Ready
 pub mod Prepared
-pub mod Plain
-pub mod Bare
+pub mod Short
+pub mod Receives
 pub mod Wanted
 pub mod Putting

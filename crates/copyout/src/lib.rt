@@ -5,12 +5,11 @@
 //! gives it a name that the caller chose.
 #![tactic(auto)]
 
-mod bare;
 mod give;
-mod plain;
 mod put;
 mod receipt;
 mod room;
+mod short;
 
 pub use give::give_right;
 pub use put::put_right;

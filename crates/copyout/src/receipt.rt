@@ -1,28 +1,27 @@
 //! Taking a port's front message.
-ghost use Rattle.std.specs.Prelude.{◌≡◌, ◌≢◌, ℕ, ◌+◌, ◌*◌, ◌^◌, ◌<◌, ◌≤◌, ◌++◌, [], ◌∷◌, true, Bool, Some, None, length, min, is_some, IfOk, IfErr, OnOk, OnErr, MatchBool, if◌then◌else◌, vec_len, vec_capacity, List};
+ghost use Rattle.std.specs.Prelude.{◌≡◌, ◌≢◌, ℕ, ◌+◌, ◌*◌, ◌^◌, ◌<◌, ◌≤◌, ◌++◌, [], ◌∷◌, Some, None, length, min, IfOk, IfErr, OnOk, OnErr, MatchBool, if◌then◌else◌, List};
 ghost use Rattle.std.specs.FinMap as map;
 ghost use Rattle.mach_types.specs.Numbers.{most_bytes};
 ghost use Rattle.mach_types.specs.Grammar.{WireBody, body_text};
 ghost use Rattle.message_codec.specs.Received.{IsLaidOut, header_text, received_body};
 ghost use Rattle.message_codec.specs.Spans.{word_count};
-ghost use Rattle.name_space.specs.Names.{SpaceView};
 ghost use Rattle.copyin_base.specs.Carrying.{spans_in, spans_held};
 ghost use Rattle.copyin_base.specs.Changes.{MakesRoom, NotesSenderless};
 ghost use Rattle.copyin_base.specs.Kept.{Kept, Makes};
 ghost use Rattle.copyin_base.specs.Wanted.{LacksRoomFor};
-ghost use Rattle.copyin_base.specs.Worlds.{WorldView, port_at, HasTask};
+ghost use Rattle.copyin_base.specs.Worlds.{WorldView, HasTask};
 ghost use Rattle.std.specs.Option.{option_to_list};
 ghost use Rattle.copyout.specs.Giving.{GivesAll, LackRoom};
+ghost use Rattle.copyout.specs.Receives.{Receives, Refuses};
 ghost use Rattle.copyout.specs.Takes.{TakesFront, TakesMessage, NotesFront, reply_number, reply_word};
 ghost use Rattle.copyout.specs.Ready.{CanGive, Waits, HasFront, HasNamesFor, MayHave, MayReceive, ReadyFor, Delivers, IsNumbered, IsRefusedBy, carried_by};
 ghost use Rattle.copyout.specs.Prepared.{IsPrepared};
 ghost use Rattle.copyout.specs.Wanted.{WantsToPrepare, WantsToReceive, ReturnsSlot};
 ghost use Rattle.copyout.specs.declared.receipt.Refusal.TheVariants as refused;
 
-use crate::bare::{bare_of, receive_bare};
 use crate::give::{give_right, give_rights};
-use crate::plain::{plain_of, receive_plain};
 use crate::room::room_needed;
+use crate::short::{alone_of, receive_short, receive_with_right, short_of};
 use copyin_base::{Carried, CarriedRights, Envelope, Message, Queued, World};
 use mach_types::bits::COMPLEX;
 use mach_types::limits::{MOST_BYTES, MOST_NAMES};
@@ -128,7 +127,12 @@ fn spell_body(
         return spell(bytes, spans_of(carried), header, names);
     }
     match envelope.right() {
-        Some(right) => spell(bytes, &[Span::lone(right.given.number())], header, names),
+        Some(right) => spell(
+            bytes,
+            &[Span::of_one_word(right.given.number())],
+            header,
+            names,
+        ),
         None => spell(bytes, &[], header, names),
     }
 }
@@ -326,6 +330,7 @@ pub fn is_receivable(world: &World, task: TaskId, port: PortId, room: u32) -> bo
 }
 
 /// Makes room for so many fresh names of the task. Most messages need none.
+#[inline(always)]
 pub(crate) fn make_room(world: &mut World, task: TaskId, needed: usize) -> Result<(), KernReturn>
     requires { HasTask world.old task }
     ensures ok { OnOk result (MakesRoom world.old task needed world.new) }
@@ -373,10 +378,9 @@ fn receive_any(
 ) -> Result<Bytes, Refusal>
     requires there { HasTask world.old task }
     requires waits { Waits world.old found.port }
-    ensures ok { IfOk result (λ bytes. (made : ℕ) × (start : WorldView) × (taken : WorldView) × MakesRoom world.old task made start × (t : TakesMessage start task found.port local bytes taken)
-        × (length t.takes.front.bytes ≤ min room most_bytes) × NotesFront taken found.port t.takes.front world.new) }
+    ensures ok { IfOk result (λ bytes. Receives world.old task found.port local room bytes world.new) }
     ensures kept { OnOk result (ReturnsSlot world.old task found.port world.new) }
-    ensures err { IfErr result (λ refusal. (world.new ≡ world.old) × (m : Kept) × HasFront world.old found.port m × IsRefusedBy world.old task m room refusal) }
+    ensures err { IfErr result (λ refusal. Refuses world.old task found.port room refusal world.new) }
     ensures wanted { IfErr result (λ refusal. refusal ≡ refused.Memory → WantsToReceive world.old task found.port) }
 {
     let Found { port, place } = found;
@@ -423,20 +427,19 @@ pub fn receive(
 ) -> Result<Bytes, Refusal>
     requires there { HasTask world.old task }
     requires waits { Waits world.old found.port }
-    ensures ok { IfOk result (λ bytes. (made : ℕ) × (start : WorldView) × (taken : WorldView) × MakesRoom world.old task made start × (t : TakesMessage start task found.port local bytes taken)
-        × (length t.takes.front.bytes ≤ min room most_bytes) × NotesFront taken found.port t.takes.front world.new) }
+    ensures ok { IfOk result (λ bytes. Receives world.old task found.port local room bytes world.new) }
     ensures kept { OnOk result (ReturnsSlot world.old task found.port world.new) }
-    ensures err { IfErr result (λ refusal. (world.new ≡ world.old) × (m : Kept) × HasFront world.old found.port m × IsRefusedBy world.old task m room refusal) }
+    ensures err { IfErr result (λ refusal. Refuses world.old task found.port room refusal world.new) }
     ensures wanted { IfErr result (λ refusal. refusal ≡ refused.Memory → WantsToReceive world.old task found.port) }
 {
     let Found { port, place } = found;
     // Most messages carry nothing beside their bytes, or one right, and go a short way.
     let (queued, sequence) = front(world, Found { port, place });
-    if let Some(plain) = plain_of(queued, sequence) {
-        return receive_plain(world, Found { port, place }, local, &plain, room);
+    if let Some(alone) = alone_of(queued, sequence) {
+        return receive_short(world, task, Found { port, place }, local, &alone, room);
     }
-    match bare_of(queued, sequence) {
-        Some(bare) => receive_bare(world, task, Found { port, place }, local, &bare, room),
+    match short_of(queued, sequence) {
+        Some(short) => receive_with_right(world, task, Found { port, place }, local, &short, room),
         None => receive_any(world, alloc, task, Found { port, place }, local, room),
     }
 }

@@ -12,7 +12,7 @@ ghost use Rattle.destroy.specs.Stages.{IsStarted, IsJudged, IsAt, Continues};
 
 use copyin_base::{Mark, Notice, Slot, World};
 use mach_types::PortId;
-use port::Holder;
+use port::{Found, Holder, NOWHERE};
 use rights::RightKind;
 
 /// Judges each port that lost its receive right, and those whose receive rights are lost with a doomed port's
@@ -235,6 +235,9 @@ fn bring_receive(world: &mut World, port: PortId)
     };
     if counts.receive == 0 {
         // There is room: the rights midway have room for the notices of orphans.
-        world.make_rights(port, RightKind::Receive, 1).unwrap();
+        let place = NOWHERE;
+        world
+            .make_rights(Found { port, place }, RightKind::Receive, 1)
+            .unwrap();
     }
 }

@@ -4,6 +4,7 @@
 #![tactic(auto)]
 
 ghost use Rattle.std.specs.Prelude.{◌≡◌, ◌≢◌, ℕ, Some, None};
+ghost use Rattle.std.specs.Option.{option_and_then, option_map};
 ghost use Rattle.name_space.specs.declared.Entry.TheVariants as entry_of;
 ghost use Rattle.mach_types.specs.declared.rights.Disposition.TheVariants as disposition_of;
 ghost use Rattle.dispositions.specs.Copies.{copied_from, leaving, leaving_dead, one_less};
@@ -116,5 +117,41 @@ pub fn copy_right(disposition: Disposition, entry: &Entry) -> Option<Copied>
         Disposition::MoveSendOnce => move_send_once(entry),
         Disposition::CopySend => copy_send(entry),
         Disposition::MakeSend | Disposition::MakeSendOnce => make(entry),
+    }
+}
+
+/// What stands for the right that goes by the disposition from what is under a name, as [`copy_right`] says
+/// it; `None` where the disposition can't be met. Takes no memory; constant time.
+#[inline(always)]
+pub fn mark_sent(disposition: Disposition, entry: &Entry) -> Option<Mark>
+    ensures { result ≡ option_map (λ copied. copied.mark) (copied_from disposition entry.now) }
+{
+    match disposition {
+        Disposition::MoveReceive | Disposition::MakeSend | Disposition::MakeSendOnce =>
+            match entry {
+                Entry::Receive(port) | Entry::ReceiveAndSend(port, _) => Some(Mark::Port(*port)),
+                _ => None,
+            },
+        Disposition::MoveSend | Disposition::CopySend => match entry {
+            Entry::Send(port, _) | Entry::ReceiveAndSend(port, _) => Some(Mark::Port(*port)),
+            Entry::DeadName(_) => Some(Mark::Dead),
+            _ => None,
+        },
+        Disposition::MoveSendOnce => match entry {
+            Entry::SendOnce(port) => Some(Mark::Port(*port)),
+            Entry::DeadName(_) => Some(Mark::Dead),
+            _ => None,
+        },
+    }
+}
+
+/// What a right that goes by the disposition leaves of what is under its name, as [`copy_right`] says it: nothing
+/// where the name is no name any more, or the disposition can't be met. Takes no memory; constant time.
+pub fn left_by(disposition: Disposition, entry: &Entry) -> Option<Entry>
+    ensures { result ≡ option_and_then (λ copied. copied.left) (copied_from disposition entry.now) }
+{
+    match copy_right(disposition, entry) {
+        Some(copied) => copied.left,
+        None => None,
     }
 }

@@ -35,7 +35,7 @@ use Rattle.copyin_base.specs.Serving.{ShowsMid}
 use Rattle.copyin_base.specs.Shows.{Agrees, Shows}
 use Rattle.copyin_base.specs.Worlds.{WorldView, sets_at}
 use Rattle.copyin_base.proofs.KeptEntries.{rights_of, body_kept}
-use Rattle.copyin.specs.declared.judge.Plan.{Plan}
+use Rattle.copyin.specs.Planned.{PlanView}
 use Rattle.copyin.specs.Judging.{CopiesName, CopiesWord, PassesAs}
 use Rattle.copyin.proofs.Copying.{pairs, body_pairs}
 use Rattle.copyin.proofs.Planning.{message, third, copied, none_receives}
@@ -258,7 +258,7 @@ module _ (now : ℕ) (old w : WorldView) (s mid : State) (owed : Owed) (sh : Sho
   law : owed ≡ [] → MidLawful mid []
   law none = subst (MidLawful mid) none shown.lawful
 
-  pub along_own : (task : ℕ) (bytes : List ℕ) (plan : Plan) (told : Change) → Sends now task bytes s mid → owed ≡ [] → PlansText old task bytes plan → TellsAlong old plan told → OwnTouches s mid owed (touched_by w told)
+  pub along_own : (task : ℕ) (bytes : List ℕ) (plan : PlanView) (told : Change) → Sends now task bytes s mid → owed ≡ [] → PlansText old task bytes plan → TellsAlong old plan told → OwnTouches s mid owed (touched_by w told)
   along_own task bytes plan told x none p tells = elim (taking_covers old w plan.port (receives_of plan.message.rights)) [
     | inl every ↦ inl (ap (touched_by w) tells ∙ every)
     | inr covers ↦ (

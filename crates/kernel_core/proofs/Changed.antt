@@ -58,7 +58,7 @@ use Rattle.copyin_base.specs.Worlds.{WorldView, entry_at, port_at, sets_at, IsId
 use Rattle.copyin_base.specs.Serving.{ShowsMid}
 use Rattle.message_codec.specs.Words.{body_words}
 use Rattle.mach_types.specs.Bodies.{body_words as machine_words}
-use Rattle.copyin.specs.declared.judge.Plan.{Plan}
+use Rattle.copyin.specs.Planned.{PlanView}
 use Rattle.copyin.proofs.Copying.{pairs, body_pairs}
 use Rattle.copyin.proofs.Planning.{message, third, copied, none_receives}
 use Rattle.destroy.specs.Stages.{SettlesIn}
@@ -184,7 +184,7 @@ module _ (now : ℕ) (old w : WorldView) (s mid : State) (owed : Owed) (sh : Sho
   law : owed ≡ [] → MidLawful mid []
   law none = subst (MidLawful mid) none shown.lawful
 
-  message_sent : (task : ℕ) (bytes : List ℕ) (plan : Plan) → Sends now task bytes s mid → owed ≡ [] → PlansText old task bytes plan → MovesNoReceive plan.words.body.items → OwnTouches s mid owed (with_sets w (Some plan.port))
+  message_sent : (task : ℕ) (bytes : List ℕ) (plan : PlanView) → Sends now task bytes s mid → owed ≡ [] → PlansText old task bytes plan → MovesNoReceive plan.words.body → OwnTouches s mid owed (with_sets w (Some plan.port))
   message_sent task bytes plan x none p goes =
       let j = p.is_plan.plans.judged in
       let y : Sends now task bytes s _ = record {
@@ -204,7 +204,7 @@ module _ (now : ℕ) (old w : WorldView) (s mid : State) (owed : Owed) (sh : Sho
       subst (λ (h : Header). SendsOthers h x.written) (sym same.1) (subst (λ (v : WireBody). SendsOthers p.text.header v) (sym same.2) (record { destination = moved.remote; reply = moved.local; body = body })) in
       queue_changed w mid (agree none) s owed plan.port (law none) (subst (λ (o : ℕ). Changes s mid (Some o) None) to (sends_change now task bytes s mid x others)) none
 
-  sent_own : (task : ℕ) (bytes : List ℕ) (plan : Plan) (told : Change) → Sends now task bytes s mid → owed ≡ [] → PlansText old task bytes plan → TellsPlan old plan told → OwnTouches s mid owed (touched_by w told)
+  sent_own : (task : ℕ) (bytes : List ℕ) (plan : PlanView) (told : Change) → Sends now task bytes s mid → owed ≡ [] → PlansText old task bytes plan → TellsPlan old plan told → OwnTouches s mid owed (touched_by w told)
   sent_own task bytes plan told x none p (inl (goes, is)) = subst (λ (c : Change). OwnTouches s mid owed (touched_by w c)) (sym is) (message_sent task bytes plan x none p goes)
   sent_own task bytes plan told x none p (inr along) = along_own now old w s mid owed sh shown task bytes plan told x none p along
 

@@ -21,7 +21,7 @@ use Rattle.name_space.specs.Entry.{set_named}
 use Rattle.port_base.specs.declared.Membership.{Membership}
 use Rattle.port_base.specs.declared.Membership.TheVariants.{Nowhere, Alone, Several}
 use Rattle.port_base.specs.Memberships.{membership_in}
-use Rattle.copyin.specs.declared.judge.Plan.{Plan}
+use Rattle.copyin.specs.Planned.{PlanView}
 use Rattle.kernel_change.specs.declared.change.Change.TheVariants as change
 use Rattle.kernel_change.specs.declared.change.Change.{Change}
 use Rattle.kernel_change.specs.Changing.{ByLosingAll, ByReferences, by_body, by_front, by_handing, by_items, by_losing_all, by_losing_one, by_losing_with, by_making, by_message, by_moving, by_paying, by_receipt, by_received, by_request, by_taking, by_taking_two, by_taking_three, by_taking_along, by_too_long, disbanded, front_at, gives_none, gives_one, left_by, moved_from, noticed_of, port_under, receives_of, any_if_several, by_pairing, has_more, paired}
@@ -216,7 +216,7 @@ module _ (now : ℕ) (old : WorldView) (s mid : State) (owed : Owed) (sh : Shows
         | inr (target, found, r) ↦ removed_lost task name right target found r tells
       ]
 
-  sent_lost : (plan : Plan) → TellsPlan old plan told → Loses
+  sent_lost : (plan : PlanView) → TellsPlan old plan told → Loses
   sent_lost plan (inl (goes, is)) = absurd (never (change.Queue plan.port) is tt)
   sent_lost plan (inr is) = let ports = receives_of plan.message.rights in absurd (never (by_taking old plan.port ports) is (not_taking old plan.port ports))
 

@@ -20,6 +20,7 @@ use copyin_base::{Notice, World};
 use mach_types::limits::{MOST_REFERENCES, MOST_RIGHTS};
 use mach_types::{Code, KernReturn, Name, PortId, Reply, Right, SetId, TaskId};
 use name_space::Entry;
+use port::{Found, NOWHERE};
 use rights::RightKind;
 use user_refs::UserRefs;
 
@@ -84,8 +85,9 @@ fn count_sends(world: &mut World, entry: &Entry, references: u32)
     };
     let held = entry.send_references();
     if held < references {
+        let place = NOWHERE;
         world
-            .make_rights(port, RightKind::Send, references - held)
+            .make_rights(Found { port, place }, RightKind::Send, references - held)
             .unwrap();
     } else {
         world.take_rights(port, RightKind::Send, held - references);

@@ -13,6 +13,7 @@ use Rattle.type_descriptor.proofs.ByteWords.{AreBytes, word-word_at, word_at-lt,
 use Rattle.message_codec.specs.declared.spans.Span.{Span}
 use Rattle.message_codec.specs.Parses.{header_at, is_items, IsMessage, ReadsBody, IsCrowded}
 use Rattle.message_codec.specs.Reading.{ReadsItems, HasMany}
+use Rattle.message_codec.specs.Words.{body_words}
 use Rattle.message_codec.proofs.Shapes.{text_not_refused}
 
 -- ---- headers
@@ -171,3 +172,8 @@ only_crowded (Err e) bytes h written spells none refused = elim refused [
   | inl r ↦ absurd (message_not_refused bytes h written (msg_number e) spells none r)
   | inr r ↦ r
 ]
+
+-- raw bytes have no port words
+pub raw-words : (written : WireBody) → is_items written ≡ false → body_words written ≡ []
+raw-words (raw bytes) plain = refl
+raw-words (items xs) plain = absurd (cc)

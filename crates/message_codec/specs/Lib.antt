@@ -6,4 +6,4 @@ pub mod Putting
 pub mod Words
 pub mod Writing
 pub mod ReceivedShows
-pub mod Plain
+pub mod Short

@@ -21,6 +21,6 @@ pub use reader::{
 };
 pub use received::put_received;
 pub use spans::{Span, Spans};
-pub use text::{Lone, Parsed, Plain, Request, parse, parse_lone, parse_plain, parse_request};
+pub use text::{Parsed, Short, ShortKind, ShortRight, parse, parse_short};
 pub use words::{INLINE_WORDS, PortWord, port_words};
 pub use writer::{PortRight, SendBody, SendHeader, SendItem, WriteError, write_message};

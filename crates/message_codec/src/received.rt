@@ -43,6 +43,7 @@ fn put_span(bytes: &mut [u8], span: &Span, names: &[Name])
 }
 
 /// Writes the kinds and the words of all items.
+#[inline(always)]
 fn put_spans(bytes: &mut [u8], spans: &[Span], names: &[Name])
     requires room { SpansFit (length bytes.old) spans.now }
     requires named { length names.now ≡ word_count spans.now }
@@ -60,6 +61,7 @@ fn put_spans(bytes: &mut [u8], spans: &[Span], names: &[Name])
 /// six words of the header, the kind of each item with port words, and these words. `names` has one name for
 /// each word, from the front. All other bytes stay as they were sent. Takes no memory, and time that grows
 /// with the number of items and words.
+#[inline(always)]
 pub fn put_received(bytes: &mut [u8], spans: &[Span], header: &Header, names: &[Name])
     requires laid_out { (written : WireBody) × IsLaidOut bytes.old spans.now written }
     requires named { length names.now ≡ word_count spans.now }

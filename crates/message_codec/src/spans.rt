@@ -22,12 +22,12 @@ pub struct Span {
 }
 
 impl Span {
-    ghost use Rattle.message_codec.specs.Plain.{lone_span};
+    ghost use Rattle.message_codec.specs.Short.{one_word_span};
     ghost use Rattle.message_codec.specs.Spans.{kind_place, words_place};
 
     /// The span of the port word of a body that is one word in the short form and nothing else.
-    pub fn lone(disposition: u8) -> Span
-        ensures { result ≡ lone_span disposition }
+    pub fn of_one_word(disposition: u8) -> Span
+        ensures { result ≡ one_word_span disposition }
     {
         Span {
             at: HEADER_BYTES as u32,

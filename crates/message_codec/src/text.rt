@@ -1,15 +1,16 @@
 //! Reading a message's text.
-ghost use Rattle.std.specs.Prelude.{◌≡◌, ◌≢◌, ℕ, ◌+◌, ◌*◌, ◌^◌, ◌⊎◌, [], ◌∷◌, IfOk, IfErr, OnOk, IfSome, IfNone};
+ghost use Rattle.std.specs.Prelude.{◌≡◌, ◌≢◌, ℕ, ◌+◌, ◌*◌, ◌%◌, ◌^◌, ◌≤◌, ◌⊎◌, [], IfOk, IfErr, OnOk, IfSome, IfNone, length};
 ghost use Rattle.mach_types.specs.declared.codes.MsgReturn.TheVariants.{SendNoBuffer};
 ghost use Rattle.mach_types.specs.Codes.{msg_number};
 ghost use Rattle.mach_types.specs.Grammar.{Header as AnyHeader, WireBody, Spells, NamesPorts};
 ghost use Rattle.mach_types.specs.Guards.{NoneHolds};
-ghost use Rattle.mach_types.specs.TextGuards.{TextRefuses, header_guards};
+ghost use Rattle.mach_types.specs.TextGuards.{TextRefuses, header_guards, word_at};
 ghost use Rattle.message_codec.specs.Parses.{Parses, ReadsBody, IsCrowded};
-ghost use Rattle.message_codec.specs.Plain.{IsPlain, IsRequest, IsLone, parsed_plain, parsed_request, parsed_lone};
+ghost use Rattle.message_codec.specs.Short.{IsOfKind, ReadsShort};
+ghost use Rattle.message_codec.specs.declared.text.ShortKind.TheVariants as kind_of;
+ghost use Rattle.message_codec.specs.declared.text.ShortKind.{ShortKind as AnyKind};
 ghost use Rattle.message_codec.specs.declared.text.Parsed.{Parsed as AnyParsed};
 ghost use Rattle.message_codec.specs.Spans.{inline_spans};
-ghost use Rattle.message_codec.specs.Words.{body_words};
 
 use crate::header::{HEADER_BYTES, check_header, is_complex, local_kind, remote_kind};
 use crate::items::read_spans;
@@ -40,53 +41,44 @@ pub struct Parsed {
     pub spans: Spans,
 }
 
-/// What the kernel needs of a message that carries the right of its destination alone: it has no reply right,
-/// and its body is raw bytes.
+/// The right that a short message carries beside that of its destination.
 #[derive(Clone, Copy, Debug, PartialEq, Eq)]
-pub struct Plain {
-    /// The disposition of the destination, 17 to 21.
-    pub remote_kind: u8,
-    /// The sender's name of the destination.
-    pub remote: Name,
-    /// The id.
-    pub id: u32,
+pub enum ShortRight {
+    /// Its reply right, whose disposition is 17 to 21.
+    Reply(PortWord),
+    /// The only right of its body, whose disposition is 16 to 21.
+    Body(PortWord),
 }
 
-/// What the kernel needs of a message that carries a reply right beside that of its destination, and no
-/// others: its body is raw bytes.
+/// What the kernel needs of a short message. It carries one right at most beside that of its destination: a
+/// reply right, or the only right of its body. That body is one item of one port word, whose descriptor is in
+/// the short form. Any other body is raw bytes.
 #[derive(Clone, Copy, Debug, PartialEq, Eq)]
-pub struct Request {
-    /// The disposition of the destination, 17 to 21.
-    pub remote_kind: u8,
-    /// The disposition of the reply right, 17 to 21.
-    pub local_kind: u8,
-    /// The sender's name of the destination.
-    pub remote: Name,
-    /// The sender's name of the reply right.
-    pub local: Name,
+pub struct Short {
+    /// The word of the destination, whose disposition is 17 to 21.
+    pub destination: PortWord,
     /// The id.
     pub id: u32,
+    /// The right that it carries beside that of its destination, if it carries one.
+    pub right: Option<ShortRight>,
 }
 
-/// What the kernel needs of a message whose body is one right and nothing else: one item of one port word,
-/// whose descriptor is in the short form. It has no reply right.
+/// What a short message carries beside the right of its destination.
 #[derive(Clone, Copy, Debug, PartialEq, Eq)]
-pub struct Lone {
-    /// The disposition of the destination, 17 to 21.
-    pub remote_kind: u8,
-    /// The sender's name of the destination.
-    pub remote: Name,
-    /// The id.
-    pub id: u32,
-    /// The word of the right: its disposition, 16 to 21, and the sender's name of it.
-    pub word: PortWord,
+pub enum ShortKind {
+    /// Nothing.
+    Alone,
+    /// Its reply right.
+    Reply,
+    /// The only right of its body.
+    Body,
 }
 
-/// How many bytes such a message has: the header, a descriptor and a port word.
-const LONE_BYTES: usize = HEADER_BYTES + 8;
+/// How many bytes a body of one right has with its header: a descriptor and a port word.
+const ONE_RIGHT_BYTES: usize = HEADER_BYTES + 8;
 
 /// The upper 24 bits of its descriptor: one datum of 32 bits, in the message itself.
-const LONE_DESCRIPTOR: u32 = 0x10_0120;
+const ONE_RIGHT_DESCRIPTOR: u32 = 0x10_0120;
 
 /// Puts the spans of a body whose header is judged already into a list that has none.
 fn read_body(spans: &mut SmallVec<Span, 8>, bytes: &[u8]) -> Result<(), MsgReturn>
@@ -145,12 +137,47 @@ pub fn parse(alloc: Global, bytes: &[u8]) -> Result<Parsed, MsgReturn>
     })
 }
 
-/// What these bytes say, if they are such a message, as most are: just what [`parse`] gives of them, read
-/// without a list of spans. `None` for every other text, and for bytes that are none. Takes no memory.
-/// Constant time.
-pub fn parse_plain(bytes: &[u8]) -> Option<Plain>
-    ensures some { IfSome result (λ plain. Parses bytes.now (parsed_plain plain)) }
-    ensures none { IfNone result ((parsed : AnyParsed) → Parses bytes.now parsed → ¬ (IsPlain parsed)) }
+impl ShortKind {
+    ghost use Rattle.message_codec.specs.declared.text.Parsed.{Parsed as AnyParsed};
+    ghost use Rattle.message_codec.specs.Parses.{Parses};
+    ghost use Rattle.message_codec.specs.Short.{IsOfKind};
+
+    /// The kind that these bytes are of, if they are a short message. Looks at the first word alone.
+    #[inline(always)]
+    pub fn of(bytes: &[u8]) -> ShortKind
+        ensures { (parsed : AnyParsed) (kind : AnyKind) → Parses bytes.now parsed → IsOfKind kind bytes.now parsed → result ≡ kind }
+    {
+        if bytes.len() < HEADER_BYTES {
+            return ShortKind::Alone;
+        }
+        let bits = read_word(bytes, 0);
+        if is_complex(bits) {
+            ShortKind::Body
+        } else if local_kind(bits) == 0 {
+            ShortKind::Alone
+        } else {
+            ShortKind::Reply
+        }
+    }
+}
+
+/// The word of the destination.
+#[inline(always)]
+fn destination_word(bytes: &[u8], bits: u32) -> PortWord
+    requires { 8 + 4 ≤ length bytes.now }
+    ensures { result ≡ record { disposition = bits % 2 ^ 8; name = word_at bytes.now 8 } }
+{
+    PortWord {
+        disposition: remote_kind(bits),
+        name: Name::new(read_word(bytes, 8)),
+    }
+}
+
+/// What the bytes say, if they are a text without a reply right whose body is raw bytes.
+#[inline(always)]
+fn parse_alone(bytes: &[u8]) -> Option<Short>
+    ensures some { IfSome result (λ short. ReadsShort bytes.now short) }
+    ensures none { IfNone result ((parsed : AnyParsed) → Parses bytes.now parsed → ¬ (IsOfKind kind_of.Alone bytes.now parsed)) }
 {
     if bytes.len() < HEADER_BYTES {
         return None;
@@ -162,20 +189,18 @@ pub fn parse_plain(bytes: &[u8]) -> Option<Plain>
     let Ok(()) = check_header(bytes) else {
         return None;
     };
-    Some(Plain {
-        remote_kind: remote_kind(bits),
-        remote: Name::new(read_word(bytes, 8)),
+    Some(Short {
+        destination: destination_word(bytes, bits),
         id: read_word(bytes, 20),
+        right: None,
     })
 }
 
-/// Fast path of [`parse`] for a message with a reply right and a body of raw bytes: returns what `parse`
-/// does, without a list of spans. `None` for every other text, and for bytes that are no text. Takes no
-/// memory. Constant time.
-pub fn parse_request(bytes: &[u8]) -> Option<Request>
-    ensures some { IfSome result (λ request. Parses bytes.now (parsed_request request)) }
-    ensures answered { IfSome result (λ request. request.local_kind ≢ 0) }
-    ensures none { IfNone result ((parsed : AnyParsed) → Parses bytes.now parsed → ¬ (IsRequest parsed)) }
+/// What the bytes say, if they are a text with a reply right whose body is raw bytes.
+#[inline(always)]
+fn parse_with_reply(bytes: &[u8]) -> Option<Short>
+    ensures some { IfSome result (λ short. ReadsShort bytes.now short) }
+    ensures none { IfNone result ((parsed : AnyParsed) → Parses bytes.now parsed → ¬ (IsOfKind kind_of.Reply bytes.now parsed)) }
 {
     if bytes.len() < HEADER_BYTES {
         return None;
@@ -187,39 +212,36 @@ pub fn parse_request(bytes: &[u8]) -> Option<Request>
     let Ok(()) = check_header(bytes) else {
         return None;
     };
-    Some(Request {
-        remote_kind: remote_kind(bits),
-        local_kind: local_kind(bits),
-        remote: Name::new(read_word(bytes, 8)),
-        local: Name::new(read_word(bytes, 12)),
+    let reply = PortWord {
+        disposition: local_kind(bits),
+        name: Name::new(read_word(bytes, 12)),
+    };
+    Some(Short {
+        destination: destination_word(bytes, bits),
         id: read_word(bytes, 20),
+        right: Some(ShortRight::Reply(reply)),
     })
 }
 
 /// The disposition that the descriptor of one port word in the short form says, if its word is one.
-fn lone_disposition(first: u32) -> Option<u8>
+fn one_disposition(first: u32) -> Option<u8>
     ensures some { IfSome result (λ d. NamesPorts d × (first ≡ d + 32 * 2 ^ 8 + 1 * 2 ^ 16 + 2 ^ 28)) }
     ensures none { IfNone result ((d : ℕ) → NamesPorts d → first ≢ d + 32 * 2 ^ 8 + 1 * 2 ^ 16 + 2 ^ 28) }
 {
     let disposition = (first % 0x100) as u8;
-    if first / 0x100 != LONE_DESCRIPTOR || !(16..=21).contains(&disposition) {
+    if first / 0x100 != ONE_RIGHT_DESCRIPTOR || !(16..=21).contains(&disposition) {
         return None;
     }
     Some(disposition)
 }
 
-/// Fast path of [`parse`] for a message whose body is one port word in the short form, and that has no reply
-/// right. Returns what `parse` does, and the word, without a list of spans. `None` for every other text, and
-/// for bytes that are no text. Takes no memory. Constant time.
+/// What the bytes say, if they are a text without a reply right whose body is one port word in the short form.
 #[inline(always)]
-pub fn parse_lone(bytes: &[u8]) -> Option<Lone>
-    ensures some { IfSome result (λ lone. Parses bytes.now (parsed_lone lone)) }
-
-    // The one port word of the body is this one.
-    ensures word { IfSome result (λ lone. (p : Parses bytes.now (parsed_lone lone)) → body_words p.written ≡ lone.word ∷ []) }
-    ensures none { IfNone result ((parsed : AnyParsed) → Parses bytes.now parsed → ¬ (IsLone bytes.now parsed)) }
+fn parse_with_right(bytes: &[u8]) -> Option<Short>
+    ensures some { IfSome result (λ short. ReadsShort bytes.now short) }
+    ensures none { IfNone result ((parsed : AnyParsed) → Parses bytes.now parsed → ¬ (IsOfKind kind_of.Body bytes.now parsed)) }
 {
-    if bytes.len() != LONE_BYTES {
+    if bytes.len() != ONE_RIGHT_BYTES {
         return None;
     }
     let bits = read_word(bytes, 0);
@@ -229,14 +251,28 @@ pub fn parse_lone(bytes: &[u8]) -> Option<Lone>
     let Ok(()) = check_header(bytes) else {
         return None;
     };
-    let Some(disposition) = lone_disposition(read_word(bytes, HEADER_BYTES)) else {
+    let Some(disposition) = one_disposition(read_word(bytes, HEADER_BYTES)) else {
         return None;
     };
     let name = Name::new(read_word(bytes, HEADER_BYTES + 4));
-    Some(Lone {
-        remote_kind: remote_kind(bits),
-        remote: Name::new(read_word(bytes, 8)),
+    Some(Short {
+        destination: destination_word(bytes, bits),
         id: read_word(bytes, 20),
-        word: PortWord { disposition, name },
+        right: Some(ShortRight::Body(PortWord { disposition, name })),
     })
+}
+
+/// Fast path of [`parse`] for a short message: returns what `parse` reads of it, without a list of spans.
+/// `None` for a text that isn't short, or of another kind, and for bytes that are no text. Takes no memory.
+/// Constant time, and in fewer steps where the kind is a constant.
+#[inline(always)]
+pub fn parse_short(bytes: &[u8], kind: ShortKind) -> Option<Short>
+    ensures some { IfSome result (λ short. ReadsShort bytes.now short) }
+    ensures none { IfNone result ((parsed : AnyParsed) → Parses bytes.now parsed → ¬ (IsOfKind kind bytes.now parsed)) }
+{
+    match kind {
+        ShortKind::Alone => parse_alone(bytes),
+        ShortKind::Reply => parse_with_reply(bytes),
+        ShortKind::Body => parse_with_right(bytes),
+    }
 }

@@ -21,8 +21,9 @@ use Rattle.copyin_base.specs.Worlds.{WorldView, HasTask, NoneLost}
 use Rattle.copyin_base.proofs.Acting.{refused, refused_later, done}
 use Rattle.copyin_base.proofs.Roomier.{slots_show}
 use Rattle.copyin_base.proofs.Tied.{stands_tied, stands_is_tied}
-use Rattle.copyin.specs.declared.judge.Plan.{Plan}
-use Rattle.copyin.specs.Planned.{IsPlan}
+use Rattle.copyin.specs.Planned.{IsPlan, PlanView}
+use Rattle.copyin.specs.Short.{IsShortPlan, body_right, reply_right, short_view}
+use Rattle.copyin.specs.declared.short.ShortPlan.{ShortPlan}
 use Rattle.copyin.specs.Plans.{Judged, CannotPlan, Commits}
 use Rattle.copyin.proofs.Planning.{good_header, none_first}
 use Rattle.copyin.proofs.Refused.{cannot}
@@ -57,7 +58,7 @@ module _ (w : WorldView) (n : ℕ) (task : ℕ) (parsed : Parsed) (written : Wir
     copies_body = j.copies_body;
   }
 
-  abbrev plan_at : (bytes : List ℕ) (plan : Plan) → IsPlan w task parsed written bytes plan → IsPlan (with_slots w n) task parsed written bytes plan
+  abbrev plan_at : (bytes : List ℕ) (plan : PlanView) → IsPlan w task parsed written bytes plan → IsPlan (with_slots w n) task parsed written bytes plan
   plan_at bytes plan p = record {
     plans = record {
       judged = judged_at p.plans.judged;
@@ -72,9 +73,13 @@ module _ (w : WorldView) (n : ℕ) (task : ℕ) (parsed : Parsed) (written : Wir
     message = p.message;
   }
 
-pub still_plan : (w w2 : WorldView) (n task : ℕ) (parsed : Parsed) (written : WireBody) (bytes : List ℕ) (plan : Plan) → w2 ≡ with_slots w n → IsPlan w task parsed written bytes plan →
+pub still_plan : (w w2 : WorldView) (n task : ℕ) (parsed : Parsed) (written : WireBody) (bytes : List ℕ) (plan : PlanView) → w2 ≡ with_slots w n → IsPlan w task parsed written bytes plan →
     IsPlan w2 task parsed written bytes plan
 still_plan w w2 n task parsed written bytes plan e p = subst (λ (x : WorldView). IsPlan x task parsed written bytes plan) (sym e) (plan_at w n task parsed written bytes plan p)
+
+pub still_short : (w w2 : WorldView) (n task : ℕ) (parsed : Parsed) (written : WireBody) (bytes : List ℕ) (plan : ShortPlan) → w2 ≡ with_slots w n → IsShortPlan w task parsed written bytes plan →
+    IsShortPlan w2 task parsed written bytes plan
+still_short w w2 n task parsed written bytes plan e p = record { is_plan = still_plan w w2 n task parsed written bytes (short_view plan) e p.is_plan; reply = p.reply; rights = p.rights }
 
 pub still_tied : (w w2 : WorldView) (n task : ℕ) → w2 ≡ with_slots w n → IsTied w task → IsTied w2 task
 still_tied w w2 n task e t = subst (λ (x : WorldView). IsTied x task) (sym e) record {
@@ -86,11 +91,15 @@ pub still_none_lost : (w w2 : WorldView) (n : ℕ) → w2 ≡ with_slots w n →
 still_none_lost w w2 n e none = subst NoneLost (sym e) record { lost = none.lost; doomed = none.doomed; destroyed = none.destroyed }
 
 -- what the plan wants
-wants_slots : (w : WorldView) (task : ℕ) (parsed : Parsed) (written : WireBody) (bytes : List ℕ) (plan : Plan) (p : IsPlan w task parsed written bytes plan) →
+wants_slots : (w : WorldView) (task : ℕ) (parsed : Parsed) (written : WireBody) (bytes : List ℕ) (plan : PlanView) (p : IsPlan w task parsed written bytes plan) →
     slots_for plan.destination plan.message.reply plan.message.rights ≡ slots_for p.plans.judged.destination p.plans.judged.reply p.plans.judged.rights
 wants_slots w task parsed written bytes plan p = λ i. slots_for (p.destination i) (p.message i).reply (p.message i).rights
 
-pub sends_text : (w w2 new : WorldView) (task : ℕ) (bytes : List ℕ) (parsed : Parsed) (text : Parses bytes parsed) (plan : Plan) (more : ℕ) → w2 ≡ slotted w more →
+pub short_slots : (w : WorldView) (task : ℕ) (parsed : Parsed) (written : WireBody) (bytes : List ℕ) (plan : ShortPlan) → IsShortPlan w task parsed written bytes plan → (more : ℕ)
+    → more ≡ slots_for plan.destination.carried (reply_right plan.beside) (body_right plan.beside) → more ≡ slots_for plan.destination.carried plan.message.reply plan.message.rights
+short_slots w task parsed written bytes plan p more many = many ∙ (λ i. slots_for plan.destination.carried (sym p.reply i) (sym p.rights i))
+
+pub sends_text : (w w2 new : WorldView) (task : ℕ) (bytes : List ℕ) (parsed : Parsed) (text : Parses bytes parsed) (plan : PlanView) (more : ℕ) → w2 ≡ slotted w more →
     more ≡ slots_for plan.destination plan.message.reply plan.message.rights → IsPlan w task parsed text.written bytes plan →
     ((p : IsPlan w2 task parsed text.written bytes plan) → Commits w2 task parsed text.written p.plans.judged bytes new) → SendsText w task bytes new
 sends_text w w2 new task bytes parsed text plan more e many p =
@@ -100,7 +109,7 @@ sends_text w w2 new task bytes parsed text plan more e many p =
     record { parsed = parsed; text = text; more = more; plans = q.plans; wants = many ∙ wants_slots w task parsed text.written bytes plan p; commits = commits q })
 
 -- The message has a slot: one that was made, or that of the send-once right that it goes by.
-pub has_slot : (w w2 : WorldView) (task : ℕ) (parsed : Parsed) (written : WireBody) (bytes : List ℕ) (plan : Plan) (more : ℕ) → w2 ≡ slotted w more →
+pub has_slot : (w w2 : WorldView) (task : ℕ) (parsed : Parsed) (written : WireBody) (bytes : List ℕ) (plan : PlanView) (more : ℕ) → w2 ≡ slotted w more →
     more ≡ slots_for plan.destination plan.message.reply plan.message.rights → IsUnusedOfAll w.ledger → Stands w → IsPlan w task parsed written bytes plan → 0 < w2.ports.spare
 has_slot w w2 task parsed written bytes plan more e many all stands p =
     let some = slot_there w all stands.shown.slots task parsed written p.plans.judged (stands_is_tied w task stands) in

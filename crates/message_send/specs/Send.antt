@@ -5,17 +5,24 @@ use Rattle.message_codec.specs.declared.words.PortWord.{PortWord}
 use Rattle.message_codec.specs.Parses.{Parses}
 use Rattle.copyin_base.specs.Wanted.{room_of}
 use Rattle.copyin_base.specs.Worlds.{WorldView}
-use Rattle.copyin.specs.declared.judge.Plan.{Plan}
-use Rattle.copyin.specs.Planned.{IsPlan}
+use Rattle.copyin.specs.declared.short.ShortPlan.{ShortPlan}
+use Rattle.copyin.specs.Planned.{IsPlan, PlanView}
+use Rattle.copyin.specs.Short.{IsShortPlan}
 use Rattle.copyin.specs.Plans.{Plans, Commits}
 use Rattle.copyin.specs.Slots.{slots_for}
 use Rattle.transfer.specs.Room.{slotted}
 
 -- The plan sends these bytes, as the tables allow.
-pub record PlansText (w : WorldView) (task : ℕ) (bytes : List ℕ) (plan : Plan) : Type 0 where
+pub record PlansText (w : WorldView) (task : ℕ) (bytes : List ℕ) (plan : PlanView) : Type 0 where
   pub parsed : Parsed
   pub text : Parses bytes parsed
   pub is_plan : IsPlan w task parsed text.written bytes plan
+
+-- So does the plan of a short message.
+pub record PlansShort (w : WorldView) (task : ℕ) (bytes : List ℕ) (plan : ShortPlan) : Type 0 where
+  pub parsed : Parsed
+  pub text : Parses bytes parsed
+  pub is_plan : IsShortPlan w task parsed text.written bytes plan
 
 -- The bytes are a message that may be sent, and it is, once the slots were made that it wants.
 pub record SendsText (old : WorldView) (task : ℕ) (bytes : List ℕ) (new : WorldView) : Type 0 where

@@ -11,20 +11,18 @@ ghost use Rattle.mach_types.specs.Codes.{msg_number, code_number};
 ghost use Rattle.copyin_base.specs.Serving.{Declines, Serves};
 ghost use Rattle.copyin_base.specs.Stands.{Stands};
 ghost use Rattle.copyin.specs.Wanted.{WantsToSend};
-ghost use Rattle.message_codec.specs.Parses.{Parses};
-ghost use Rattle.message_codec.specs.Plain.{parsed_lone, parsed_plain, parsed_request};
-ghost use Rattle.message_codec.specs.Words.{body_words};
-ghost use Rattle.message_send.specs.Send.{MovesNoReceive, PlansText, SendsText, UsesSlot};
+ghost use Rattle.copyin.specs.Planned.{plan_view};
+ghost use Rattle.copyin.specs.Short.{body_word, short_view};
+ghost use Rattle.message_send.specs.Send.{MovesNoReceive, PlansShort, PlansText, SendsText, UsesSlot};
+ghost use Rattle.message_send.specs.Sends.{Sends};
 ghost use Rattle.message_send.specs.Telling.{TellsPlan, TellsSend};
 ghost use Rattle.copyin_base.specs.Worlds.{HasTask};
 
-use copyin::{Plan, check, check_lone, check_plain, check_request, commit};
+use copyin::{Beside, Plan, ShortPlan, check, check_short, commit, commit_short};
 use copyin_base::World;
 use kernel_change::Change;
 use mach_types::{Bytes, Code, MsgReturn, Reply, TaskId};
-use message_codec::{
-    Lone, Plain, PortWord, Request, parse, parse_lone, parse_plain, parse_request,
-};
+use message_codec::{PortWord, ShortKind, parse, parse_short};
 use std::alloc::Global;
 
 /// `Send` (IPC Interface, `mach_msg` with `MACH_SEND_MSG`). The task lives. A refusal leaves all as it was.
@@ -52,14 +50,16 @@ pub fn send(
     ensures refused { OnErr result (world.new ≡ world.old) }
     ensures tells { OnOk result (TellsSend world.old task bytes.now told.new) }
 
-    // Memory is wanted only where the message could be sent, or isn't short.
+    // Memory is wanted only where the message could be sent, or has many words or items.
     ensures wanted { IfErr result (λ code. code_number code ≡ msg_number SendNoBuffer → WantsToSend world.old task bytes.now) }
 {
     send_text(world, alloc, task, bytes.as_slice(), told)?;
     Ok(Reply::Code(MsgReturn::Success.number()))
 }
 
-/// Reads the text, judges its rights, and only then changes the tables.
+/// Reads the text, judges its rights, and only then changes the tables. A short message goes by its kind. For each
+/// kind the short way is compiled anew: one function for all, inlined three times, is too large for the kit, which
+/// drops the hint.
 fn send_text(
     world: &mut World,
     alloc: Global,
@@ -69,44 +69,40 @@ fn send_text(
 ) -> Result<(), MsgReturn>
     requires there { HasTask world.old task }
     requires stands { Stands world.old }
-    ensures ok { IfOk result (λ _. SendsText world.old task bytes.now world.new) }
-    ensures tells { OnOk result (TellsSend world.old task bytes.now told.new) }
-    ensures err { IfErr result (λ code. Declines world.old (AnyEvent.Send task bytes.now) (msg_number code) world.old) }
-    ensures refused { OnErr result (world.new ≡ world.old) }
-    ensures wanted { IfErr result (λ code. msg_number code ≡ msg_number SendNoBuffer → WantsToSend world.old task bytes.now) }
+    ensures { Sends world.old task bytes.now result world.new told.new }
 {
-    match parse_plain(bytes) {
-        Some(plain) => send_plain(world, alloc, task, &plain, bytes, told),
-        None => send_carrying(world, alloc, task, bytes, told),
+    match ShortKind::of(bytes) {
+        ShortKind::Alone => send_alone(world, alloc, task, bytes, told),
+        ShortKind::Reply => send_with_reply(world, alloc, task, bytes, told),
+        ShortKind::Body => send_with_right(world, alloc, task, bytes, told),
     }
 }
 
-/// Sends a message that has no reply right, and a body of raw bytes.
-fn send_plain(
+/// Sends what is a message of raw bytes without a reply right, if it is short.
+#[inline(never)]
+fn send_alone(
     world: &mut World,
     alloc: Global,
     task: TaskId,
-    plain: &Plain,
     bytes: &[u8],
     told: &mut Change,
 ) -> Result<(), MsgReturn>
     requires there { HasTask world.old task }
     requires stands { Stands world.old }
-    requires parses { Parses bytes.now (parsed_plain plain.now) }
-    ensures ok { IfOk result (λ _. SendsText world.old task bytes.now world.new) }
-    ensures tells { OnOk result (TellsSend world.old task bytes.now told.new) }
-    ensures err { IfErr result (λ code. Declines world.old (AnyEvent.Send task bytes.now) (msg_number code) world.old) }
-    ensures refused { OnErr result (world.new ≡ world.old) }
-    ensures wanted { IfErr result (λ code. msg_number code ≡ msg_number SendNoBuffer → WantsToSend world.old task bytes.now) }
+    ensures { Sends world.old task bytes.now result world.new told.new }
 {
-    match check_plain(world, alloc, task, plain, bytes) {
-        Ok(plan) => carry_out(world, plan, false, told),
+    let Some(short) = parse_short(bytes, ShortKind::Alone) else {
+        return send_any(world, alloc, task, bytes, told);
+    };
+    match check_short(world, alloc, task, &short, bytes) {
+        Ok(plan) => carry_out_short(world, plan, told),
         Err(code) => Err(code),
     }
 }
 
-/// Sends what isn't such a message: most others carry a reply right, and no rights of a body.
-fn send_carrying(
+/// Sends what is a message of raw bytes with a reply right, if it is short.
+#[inline(never)]
+fn send_with_reply(
     world: &mut World,
     alloc: Global,
     task: TaskId,
@@ -115,46 +111,20 @@ fn send_carrying(
 ) -> Result<(), MsgReturn>
     requires there { HasTask world.old task }
     requires stands { Stands world.old }
-    ensures ok { IfOk result (λ _. SendsText world.old task bytes.now world.new) }
-    ensures tells { OnOk result (TellsSend world.old task bytes.now told.new) }
-    ensures err { IfErr result (λ code. Declines world.old (AnyEvent.Send task bytes.now) (msg_number code) world.old) }
-    ensures refused { OnErr result (world.new ≡ world.old) }
-    ensures wanted { IfErr result (λ code. msg_number code ≡ msg_number SendNoBuffer → WantsToSend world.old task bytes.now) }
+    ensures { Sends world.old task bytes.now result world.new told.new }
 {
-    match parse_request(bytes) {
-        Some(request) => send_request(world, alloc, task, &request, bytes, told),
-        None => send_items(world, alloc, task, bytes, told),
-    }
-}
-
-/// Sends a message that has a reply right, and a body of raw bytes.
-fn send_request(
-    world: &mut World,
-    alloc: Global,
-    task: TaskId,
-    request: &Request,
-    bytes: &[u8],
-    told: &mut Change,
-) -> Result<(), MsgReturn>
-    requires there { HasTask world.old task }
-    requires stands { Stands world.old }
-    requires parses { Parses bytes.now (parsed_request request.now) }
-    requires answered { request.now.local_kind ≢ 0 }
-    ensures ok { IfOk result (λ _. SendsText world.old task bytes.now world.new) }
-    ensures tells { OnOk result (TellsSend world.old task bytes.now told.new) }
-    ensures err { IfErr result (λ code. Declines world.old (AnyEvent.Send task bytes.now) (msg_number code) world.old) }
-    ensures refused { OnErr result (world.new ≡ world.old) }
-    ensures wanted { IfErr result (λ code. msg_number code ≡ msg_number SendNoBuffer → WantsToSend world.old task bytes.now) }
-{
-    match check_request(world, alloc, task, request, bytes) {
-        Ok(plan) => carry_out(world, plan, false, told),
+    let Some(short) = parse_short(bytes, ShortKind::Reply) else {
+        return send_any(world, alloc, task, bytes, told);
+    };
+    match check_short(world, alloc, task, &short, bytes) {
+        Ok(plan) => carry_out_short(world, plan, told),
         Err(code) => Err(code),
     }
 }
 
-/// Sends what is neither of these: a message whose body is a list of items, of which many have one right and
-/// nothing else.
-fn send_items(
+/// Sends what is a message whose body is one right, if it is short.
+#[inline(never)]
+fn send_with_right(
     world: &mut World,
     alloc: Global,
     task: TaskId,
@@ -163,44 +133,19 @@ fn send_items(
 ) -> Result<(), MsgReturn>
     requires there { HasTask world.old task }
     requires stands { Stands world.old }
-    ensures ok { IfOk result (λ _. SendsText world.old task bytes.now world.new) }
-    ensures tells { OnOk result (TellsSend world.old task bytes.now told.new) }
-    ensures err { IfErr result (λ code. Declines world.old (AnyEvent.Send task bytes.now) (msg_number code) world.old) }
-    ensures refused { OnErr result (world.new ≡ world.old) }
-    ensures wanted { IfErr result (λ code. msg_number code ≡ msg_number SendNoBuffer → WantsToSend world.old task bytes.now) }
+    ensures { Sends world.old task bytes.now result world.new told.new }
 {
-    match parse_lone(bytes) {
-        Some(lone) => send_lone(world, alloc, task, &lone, bytes, told),
-        None => send_any(world, alloc, task, bytes, told),
-    }
-}
-
-/// Sends a message whose body is one right and nothing else.
-fn send_lone(
-    world: &mut World,
-    alloc: Global,
-    task: TaskId,
-    lone: &Lone,
-    bytes: &[u8],
-    told: &mut Change,
-) -> Result<(), MsgReturn>
-    requires there { HasTask world.old task }
-    requires stands { Stands world.old }
-    requires parses { Parses bytes.now (parsed_lone lone.now) }
-    requires word { (p : Parses bytes.now (parsed_lone lone.now)) → body_words p.written ≡ lone.now.word ∷ [] }
-    ensures ok { IfOk result (λ _. SendsText world.old task bytes.now world.new) }
-    ensures tells { OnOk result (TellsSend world.old task bytes.now told.new) }
-    ensures err { IfErr result (λ code. Declines world.old (AnyEvent.Send task bytes.now) (msg_number code) world.old) }
-    ensures refused { OnErr result (world.new ≡ world.old) }
-    ensures wanted { IfErr result (λ code. msg_number code ≡ msg_number SendNoBuffer → WantsToSend world.old task bytes.now) }
-{
-    match check_lone(world, alloc, task, lone, bytes) {
-        Ok(plan) => carry_out(world, plan, moves_receive(&lone.word), told),
+    let Some(short) = parse_short(bytes, ShortKind::Body) else {
+        return send_any(world, alloc, task, bytes, told);
+    };
+    match check_short(world, alloc, task, &short, bytes) {
+        Ok(plan) => carry_out_short(world, plan, told),
         Err(code) => Err(code),
     }
 }
 
 /// Sends a message, whatever it carries.
+#[inline(never)]
 fn send_any(
     world: &mut World,
     alloc: Global,
@@ -210,11 +155,7 @@ fn send_any(
 ) -> Result<(), MsgReturn>
     requires there { HasTask world.old task }
     requires stands { Stands world.old }
-    ensures ok { IfOk result (λ _. SendsText world.old task bytes.now world.new) }
-    ensures tells { OnOk result (TellsSend world.old task bytes.now told.new) }
-    ensures err { IfErr result (λ code. Declines world.old (AnyEvent.Send task bytes.now) (msg_number code) world.old) }
-    ensures refused { OnErr result (world.new ≡ world.old) }
-    ensures wanted { IfErr result (λ code. msg_number code ≡ msg_number SendNoBuffer → WantsToSend world.old task bytes.now) }
+    ensures { Sends world.old task bytes.now result world.new told.new }
 {
     // Not by `?`, which would move what was read, and the plan, once more.
     let parsed = match parse(alloc, bytes) {
@@ -222,42 +163,79 @@ fn send_any(
         Err(code) => return Err(code),
     };
     match check(world, alloc, task, &parsed, bytes) {
-        Ok(plan) => {
-            let moves = any_moves_receive(plan.words.body.as_slice());
-            carry_out(world, plan, moves, told)
-        }
+        Ok(plan) => carry_out(world, plan, told),
         Err(code) => Err(code),
     }
 }
 
-/// Makes the slots that the plan wants, and sends its message, whose body may move receive rights. In `told` it leaves
-/// the port that it goes to, and the ports whose receive rights go along. `MACH_SEND_NO_BUFFER` where memory was refused
-/// for the slots; the tables are then as before.
+/// Makes the slots that the plan wants, and sends its message. In `told` it leaves the port that it goes to, and the
+/// ports whose receive rights go along. `MACH_SEND_NO_BUFFER` where memory was refused for the slots; the tables are
+/// then as before.
 #[inline(always)]
-fn carry_out(world: &mut World, plan: Plan, moves: bool, told: &mut Change) -> Result<(), MsgReturn>
+fn carry_out_short(world: &mut World, plan: ShortPlan, told: &mut Change) -> Result<(), MsgReturn>
     requires stands { Stands world.old }
-    requires planned { (task : ℕ) × (bytes : List ℕ) × PlansText world.old task bytes plan }
-    requires moves { moves ≡ false → MovesNoReceive plan.words.body.items }
-    ensures ok { IfOk result (λ _. (task : ℕ) (bytes : List ℕ) → PlansText world.old task bytes plan → SendsText world.old task bytes world.new) }
-    ensures tells { OnOk result (TellsPlan world.old plan told.new) }
+    requires planned { (task : ℕ) × (bytes : List ℕ) × PlansShort world.old task bytes plan }
+    ensures ok { IfOk result (λ _. (task : ℕ) (bytes : List ℕ) → PlansShort world.old task bytes plan → SendsText world.old task bytes world.new) }
+    ensures tells { OnOk result (TellsPlan world.old (short_view plan) told.new) }
     ensures err { IfErr result (λ code. code ≡ SendNoBuffer) }
     ensures refused { OnErr result (world.new ≡ world.old) }
 {
     let Ok(()) = world.reserve_slots(plan.count_slots()) else {
         return Err(MsgReturn::SendNoBuffer);
     };
-    tell_sent(world, &plan, moves, told);
+    tell_short(world, &plan, told);
+    commit_short(world, plan);
+    Ok(())
+}
+
+/// Leaves in `told` what the message of the plan changes.
+#[inline(always)]
+fn tell_short(world: &World, plan: &ShortPlan, told: &mut Change)
+    ensures { TellsPlan world.now (short_view plan.now) told.new }
+{
+    if takes_receive(&plan.beside) {
+        let rights = plan.message.rights();
+        *told = Change::by_taking(world, plan.port, rights.as_slice());
+    } else {
+        *told = Change::Queue(plan.port);
+    }
+}
+
+/// Whether a receive right goes beside that of the destination.
+#[inline(always)]
+fn takes_receive(beside: &Beside) -> bool
+    ensures { OnFalse result (MovesNoReceive (body_word beside.now)) }
+{
+    match beside {
+        Beside::Body(going) => moves_receive(&going.word),
+        Beside::Nothing | Beside::Reply(_) => false,
+    }
+}
+
+/// As [`carry_out_short`], of any message.
+#[inline(always)]
+fn carry_out(world: &mut World, plan: Plan, told: &mut Change) -> Result<(), MsgReturn>
+    requires stands { Stands world.old }
+    requires planned { (task : ℕ) × (bytes : List ℕ) × PlansText world.old task bytes (plan_view plan) }
+    ensures ok { IfOk result (λ _. (task : ℕ) (bytes : List ℕ) → PlansText world.old task bytes (plan_view plan) → SendsText world.old task bytes world.new) }
+    ensures tells { OnOk result (TellsPlan world.old (plan_view plan) told.new) }
+    ensures err { IfErr result (λ code. code ≡ SendNoBuffer) }
+    ensures refused { OnErr result (world.new ≡ world.old) }
+{
+    let Ok(()) = world.reserve_slots(plan.count_slots()) else {
+        return Err(MsgReturn::SendNoBuffer);
+    };
+    tell_sent(world, &plan, told);
     commit(world, plan);
     Ok(())
 }
 
-/// Leaves in `told` what the plan's message changes, whose body may move receive rights.
+/// Leaves in `told` what the message of the plan changes.
 #[inline(always)]
-fn tell_sent(world: &World, plan: &Plan, moves: bool, told: &mut Change)
-    requires { moves ≡ false → MovesNoReceive plan.now.words.body.items }
-    ensures { TellsPlan world.now plan.now told.new }
+fn tell_sent(world: &World, plan: &Plan, told: &mut Change)
+    ensures { TellsPlan world.now (plan_view plan.now) told.new }
 {
-    if moves {
+    if any_moves_receive(plan.words.body.as_slice()) {
         let rights = plan.message.rights();
         *told = Change::by_taking(world, plan.port, rights.as_slice());
     } else {

@@ -127,6 +127,7 @@ impl<T: Copy> Pages<T> {
     }
 
     /// The value under the number, if there is one: none under 0, and none above 65,535. Constant time.
+    #[inline(always)]
     pub fn get(&self, number: u32) -> Option<T>
         ensures { result ≡ map.get self.now.values number }
     {

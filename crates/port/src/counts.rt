@@ -26,14 +26,14 @@ impl<M: Message> Ports<M> {
         Some(counts_at(&self.records, key))
     }
 
-    /// Counts new rights for a port. Takes no memory. Constant time.
+    /// Counts new rights for a port. Takes no memory. Constant time: at most one look-up finds the port.
     #[inline(always)]
-    pub fn add_rights(&mut self, port: PortId, kind: RightKind, number: u32)
-        requires there { HasRights self.old port }
-        requires fits { all_of (rights_for self.old port) + number < 2 ^ 32 }
-        ensures { self.new ≡ with_rights self.old port (with_more kind number (rights_for self.old port)) }
+    pub fn add_rights(&mut self, found: Found, kind: RightKind, number: u32)
+        requires there { HasRights self.old found.port }
+        requires fits { all_of (rights_for self.old found.port) + number < 2 ^ 32 }
+        ensures { self.new ≡ with_rights self.old found.port (with_more kind number (rights_for self.old found.port)) }
     {
-        let key = key_at(&self.by_id, port);
+        let key = key_there(&self.records, &self.by_id, found);
         add_at(&mut self.records, key, kind, number);
     }
 

@@ -73,6 +73,7 @@ impl Counts {
     }
 
     /// Counts rights as gone.
+    #[inline(always)]
     pub fn subtract(&mut self, kind: RightKind, number: u32)
         requires { number ≤ number_of kind self.old }
         ensures value { self.new ≡ with_fewer kind number self.old }

@@ -3,9 +3,9 @@ use Rattle.std.specs.Prelude.{Bool, true, false, List, [], ◌∷◌, Option, So
 use Rattle.std.specs.Global.{Box}
 use Rattle.mach_types.specs.Rights.{disposition_number}
 use Rattle.message_codec.specs.declared.spans.Span.{Span}
-use Rattle.message_codec.specs.Plain.{lone_span}
+use Rattle.message_codec.specs.Short.{one_word_span}
 use Rattle.tables_base.specs.declared.message.BodyRights.{BodyRights}
-use Rattle.tables_base.specs.declared.message.BodyRights.TheVariants.{Lone, Listed}
+use Rattle.tables_base.specs.declared.message.BodyRights.TheVariants.{One, Listed}
 use Rattle.tables_base.specs.declared.message.Carried.{Carried}
 use Rattle.tables_base.specs.declared.message.CarriedRights.{CarriedRights}
 
@@ -24,7 +24,7 @@ rights_in (Some carried) = carried.value.rights.items
 -- ---- alone: the word of the right stands behind the header and a descriptor
 
 abbrev pub spans_for : Option Carried → List Span
-spans_for (Some c) = lone_span (disposition_number c.given) ∷ []
+spans_for (Some c) = one_word_span (disposition_number c.given) ∷ []
 spans_for None = []
 
 abbrev pub rights_for : Option Carried → List Carried
@@ -47,5 +47,5 @@ rights_held false right carried = rights_in carried
 
 -- the rights that were given to read
 abbrev pub rights_of : BodyRights → List Carried
-rights_of (Lone one) = one
+rights_of (One one) = one
 rights_of (Listed rights) = rights.now

@@ -66,7 +66,7 @@ fn reply_parts(reply: Option<Carried>) -> (HeldKind, Disposition, PortId)
 
 // How the only right of a body is kept.
 #[inline(always)]
-fn lone_parts(carried: Carried) -> (HeldKind, Disposition, PortId)
+fn body_parts(carried: Carried) -> (HeldKind, Disposition, PortId)
     ensures place { is_in_body result.0 ≡ true }
     ensures right { right_held result.0 result.1 result.2 ≡ Some carried }
 {
@@ -100,10 +100,10 @@ impl Envelope {
     /// the short form. `by_once`: whether it is sent to a send-once right, and not to a send right. Constant
     /// time.
     #[inline(always)]
-    pub fn of_lone(id: u32, by_once: bool, carried: Carried) -> Envelope
+    pub fn with_body_right(id: u32, by_once: bool, carried: Carried) -> Envelope
         ensures { result ≡ record { id = id; is_complex = true; by_once = by_once; in_body = true; right = Some carried } }
     {
-        let (kind, given, port) = lone_parts(carried);
+        let (kind, given, port) = body_parts(carried);
         Envelope {
             id,
             is_complex: true,

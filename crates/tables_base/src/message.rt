@@ -95,7 +95,7 @@ impl CarriedRights {
 #[derive(Clone, Copy)]
 pub enum BodyRights<'a> {
     /// One that lies in its envelope.
-    Lone([Carried; 1]),
+    One([Carried; 1]),
     /// Those of a list, which may have none.
     Listed(&'a [Carried]),
 }
@@ -107,7 +107,7 @@ impl BodyRights<'_> {
         ensures { result.now ≡ rights_of self.now }
     {
         match self {
-            BodyRights::Lone(one) => one,
+            BodyRights::One(one) => one,
             BodyRights::Listed(rights) => rights,
         }
     }
@@ -175,7 +175,7 @@ impl Message {
     {
         if self.envelope.is_in_body() {
             return match self.envelope.right() {
-                Some(carried) => BodyRights::Lone([carried]),
+                Some(carried) => BodyRights::One([carried]),
                 None => BodyRights::Listed(&[]),
             };
         }

@@ -76,7 +76,7 @@ impl Notice {
         ensures { result ≡ record { id = notice_id (notice_of self.now); is_complex = is_carrying (carried_with self.now); by_once = true; in_body = is_carrying (carried_with self.now); right = carried_with self.now } }
     {
         match self.carried() {
-            Some(carried) => Envelope::of_lone(self.id(), true, carried),
+            Some(carried) => Envelope::with_body_right(self.id(), true, carried),
             None => Envelope::new(self.id(), false, true, None),
         }
     }

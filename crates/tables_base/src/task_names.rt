@@ -57,6 +57,7 @@ pub struct Placed {
 }
 
 // What stands under a name that keeps this.
+#[inline(always)]
 fn read(ports: &Ports<Queued>, kept: Entry) -> Placed
     ensures { result.entry ≡ reading (live_in ports.now.bare) kept }
 {

@@ -18,13 +18,13 @@ pub count_copied-requires-clause-room : goal.count_copied-requires-clause-room
 count_copied-requires-clause-room c =
     let can = c.requires in
     let same : c.args.world.now.ledger ≡ c.leave_name-mark.new.world.ledger = sym (ap (λ (w : WorldView). w.ledger) (c.leave_name-mark.ensures.left can).rest) in
-    subst (λ (m : Mark). c.leave_name-mark.new.world.ledger.total + made_by_mark c.args.carried.now.given m ≤ most_rights) (sym c.leave_name-mark.ensures.mark)
-    (subst (λ (l : LedgerView). l.total + made_by_mark c.args.carried.now.given c.args.carried.now.mark ≤ most_rights) same can.few)
+    subst (λ (m : Mark). c.leave_name-mark.new.world.ledger.total + made_by_mark c.args.carried.given m ≤ most_rights) (sym c.leave_name-mark.ensures.mark)
+    (subst (λ (l : LedgerView). l.total + made_by_mark c.args.carried.given c.args.carried.mark ≤ most_rights) same can.few)
 
 pub returns : goal.returns
 returns c =
     let can = c.requires in
-    let carried = c.args.carried.now in
+    let carried = c.args.carried in
     let mid = c.leave_name-mark.new.world in
     let same : c.leave_name-mark.result ≡ can.copied.mark = c.leave_name-mark.ensures.mark ∙ can.mark_is in
     subst (λ (w : WorldView). CopiesRight c.args.world.now c.args.task carried.given c.args.name carried.mark w) (sym c.count_copied.ensures)

@@ -8,34 +8,37 @@ use Rattle.port.proofs.Recounted.{key_of_rights, rights_is, kept-recounted, view
 use Rattle.port.proofs.Sound.{bare_is, opened, record_at}
 use Rattle.port.proofs.Ports.add_rights.Goals as goal
 
-pub key_at-key-requires : goal.key_at-key-requires
-key_at-key-requires g c = ap is_some (key_of_rights c.self.invariant c.self.view_is c.args.port c.requires.there).1
+pub key_there-key-requires-clause-there : goal.key_there-key-requires-clause-there
+key_there-key-requires-clause-there g c = ap is_some (key_of_rights c.self.invariant c.self.view_is c.args.found.port c.requires.there).1
 
 pub add_at-requires-clause-there : goal.add_at-requires-clause-there
 add_at-requires-clause-there g c =
-    let key : map.get c.self.inside.by_id.map c.args.port ≡ Some c.key_at-key.result = c.key_at-key.ensures in
-    let there = record_at (opened c.self.invariant (bare_is c.self.view_is)) c.args.port c.key_at-key.result key in
+    let key : map.get c.self.inside.by_id.map c.args.found.port ≡ Some c.key_there-key.result = c.key_there-key.ensures in
+    let there = record_at (opened c.self.invariant (bare_is c.self.view_is)) c.args.found.port c.key_there-key.result key in
     let r : Record g.row.M.Denot = there.0 in
     ap is_some there.1
 
 pub add_at-requires-clause-fits : goal.add_at-requires-clause-fits
 add_at-requires-clause-fits g c = λ q at.
-    let key : map.get c.self.inside.by_id.map c.args.port ≡ Some c.key_at-key.result = c.key_at-key.ensures in
-    let there = record_at (opened c.self.invariant (bare_is c.self.view_is)) c.args.port c.key_at-key.result key in
+    let key : map.get c.self.inside.by_id.map c.args.found.port ≡ Some c.key_there-key.result = c.key_there-key.ensures in
+    let there = record_at (opened c.self.invariant (bare_is c.self.view_is)) c.args.found.port c.key_there-key.result key in
     let r : Record g.row.M.Denot = there.0 in
     let same : q ≡ r = same_some q r (sym at ∙ there.1) in
-    subst (λ (k : Counts). all_of k + c.args.number < 2 ^ 32) (rights_is c.self.invariant c.self.view_is c.args.port c.key_at-key.result r key there.1 ∙ ap (λ (x : Record g.row.M.Denot). x.counts) (sym same)) c.requires.fits
+    subst (λ (k : Counts). all_of k + c.args.number < 2 ^ 32) (rights_is c.self.invariant c.self.view_is c.args.found.port c.key_there-key.result r key there.1 ∙ ap (λ (x : Record g.row.M.Denot). x.counts) (sym same)) c.requires.fits
 
 pub invariant_of-self : goal.invariant_of-self
 invariant_of-self g c =
-    let key : map.get c.self.inside.by_id.map c.args.port ≡ Some c.key_at-key.result = c.key_at-key.ensures in
-    let there = record_at (opened c.self.invariant (bare_is c.self.view_is)) c.args.port c.key_at-key.result key in
+    let key : map.get c.self.inside.by_id.map c.args.found.port ≡ Some c.key_there-key.result = c.key_there-key.ensures in
+    let there = record_at (opened c.self.invariant (bare_is c.self.view_is)) c.args.found.port c.key_there-key.result key in
     let r : Record g.row.M.Denot = there.0 in
-    kept-recounted c.self.invariant c.self.view_is c.args.port c.key_at-key.result r key there.1 (with_more c.args.kind c.args.number r.counts) (c.add_at.ensures r there.1)
+    kept-recounted c.self.invariant c.self.view_is c.args.found.port c.key_there-key.result r key there.1 (with_more c.args.kind c.args.number r.counts) (c.add_at.ensures r there.1)
 
 pub returns : goal.returns
 returns g c =
-    let key : map.get c.self.inside.by_id.map c.args.port ≡ Some c.key_at-key.result = c.key_at-key.ensures in
-    let there = record_at (opened c.self.invariant (bare_is c.self.view_is)) c.args.port c.key_at-key.result key in
+    let key : map.get c.self.inside.by_id.map c.args.found.port ≡ Some c.key_there-key.result = c.key_there-key.ensures in
+    let there = record_at (opened c.self.invariant (bare_is c.self.view_is)) c.args.found.port c.key_there-key.result key in
     let r : Record g.row.M.Denot = there.0 in
-    view-recounted c.self.invariant c.self.view_is c.args.port c.key_at-key.result r key there.1 (with_more c.args.kind c.args.number r.counts) (c.add_at.ensures r there.1) (with_more c.args.kind c.args.number) refl
+    view-recounted c.self.invariant c.self.view_is c.args.found.port c.key_there-key.result r key there.1 (with_more c.args.kind c.args.number r.counts) (c.add_at.ensures r there.1) (with_more c.args.kind c.args.number) refl
+
+pub key_there-key-requires-clause-indexed : goal.key_there-key-requires-clause-indexed
+key_there-key-requires-clause-indexed g c = c.self.invariant.sound.indexed.held
